@@ -1,0 +1,120 @@
+-- The code's `Gate` and the data `Gate`: a kind with its pins is the gate of its number and pins. Assumes nothing.
+use mathlib.Core.Path.{_≡_, refl, sym, ap, _∙_, subst}
+use mathlib.Core.Bool.{Bool, true, false, cond, false≢true, true≢false}
+use mathlib.Core.List.{List, [], _∷_, map}
+use mathlib.Core.Option.{Option, none, some}
+use Prim.Native.Nat.{ℕ, zero, suc, _+_, _≤_, _<_}
+use native.Mathlib.Omega.{arith}
+use lib.Dec.{eqb}
+use lib.ListN.{length, getD, take, drop, length-map, List·getD-eq-default}
+use borrow.Author.Tests.{eqb-true, eq-eqb}
+use Rattle.lists.proofs.Tests.{by-test}
+use Rattle.gates.proofs.Forms.{binary-count, ternary-count}
+use Rattle.signal.specs.declared.Signal as code
+use Rattle.signal.specs.Signal.{Signal}
+use Rattle.signal.specs.Cell.{sigOf}
+use Rattle.gates.specs.Gate as data-gate
+use Rattle.gates.specs.Gate.{Comb, Dff, Buf, isComb}
+use Rattle.gates.specs.Forms.{canHave, formCell, binaryForm, ternaryForm, naryForm, kindOf, kindNumber, kindTakes, combFrom, flopFrom, gateOfKind, gateFrom}
+use Rattle.gates.specs.Decode.{runOf, gateIn, decodedIn, kindOfGate, kindComb, cellSignal, kindGate, withPins}
+use Rattle.gates.specs.declared.Gate.{Gate}
+use Rattle.gates.specs.declared.Gate.the-variants as G
+use Rattle.gates.specs.declared.Kind.{Kind}
+use Rattle.gates.specs.declared.Kind.the-variants as K
+use Rattle.gates.specs.declared.Decoded.{Decoded}
+use Rattle.gates.specs.declared.Decoded.the-variants.{Good, Bad}
+
+-- past the run's end the signal is zero
+pub signal-past : (ps : List ℕ) (i : ℕ) → length ps ≤ i → _≡_ {A = code.Signal} (record { a = 0 }) (cellSignal ps i)
+signal-past ps i h = ap (λ (x : ℕ). record { a = x }) (sym (List·getD-eq-default ps 0 h))
+
+module _ (k : Kind) (i : ℕ) (ps : List ℕ) where
+  pub with-none : kindTakes k (length ps) ≡ false → Bad ≡ withPins k i ps
+  unfolding withPins
+  with-none e = rw e
+
+  pub with-some : kindTakes k (length ps) ≡ true → kindGate k i ps ≡ withPins k i ps
+  unfolding withPins
+  with-some e = rw e
+
+-- ---- a kind with its pins is the gate of the kind and the pins' signals
+
+one-pin : (ps : List ℕ) → eqb (length ps) 1 ≡ true → map sigOf ps ≡ sigOf (getD ps 0 0) ∷ []
+one-pin [] e = absurd (false≢true e)
+one-pin (a ∷ []) e = refl
+one-pin (a ∷ b ∷ ps) e = absurd (let h : suc (suc (length ps)) ≡ 1 = eqb-true (suc (suc (length ps))) 1 e in omega arith)
+
+two-pins : (ps : List ℕ) → eqb (length ps) 2 ≡ true → map sigOf ps ≡ sigOf (getD ps 0 0) ∷ sigOf (getD ps 1 0) ∷ []
+two-pins [] e = absurd (false≢true e)
+two-pins (a ∷ ps) e = ap (λ (l : List Signal). sigOf a ∷ l) (rest ps (let h : suc (length ps) ≡ 2 = eqb-true (suc (length ps)) 2 e in omega arith))
+  where
+    rest : (l : List ℕ) → length l ≡ 1 → map sigOf l ≡ sigOf (getD l 0 0) ∷ []
+    rest l h = one-pin l (eq-eqb (length l) 1 h)
+
+three-pins : (ps : List ℕ) → eqb (length ps) 3 ≡ true → map sigOf ps ≡ sigOf (getD ps 0 0) ∷ sigOf (getD ps 1 0) ∷ sigOf (getD ps 2 0) ∷ []
+three-pins [] e = absurd (false≢true e)
+three-pins (a ∷ ps) e = ap (λ (l : List Signal). sigOf a ∷ l) (rest ps (let h : suc (length ps) ≡ 3 = eqb-true (suc (length ps)) 3 e in omega arith))
+  where
+    rest : (l : List ℕ) → length l ≡ 2 → map sigOf l ≡ sigOf (getD l 0 0) ∷ sigOf (getD l 1 0) ∷ []
+    rest l h = two-pins l (eq-eqb (length l) 2 h)
+
+-- the run of pins from cell i on is ps
+abbrev pub RunAt : List ℕ → ℕ → List ℕ → Type 0
+RunAt pins i ps = take (length ps) (drop i pins) ≡ ps
+
+module _ (pins : List ℕ) (i : ℕ) (ps : List ℕ) (run : RunAt pins i ps) where
+  -- a combinational gate of pins that its form can have
+  comb-in : (f : data-gate.Form) (ss : List Signal) → canHave f (length ps) ≡ true → map sigOf ps ≡ ss → some (Comb f ss) ≡ combFrom f (map sigOf ps)
+  comb-in f ss t e = rw (length-map ps sigOf, t) (ap (λ (l : List Signal). some (Comb f l)) (sym e))
+
+  kind-in : (k : Kind) → kindTakes k (length ps) ≡ true → decodedIn (kindGate k i ps) pins ≡ gateOfKind k (map sigOf ps)
+  kind-in (K.Binary t) h = comb-in (binaryForm t) _ h (two-pins ps (binary-count t (length ps) ∙ h))
+  kind-in (K.Ternary t) h = comb-in (ternaryForm t) _ h (three-pins ps (ternary-count t (length ps) ∙ h))
+  kind-in (K.Nary t) h = comb-in (naryForm t) _ h (ap (map sigOf) (sym run))
+  kind-in K.Buf h = comb-in Buf _ h (one-pin ps h)
+  kind-in K.Dff h = sym (ap flopFrom (three-pins ps h))
+  kind-in K.Unknown h = refl
+
+  none-comb : (f : data-gate.Form) → canHave f (length ps) ≡ false → none ≡ combFrom f (map sigOf ps)
+  none-comb f h = rw (length-map ps sigOf, h)
+
+  none-flop : (l : List Signal) → eqb (length l) 3 ≡ false → none ≡ flopFrom l
+  none-flop [] h = refl
+  none-flop (a ∷ []) h = refl
+  none-flop (a ∷ b ∷ []) h = refl
+  none-flop (a ∷ b ∷ c ∷ []) h = absurd (true≢false h)
+  none-flop (a ∷ b ∷ c ∷ d ∷ l) h = refl
+
+  kind-none : (k : Kind) → kindTakes k (length ps) ≡ false → none ≡ gateOfKind k (map sigOf ps)
+  kind-none (K.Binary t) h = none-comb (binaryForm t) h
+  kind-none (K.Ternary t) h = none-comb (ternaryForm t) h
+  kind-none (K.Nary t) h = none-comb (naryForm t) h
+  kind-none K.Buf h = none-comb Buf h
+  kind-none K.Dff h = none-flop (map sigOf ps) (rw (length-map ps sigOf) h)
+  kind-none K.Unknown h = refl
+
+  -- what `with_pins` decodes at a form number is the gate of the number and the pins
+  pub decode-is : (n : ℕ) → decodedIn (withPins (kindOf n) i ps) pins ≡ gateFrom n (map sigOf ps)
+  unfolding gateFrom
+  decode-is n =
+      by-test (kindTakes (kindOf n) (length ps))
+      (λ t. ap (λ (d : Decoded). decodedIn d pins) (sym (with-some (kindOf n) i ps t)) ∙ kind-in (kindOf n) t)
+      (λ t. ap (λ (d : Decoded). decodedIn d pins) (sym (with-none (kindOf n) i ps t)) ∙ kind-none (kindOf n) t)
+
+-- ---- combinational or not
+
+-- a `Gate` is combinational where the gate it stands for is
+pub comb-is : (g : Gate) (pins : List ℕ) → kindComb (kindOfGate g) ≡ isComb (gateIn g pins)
+comb-is (G.Binary t a b) pins = refl
+comb-is (G.Ternary t a b c) pins = refl
+comb-is (G.Nary t r) pins = refl
+comb-is (G.Buf a) pins = refl
+comb-is (G.Dff d e r) pins = refl
+
+-- and its kind's number is the gate's form number
+pub kind-cell : (g : Gate) (pins : List ℕ) → kindNumber (kindOfGate g) ≡ formCell (gateIn g pins)
+kind-cell (G.Binary t a b) pins = refl
+kind-cell (G.Ternary t a b c) pins = refl
+kind-cell (G.Nary t r) pins = refl
+kind-cell (G.Buf a) pins = refl
+kind-cell (G.Dff d e r) pins = refl

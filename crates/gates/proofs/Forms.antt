@@ -1,0 +1,156 @@
+-- Form numbers and pin counts, both ways. Assumes nothing.
+use mathlib.Core.Path.{_≡_, refl, sym, ap, _∙_, subst}
+use mathlib.Core.Bool.{Bool, true, false, cond, false≢true}
+use mathlib.Core.List.{List, [], _∷_}
+use mathlib.Core.Option.{Option, none, some}
+use mathlib.Core.Logic.{⊎-elim}
+use Prim.Native.Nat.{ℕ, zero, suc, _+_, _≤_, _<_}
+use native.Mathlib.Omega.{arith}
+use lib.Dec.{eqb}
+use lib.ListN.{length, getD, List·getD-eq-default}
+use borrow.Author.Tests.{eqb-true}
+use Rattle.lists.specs.Lists.{all, range}
+use Rattle.lists.proofs.Range.{range-all}
+use Rattle.lists.proofs.Tests.{by-test, le-or-lt}
+use Rattle.signal.specs.Signal.{Signal}
+use Rattle.gates.specs.Gate.{Form, And2, Xor2, And3, Xor3, Maj3, Mux3, AndN, OrN, NandN, NorN, XorN, XnorN, Buf, FlipFlop, Gate, Comb, Dff, pins}
+use Rattle.gates.specs.Forms.{formNumber, formCell, canHave, formed, binaryForm, ternaryForm, naryForm, kinds, kindOf, kindNumber, kindTakes, combFrom, flopFrom, gateOfKind, gateFrom}
+use Rattle.gates.specs.declared.Kind.{Kind}
+use Rattle.gates.specs.declared.Kind.the-variants as K
+use Rattle.gates.specs.declared.BinaryType.{BinaryType}
+use Rattle.gates.specs.declared.BinaryType.the-variants as B
+use Rattle.gates.specs.declared.TernaryType.{TernaryType}
+use Rattle.gates.specs.declared.TernaryType.the-variants as T
+use Rattle.gates.specs.declared.NaryType.{NaryType}
+use Rattle.gates.specs.declared.NaryType.the-variants as N
+
+-- ---- numbers, both ways
+
+-- the numbers 1 to 14 are those of their kinds: one computed test over the table
+pub number-again : (n : ℕ) → n ≤ 14 → kindNumber (kindOf n) ≡ n
+number-again n h = eqb-true (kindNumber (kindOf n)) n (range-all (λ k. eqb (kindNumber (kindOf k)) k) 0 15 refl n (omega arith) (omega arith))
+
+-- any other number is unknown
+pub number-unknown : (n : ℕ) → 15 ≤ n → kindOf n ≡ K.Unknown
+number-unknown n h = List·getD-eq-default kinds K.Unknown h
+
+-- and each kind is that of its number
+pub kind-again : (k : Kind) → kindOf (kindNumber k) ≡ k
+kind-again (K.Binary B.And) = refl
+kind-again (K.Binary B.Xor) = refl
+kind-again (K.Ternary T.And) = refl
+kind-again (K.Ternary T.Xor) = refl
+kind-again (K.Ternary T.Maj) = refl
+kind-again (K.Ternary T.Mux) = refl
+kind-again (K.Nary N.And) = refl
+kind-again (K.Nary N.Or) = refl
+kind-again (K.Nary N.Nand) = refl
+kind-again (K.Nary N.Nor) = refl
+kind-again (K.Nary N.Xor) = refl
+kind-again (K.Nary N.Xnor) = refl
+kind-again K.Buf = refl
+kind-again K.Dff = refl
+kind-again K.Unknown = refl
+
+-- ---- pin counts
+
+pub binary-count : (t : BinaryType) (n : ℕ) → eqb n 2 ≡ canHave (binaryForm t) n
+binary-count B.And n = refl
+binary-count B.Xor n = refl
+
+pub ternary-count : (t : TernaryType) (n : ℕ) → eqb n 3 ≡ canHave (ternaryForm t) n
+ternary-count T.And n = refl
+ternary-count T.Xor n = refl
+ternary-count T.Maj n = refl
+ternary-count T.Mux n = refl
+
+pub nary-count : (t : NaryType) (n : ℕ) → true ≡ canHave (naryForm t) n
+nary-count N.And n = refl
+nary-count N.Or n = refl
+nary-count N.Nand n = refl
+nary-count N.Nor n = refl
+nary-count N.Xor n = refl
+nary-count N.Xnor n = refl
+
+module _ {k : Kind} (n : ℕ) where
+  pub takes-binary : {t : BinaryType} → k ≡ K.Binary t → eqb n 2 ≡ kindTakes k n
+  takes-binary {t} e = rw e (binary-count t n)
+
+  pub takes-ternary : {t : TernaryType} → k ≡ K.Ternary t → eqb n 3 ≡ kindTakes k n
+  takes-ternary {t} e = rw e (ternary-count t n)
+
+  pub takes-nary : {t : NaryType} → k ≡ K.Nary t → true ≡ kindTakes k n
+  takes-nary {t} e = rw e (nary-count t n)
+
+  pub takes-buf : k ≡ K.Buf → eqb n 1 ≡ kindTakes k n
+  takes-buf e = rw e
+
+  pub takes-dff : k ≡ K.Dff → eqb n 3 ≡ kindTakes k n
+  takes-dff e = rw e
+
+-- ---- gates from numbers and pins
+
+-- a gate with as many inputs as its form can have comes back from its number and its pins
+pub gate-again : (g : Gate) → formed g ≡ true → gateFrom (formCell g) (pins g) ≡ some g
+unfolding gateFrom
+gate-again (Dff s) h = refl
+gate-again (Comb And2 ps) h = rw h
+gate-again (Comb Xor2 ps) h = rw h
+gate-again (Comb And3 ps) h = rw h
+gate-again (Comb Xor3 ps) h = rw h
+gate-again (Comb Maj3 ps) h = rw h
+gate-again (Comb Mux3 ps) h = rw h
+gate-again (Comb AndN ps) h = refl
+gate-again (Comb OrN ps) h = refl
+gate-again (Comb NandN ps) h = refl
+gate-again (Comb NorN ps) h = refl
+gate-again (Comb XorN ps) h = refl
+gate-again (Comb XnorN ps) h = refl
+gate-again (Comb Buf ps) h = rw h
+
+-- what a number and pins give: a gate of that number with those pins, as many as its form can have
+pub record From (n : ℕ) (ps : List Signal) (g : Gate) : Type 0 where
+  pub number : formCell g ≡ n
+  pub all-pins : pins g ≡ ps
+  pub good : formed g ≡ true
+
+comb-from : (f : Form) (ps : List Signal) (g : Gate) → combFrom f ps ≡ some g → From (formNumber f) ps g
+comb-from f ps g e = by-test (canHave f (length ps)) yes-case no-case
+  where
+    yes-case : canHave f (length ps) ≡ true → From (formNumber f) ps g
+    yes-case t =
+        let q : some (Comb f ps) ≡ some g = sym (rw t) ∙ e in
+        let r : Comb f ps ≡ g = cc in
+        rw (sym r) (record { number = refl; all-pins = refl; good = t })
+
+    no-case : canHave f (length ps) ≡ false → From (formNumber f) ps g
+    no-case t = let q : none ≡ some g = sym (rw t) ∙ e in absurd (let z : _≡_ {A = ℕ} 0 1 = cc in omega arith)
+
+flop-from : (ps : List Signal) (g : Gate) → flopFrom ps ≡ some g → From 14 ps g
+flop-from [] g e = absurd (let z : _≡_ {A = ℕ} 0 1 = cc in omega arith)
+flop-from (d ∷ []) g e = absurd (let z : _≡_ {A = ℕ} 0 1 = cc in omega arith)
+flop-from (d ∷ n ∷ []) g e = absurd (let z : _≡_ {A = ℕ} 0 1 = cc in omega arith)
+flop-from (d ∷ n ∷ r ∷ []) g e =
+    let q : Dff (record { dataIn = d; enable = n; reset = r }) ≡ g = cc in
+    rw (sym q) (record { number = refl; all-pins = refl; good = refl })
+flop-from (d ∷ n ∷ r ∷ s ∷ ps) g e = absurd (let z : _≡_ {A = ℕ} 0 1 = cc in omega arith)
+
+kind-from : (k : Kind) (ps : List Signal) (g : Gate) → gateOfKind k ps ≡ some g → From (kindNumber k) ps g
+kind-from (K.Binary t) ps g e = comb-from (binaryForm t) ps g e
+kind-from (K.Ternary t) ps g e = comb-from (ternaryForm t) ps g e
+kind-from (K.Nary t) ps g e = comb-from (naryForm t) ps g e
+kind-from K.Buf ps g e = comb-from Buf ps g e
+kind-from K.Dff ps g e = flop-from ps g e
+kind-from K.Unknown ps g e = absurd (let z : _≡_ {A = ℕ} 0 1 = cc in omega arith)
+
+pub gate-from : (n : ℕ) (ps : List Signal) (g : Gate) → gateFrom n ps ≡ some g → From n ps g
+unfolding gateFrom
+gate-from n ps g e = ⊎-elim small large (le-or-lt n 14)
+  where
+    small : n ≤ 14 → From n ps g
+    small h = subst (λ (m : ℕ). From m ps g) (number-again n h) (kind-from (kindOf n) ps g e)
+
+    large : 14 < n → From n ps g
+    large h =
+        let q : none ≡ some g = sym (ap (λ (k : Kind). gateOfKind k ps) (number-unknown n h)) ∙ e in
+        absurd (let z : _≡_ {A = ℕ} 0 1 = cc in omega arith)

@@ -1,0 +1,3 @@
+pub mod Forms
+pub mod Decode
+pub mod Bits

@@ -1,0 +1,81 @@
+-- Gates as data, and what a form makes of bits (document 01, src/network/gates.rs). Assumes nothing: these are definitions.
+use mathlib.Core.Bool.{Bool, true, false, not, _&&_, _||_, cond}
+use mathlib.Core.List.{List, [], _∷_}
+use Prim.Native.Nat.{ℕ, suc}
+use lib.ListN.{getD}
+use Rattle.signal.specs.Signal.{Signal, flip}
+
+-- the combinational forms with their types, in document 01's order: "Binary (And, Xor), Ternary (And, Xor, Maj, Mux),
+-- Nary (And, Or, Nand, Nor, Xor, Xnor), Buf"
+pub data Form : Type 0 where
+  And2 Xor2 And3 Xor3 Maj3 Mux3 AndN OrN NandN NorN XorN XnorN Buf : Form
+
+-- what feeds a flip-flop: "Dff (data, enable, reset)"
+pub record FlipFlop : Type 0 where
+  pub dataIn : Signal
+  pub enable : Signal
+  pub reset : Signal
+
+-- a gate: a combinational form with its inputs in order, or a flip-flop
+pub data Gate : Type 0 where
+  Comb : Form → List Signal → Gate
+  Dff : FlipFlop → Gate
+
+-- a gate's inputs in order
+abbrev pub pins : Gate → List Signal
+pins (Comb f ps) = ps
+pins (Dff s) = s .dataIn ∷ s .enable ∷ s .reset ∷ []
+
+-- "Every form but Dff is combinational"
+abbrev pub isComb : Gate → Bool
+isComb (Comb f ps) = true
+isComb (Dff s) = false
+
+-- ---- what a form makes of its inputs' bits
+
+-- the number of ones, by which document 01 tells Maj, Xor and Xnor
+abbrev pub ones : List Bool → ℕ
+ones [] = 0
+ones (true ∷ bs) = suc (ones bs)
+ones (false ∷ bs) = ones bs
+
+-- all ones; of nothing it is one
+abbrev pub allOf : List Bool → Bool
+allOf [] = true
+allOf (b ∷ bs) = b && allOf bs
+
+-- a one among them; of nothing it is zero
+abbrev pub anyOf : List Bool → Bool
+anyOf [] = false
+anyOf (b ∷ bs) = b || anyOf bs
+
+-- "Xor an odd number" of ones
+abbrev pub odd : List Bool → Bool
+odd [] = false
+odd (b ∷ bs) = flip b (odd bs)
+
+-- "Maj wants two ones or more"
+abbrev pub two : List Bool → Bool
+two [] = false
+two (true ∷ bs) = anyOf bs
+two (false ∷ bs) = two bs
+
+-- "Mux is first ? second : third"
+abbrev pub mux : List Bool → Bool
+mux bs = cond (getD bs 0 false) (getD bs 1 false) (getD bs 2 false)
+
+-- "a combinational gate's what its form makes of its inputs' bits"
+abbrev pub formBit : Form → List Bool → Bool
+formBit And2 bs = allOf bs
+formBit Xor2 bs = odd bs
+formBit And3 bs = allOf bs
+formBit Xor3 bs = odd bs
+formBit Maj3 bs = two bs
+formBit Mux3 bs = mux bs
+formBit AndN bs = allOf bs
+formBit OrN bs = anyOf bs
+formBit NandN bs = not (allOf bs)
+formBit NorN bs = not (anyOf bs)
+formBit XorN bs = odd bs
+formBit XnorN bs = not (odd bs)
+formBit Buf bs = getD bs 0 false

@@ -1,0 +1,234 @@
+// Gates: their forms, types, form numbers and pin counts (Quaigh's src/network/gates.rs).
+use signal::Signal;
+ghost use mathlib.Core.Path.{_≡_};
+ghost use Rattle.gates.specs.Forms.{kindOf, kindNumber, kindTakes};
+ghost use Rattle.gates.specs.Decode.{kindOfGate, kindComb, cellSignal, kindGate, withPins};
+
+pub enum BinaryType {
+    And,
+    Xor,
+}
+
+pub enum TernaryType {
+    And,
+    Xor,
+    Maj,
+    Mux,
+}
+
+pub enum NaryType {
+    And,
+    Or,
+    Nand,
+    Nor,
+    Xor,
+    Xnor,
+}
+
+// A run of pin cells.
+pub struct PinRun {
+    pub first: usize,
+    pub count: usize,
+}
+
+// A gate in hand: its form, which carries its type, beside its signals or its run of pins.
+pub enum Gate {
+    Binary(BinaryType, Signal, Signal),
+    Ternary(TernaryType, Signal, Signal, Signal),
+    Nary(NaryType, PinRun),
+    Buf(Signal),
+    // data, enable, reset
+    Dff(Signal, Signal, Signal),
+}
+
+// What a form number says of a gate: its form and type.
+pub enum Kind {
+    Binary(BinaryType),
+    Ternary(TernaryType),
+    Nary(NaryType),
+    Buf,
+    Dff,
+    Unknown,
+}
+
+// A gate read out of cells, or cells that hold none.
+pub enum Decoded {
+    Good(Gate),
+    Bad,
+}
+
+const KINDS: [Kind; 15] = [
+    Kind::Unknown,
+    Kind::Binary(BinaryType::And),
+    Kind::Binary(BinaryType::Xor),
+    Kind::Ternary(TernaryType::And),
+    Kind::Ternary(TernaryType::Xor),
+    Kind::Ternary(TernaryType::Maj),
+    Kind::Ternary(TernaryType::Mux),
+    Kind::Nary(NaryType::And),
+    Kind::Nary(NaryType::Or),
+    Kind::Nary(NaryType::Nand),
+    Kind::Nary(NaryType::Nor),
+    Kind::Nary(NaryType::Xor),
+    Kind::Nary(NaryType::Xnor),
+    Kind::Buf,
+    Kind::Dff,
+];
+
+// The kind of a form number.
+pub fn kind_of(form: u32) -> Kind
+    ensures { λ r. ⌜ r ≡ kindOf form ⌝ }
+{
+    if form >= 15 {
+        return Kind::Unknown;
+    }
+    KINDS[form as usize]
+}
+
+fn binary_number(t: BinaryType) -> u32
+    ensures { λ r. ⌜ r ≡ kindNumber (Kind.Binary t) ⌝ }
+{
+    match t {
+        BinaryType::And => 1,
+        BinaryType::Xor => 2,
+    }
+}
+
+fn ternary_number(t: TernaryType) -> u32
+    ensures { λ r. ⌜ r ≡ kindNumber (Kind.Ternary t) ⌝ }
+{
+    match t {
+        TernaryType::And => 3,
+        TernaryType::Xor => 4,
+        TernaryType::Maj => 5,
+        TernaryType::Mux => 6,
+    }
+}
+
+fn nary_number(t: NaryType) -> u32
+    ensures { λ r. ⌜ r ≡ kindNumber (Kind.Nary t) ⌝ }
+{
+    match t {
+        NaryType::And => 7,
+        NaryType::Or => 8,
+        NaryType::Nand => 9,
+        NaryType::Nor => 10,
+        NaryType::Xor => 11,
+        NaryType::Xnor => 12,
+    }
+}
+
+impl Kind {
+    // The form number, 0 for an unknown kind.
+    pub fn number(self) -> u32
+        ensures { λ r. ⌜ r ≡ kindNumber self ⌝ }
+    {
+        match self {
+            Kind::Binary(t) => binary_number(t),
+            Kind::Ternary(t) => ternary_number(t),
+            Kind::Nary(t) => nary_number(t),
+            Kind::Buf => 13,
+            Kind::Dff => 14,
+            Kind::Unknown => 0,
+        }
+    }
+
+    // Whether a gate of this kind can have so many pins.
+    pub fn takes(self, count: usize) -> bool
+        ensures { λ r. ⌜ r ≡ kindTakes self count ⌝ }
+    {
+        match self {
+            Kind::Binary(_) => count == 2,
+            Kind::Ternary(_) => count == 3,
+            Kind::Nary(_) => true,
+            Kind::Buf => count == 1,
+            Kind::Dff => count == 3,
+            Kind::Unknown => false,
+        }
+    }
+
+    // Whether it is combinational.
+    pub fn is_comb(self) -> bool
+        ensures { λ r. ⌜ r ≡ kindComb self ⌝ }
+    {
+        match self {
+            Kind::Binary(_) => true,
+            Kind::Ternary(_) => true,
+            Kind::Nary(_) => true,
+            Kind::Buf => true,
+            Kind::Dff => false,
+            Kind::Unknown => false,
+        }
+    }
+
+    // The gate of this kind with the pins of its run, which starts at cell first.
+    pub fn with_pins(self, first: usize, run: &[u32]) -> Decoded
+        ensures { λ r. ⌜ r ≡ withPins self first (now (run .entry)) ⌝ }
+    {
+        if !self.takes(run.len()) {
+            return Decoded::Bad;
+        }
+        gate_of(self, first, run)
+    }
+}
+
+// The signal in a cell of the run, zero past its end.
+fn signal_at(run: &[u32], i: usize) -> Signal
+    ensures { λ r. ⌜ r ≡ cellSignal (now (run .entry)) i ⌝ }
+{
+    if i >= run.len() {
+        return Signal { a: 0 };
+    }
+    Signal { a: run[i] }
+}
+
+// The gate of a kind that can have the run's pins.
+fn gate_of(k: Kind, first: usize, run: &[u32]) -> Decoded
+    ensures { λ r. ⌜ r ≡ kindGate k first (now (run .entry)) ⌝ }
+{
+    match k {
+        Kind::Binary(t) => { Decoded::Good(Gate::Binary(t, signal_at(run, 0), signal_at(run, 1))) }
+        Kind::Ternary(t) => Decoded::Good(Gate::Ternary(
+            t,
+            signal_at(run, 0),
+            signal_at(run, 1),
+            signal_at(run, 2),
+        )),
+        Kind::Nary(t) => Decoded::Good(Gate::Nary(
+            t,
+            PinRun {
+                first,
+                count: run.len(),
+            },
+        )),
+        Kind::Buf => Decoded::Good(Gate::Buf(signal_at(run, 0))),
+        Kind::Dff => Decoded::Good(Gate::Dff(
+            signal_at(run, 0),
+            signal_at(run, 1),
+            signal_at(run, 2),
+        )),
+        Kind::Unknown => Decoded::Bad,
+    }
+}
+
+impl Gate {
+    // The gate's kind.
+    pub fn kind(self) -> Kind
+        ensures { λ r. ⌜ r ≡ kindOfGate self ⌝ }
+    {
+        match self {
+            Gate::Binary(t, _, _) => Kind::Binary(t),
+            Gate::Ternary(t, _, _, _) => Kind::Ternary(t),
+            Gate::Nary(t, _) => Kind::Nary(t),
+            Gate::Buf(_) => Kind::Buf,
+            Gate::Dff(_, _, _) => Kind::Dff,
+        }
+    }
+
+    // Whether the gate is combinational.
+    pub fn is_comb(self) -> bool
+        ensures { λ r. ⌜ r ≡ kindComb (kindOfGate self) ⌝ }
+    {
+        self.kind().is_comb()
+    }
+}

@@ -1,0 +1,82 @@
+-- Elements by their place in a list. Assumes nothing.
+use mathlib.Core.Path.{_≡_, refl, sym, ap, ap₂, _∙_}
+use mathlib.Core.List.{List, [], _∷_, _++_, map, List·Memᴰ, List·Memᴰ·head, List·Memᴰ·tail}
+use mathlib.Core.Option.{Option, none, some}
+use mathlib.Core.Logic.{_⊎_, inl, inr}
+use Prim.Native.Nat.{ℕ, zero, suc, _+_, _≤_, _<_}
+use native.Mathlib.Omega.{arith}
+use native.Mathlib.Nat.{zero-add, add-zero, add-suc, suc-add}
+use lib.ListN.{length, getD, getElem?, length-map}
+
+module _ {A : Type 0} where
+  pub place-lt : (l : List A) (n : ℕ) (x : A) → getElem? l n ≡ some x → n < length l
+  place-lt [] n x e = absurd (let z : _≡_ {A = ℕ} 0 1 = cc in omega arith)
+  place-lt (y ∷ l) zero x e = omega arith
+  place-lt (y ∷ l) (suc n) x e = let h : n < length l = place-lt l n x e in omega arith
+
+  pub place-mem : (l : List A) (n : ℕ) (x : A) → getElem? l n ≡ some x → List·Memᴰ x l
+  place-mem [] n x e = absurd (let z : _≡_ {A = ℕ} 0 1 = cc in omega arith)
+  place-mem (y ∷ l) zero x e = List·Memᴰ·head {x = y} (cc)
+  place-mem (y ∷ l) (suc n) x e = List·Memᴰ·tail (place-mem l n x e)
+
+  pub mem-place : (l : List A) (x : A) → List·Memᴰ x l → (n : ℕ) × (getElem? l n ≡ some x)
+  mem-place _ x (List·Memᴰ·head e) = (0, ap some (sym e))
+  mem-place _ x (List·Memᴰ·tail {xs = l} m) = let r : (n : ℕ) × (getElem? l n ≡ some x) = mem-place l x m in (suc (r .0), r .1)
+
+  pub lt-place : (l : List A) (n : ℕ) → n < length l → (x : A) × (getElem? l n ≡ some x)
+  lt-place [] n h = absurd (omega arith)
+  lt-place (y ∷ l) zero h = (y, refl)
+  lt-place (y ∷ l) (suc n) h = lt-place l n (omega arith)
+
+  pub place-left : (l m : List A) (n : ℕ) (x : A) → getElem? l n ≡ some x → getElem? (l ++ m) n ≡ some x
+  place-left [] m n x e = absurd (let z : _≡_ {A = ℕ} 0 1 = cc in omega arith)
+  place-left (y ∷ l) m zero x e = e
+  place-left (y ∷ l) m (suc n) x e = place-left l m n x e
+
+  pub place-right : (l m : List A) (n : ℕ) → getElem? (l ++ m) (length l + n) ≡ getElem? m n
+  place-right [] m n = rw zero-add
+  place-right (y ∷ l) m n = rw (suc-add (length l) n) (place-right l m n)
+
+module _ {A B : Type 0} where
+  pub map-on : (f g : A → B) (l : List A) → ((x : A) → List·Memᴰ x l → f x ≡ g x) → map f l ≡ map g l
+  map-on f g [] h = refl
+  map-on f g (x ∷ l) h = ap₂ (λ (y : B) (m : List B). y ∷ m) (h x (List·Memᴰ·head refl)) (map-on f g l (λ y m. h y (List·Memᴰ·tail m)))
+
+  pub map-map : {C : Type 0} (f : B → C) (g : A → B) (l : List A) → map f (map g l) ≡ map (λ (x : A). f (g x)) l
+  map-map f g [] = refl
+  map-map {C} f g (x ∷ l) = ap (λ (m : List C). f (g x) ∷ m) (map-map f g l)
+
+  pub map-place : (f : A → B) (l : List A) (n : ℕ) (x : A) → getElem? l n ≡ some x → getElem? (map f l) n ≡ some (f x)
+  map-place f [] n x e = absurd (let z : _≡_ {A = ℕ} 0 1 = cc in omega arith)
+  map-place f (y ∷ l) zero x e = cc
+  map-place f (y ∷ l) (suc n) x e = map-place f l n x e
+
+  -- a place of the map is one of the list
+  pub map-at : (f : A → B) (l : List A) (n : ℕ) (y : B) → getElem? (map f l) n ≡ some y → (x : A) × (getElem? l n ≡ some x) × (f x ≡ y)
+  map-at f [] n y e = absurd (let z : _≡_ {A = ℕ} 0 1 = cc in omega arith)
+  map-at f (x ∷ l) zero y e = (x, refl, cc)
+  map-at f (x ∷ l) (suc n) y e = map-at f l n y e
+
+module _ {A : Type 0} where
+  pub getD-place : (d : A) (l : List A) (i : ℕ) (x : A) → getElem? l i ≡ some x → getD l i d ≡ x
+  getD-place d [] i x e = absurd (let z : _≡_ {A = ℕ} 0 1 = cc in omega arith)
+  getD-place d (y ∷ l) zero x e = cc
+  getD-place d (y ∷ l) (suc i) x e = getD-place d l i x e
+
+  pub place-getD : (d : A) (l : List A) (i : ℕ) → i < length l → getElem? l i ≡ some (getD l i d)
+  place-getD d l i h = let t = lt-place l i h in t .1 ∙ ap some (sym (getD-place d l i (t .0) (t .1)))
+
+  -- within the list the element that stands for one past the end does not matter
+  pub getD-any : (l : List A) (i : ℕ) (d e : A) → i < length l → getD l i d ≡ getD l i e
+  getD-any [] i d e h = absurd (omega arith)
+  getD-any (x ∷ l) zero d e h = refl
+  getD-any (x ∷ l) (suc i) d e h = getD-any l i d e (omega arith)
+
+  -- two lists are equal by their places
+  pub ext-place : (l m : List A) → length l ≡ length m → ((i : ℕ) (x : A) → getElem? l i ≡ some x → getElem? m i ≡ some x) → l ≡ m
+  ext-place [] [] e h = refl
+  ext-place [] (y ∷ m) e h = absurd (omega arith)
+  ext-place (x ∷ l) [] e h = absurd (omega arith)
+  ext-place (x ∷ l) (y ∷ m) e h =
+      let q : some y ≡ some x = h 0 x refl in
+      ap₂ (λ (a : A) (r : List A). a ∷ r) (cc) (ext-place l m (omega arith) (λ i z p. h (suc i) z p))

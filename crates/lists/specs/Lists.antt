@@ -1,0 +1,55 @@
+-- Lists, as every layer above uses them. Assumes nothing: these are definitions.
+use mathlib.Core.Path.{_≡_}
+use mathlib.Core.Bool.{Bool, true, false, _&&_, cond}
+use mathlib.Core.List.{List, [], _∷_, List·Memᴰ}
+use mathlib.Core.Option.{Option, none, some}
+use Prim.Native.Nat.{ℕ, zero, suc, _+_}
+use lib.Dec.{eqb}
+use lib.ListN.{length, replicate}
+
+-- the bytes of a text, each below 256; a slice of bytes at entry or exit is such a list
+abbrev pub Bytes : Type 0
+Bytes = List ℕ
+
+-- whether two lists of bytes are equal: "compared byte for byte"
+unfoldable pub same : Bytes → Bytes → Bool
+same [] [] = true
+same [] (y ∷ t) = false
+same (x ∷ s) [] = false
+same (x ∷ s) (y ∷ t) = eqb x y && same s t
+
+-- n zeros: what a refusal leaves in a slice of length n, and a success beyond what it fills
+abbrev pub zeros : ℕ → List ℕ
+zeros n = replicate n 0
+
+-- whether every element passes the test
+abbrev pub all : {A : Type 0} → (A → Bool) → List A → Bool
+all p [] = true
+all p (x ∷ l) = p x && all p l
+
+-- k numbers from n upwards
+abbrev pub range : ℕ → ℕ → List ℕ
+range n zero = []
+range n (suc k) = n ∷ range (suc n) k
+
+-- f 0 + f 1 + .. + f (k - 1)
+abbrev pub sumTo : ℕ → (ℕ → ℕ) → ℕ
+sumTo zero f = 0
+sumTo (suc k) f = sumTo k f + f k
+
+-- an element stands again further on: "a name is defined twice"
+pub data Dup {A : Type 0} : List A → Type 0 where
+  here : {x : A} {l : List A} → List·Memᴰ x l → Dup (x ∷ l)
+  there : {x : A} {l : List A} → Dup l → Dup (x ∷ l)
+
+module _ {A : Type 0} where
+  -- one step of a search: the place here, or one more than the place further on
+  abbrev pub found : {x y : A} → Dec (y ≡ x) → Option ℕ → Option ℕ
+  found (yes e) r = some 0
+  found (no e) none = none
+  found (no e) (some i) = some (suc i)
+
+  -- the first place of an element: "a search through earlier definitions"
+  abbrev pub find : ((x y : A) → Dec (x ≡ y)) → List A → A → Option ℕ
+  find dec [] x = none
+  find dec (y ∷ l) x = found (dec y x) (find dec l x)

@@ -1,0 +1,69 @@
+-- Renumbering a cell is renumbering its signal. Assumes nothing.
+use mathlib.Core.Path.{_≡_, refl, sym, ap, ap₂, _∙_, subst}
+use mathlib.Core.Bool.{Bool, true, false, not, _&&_, cond, true≢false}
+use mathlib.Core.List.{List}
+use Prim.Native.Nat.{ℕ, _≤_, _<_, _^_, _-_}
+use lib.Dec.{ltb}
+use lib.ListN.{length, getD}
+use borrow.Author.Tests.{lt-ltb, le-ltb}
+use Rattle.lists.proofs.Tests.{and-both, and-false}
+use Rattle.signal.specs.Signal.{Node, Const, Input, Gated, Signal, plain, flip, xorS, gateNode, remapNode, remap}
+use Rattle.signal.specs.Cell.{nodeCell, sigCell, nodeOf, sigOf, Small, gateNumber, remapCell}
+use Rattle.signal.proofs.Cells.{gate-number, signal-again}
+
+module _ (t : List ℕ) (c : ℕ) where
+  -- what is no gate stays
+  pub remap-other : gateNode (nodeOf c) ≡ false → c ≡ remapCell t c
+  unfolding remapCell
+  remap-other e = rw e
+
+  -- what is no gate of t stays
+  pub remap-past : length t ≤ gateNumber c → c ≡ remapCell t c
+  unfolding remapCell
+  remap-past h = rw (le-ltb (gateNumber c) (length t) h, and-false (gateNode (nodeOf c)))
+
+  -- a gate of t gets its new signal, inverted as it was
+  pub remap-gate : {v : ℕ} {b : Bool} → gateNode (nodeOf c) ≡ true → v ≡ gateNumber c → v < length t → b ≡ sigOf c .inv
+      → sigCell (xorS (sigOf (getD t v 0)) b) ≡ remapCell t c
+  unfolding remapCell
+  remap-gate e n h i =
+      ap₂ (λ (w : ℕ) (z : Bool). sigCell (xorS (sigOf (getD t w 0)) z)) n i
+      ∙ rw (e, lt-ltb (gateNumber c) (length t) (subst (λ (w : ℕ). w < length t) n h))
+
+-- a table of signals: gate g's is that of gate π g, for each gate that the signal may name
+module _ (t : List ℕ) (π : ℕ → ℕ) where
+  -- cell c names no gate, or a gate g of t whose new number π g is in t and has room in a cell
+  abbrev pub Renames : Node → Type 0
+  Renames Const = Unit {0}
+  Renames (Input i) = Unit {0}
+  Renames (Gated g) = (g < length t) × (π g < 2 ^ 30 - 1) × (sigOf (getD t g 0) ≡ plain (Gated (π g)))
+
+  -- a signal of no gate is kept
+  remap-kept : (s : Signal) → gateNode (s .node) ≡ false → s ≡ remap π s
+  remap-kept s h = λ i. record { node = go (s .node) h i; inv = s .inv }
+    where
+      go : (n : Node) → gateNode n ≡ false → n ≡ remapNode π n
+      go Const k = refl
+      go (Input i) k = refl
+      go (Gated g) k = absurd (true≢false k)
+
+  flip-false : (b : Bool) → flip b false ≡ b
+  flip-false false = refl
+  flip-false true = refl
+
+  -- the signal of the renumbered cell is the signal renumbered
+  pub remap-signal : (c : ℕ) → Renames (nodeOf c) → sigOf (remapCell t c) ≡ remap π (sigOf c)
+  remap-signal c r = go (nodeOf c) refl r
+    where
+      go : (n : Node) → nodeOf c ≡ n → Renames n → sigOf (remapCell t c) ≡ remap π (sigOf c)
+      go Const e k = ap sigOf (sym (remap-other t c (ap gateNode e))) ∙ remap-kept (sigOf c) (ap gateNode e)
+      go (Input j) e k = ap sigOf (sym (remap-other t c (ap gateNode e))) ∙ remap-kept (sigOf c) (ap gateNode e)
+      go (Gated g) e k =
+          let q : Gated (gateNumber c) ≡ Gated g = sym (gate-number c (ap gateNode e)) ∙ e in
+          let n : gateNumber c ≡ g = cc in
+          let s : Signal = xorS (plain (Gated (π g))) (sigOf c .inv) in
+          let w : sigOf (getD t (gateNumber c) 0) ≡ plain (Gated (π g)) = ap (λ (v : ℕ). sigOf (getD t v 0)) n ∙ k .2 in
+          ap sigOf (sym (remap-gate t c (ap gateNode e) refl (subst (λ (v : ℕ). v < length t) (sym n) (k .0)) refl))
+          ∙ ap (λ (x : Signal). sigOf (sigCell (xorS x (sigOf c .inv)))) w
+          ∙ signal-again s (k .1)
+          ∙ (λ i. record { node = ap (remapNode π) (sym e) i; inv = flip-false (sigOf c .inv) i })

@@ -1,0 +1,58 @@
+-- `remap_order`: the two early returns keep the signal, the last takes the new one. Assumes nothing.
+use mathlib.Core.Path.{sym, _∙_, subst}
+use Prim.Native.Nat.{ℕ, _≤_}
+use lib.ListN.{length}
+use borrow.Author.Needs.{needs}
+use borrow.Author.Tests.{not-true, not-false}
+use Rattle.signal.proofs.Remap.{remap-other, remap-past, remap-gate}
+use Rattle.signal.proofs.Signal.remap_order.Statement.{statement}
+use Rattle.signal.proofs.Signal.remap_order.Tie as tie
+
+is-var-requires : tie.Need-is-var-requires
+is-var-requires c κs = search needs
+
+returns : tie.Need-returns
+returns c = remap-other _ _ (sym (c .before .is-var .ensures) ∙ not-true _ (c .if1 .taken))
+
+var-requires : tie.Need-var-requires
+var-requires c κs = search needs
+
+cast-v : tie.Need-cast-v
+cast-v c = search needs
+
+returns-2 : tie.Need-returns-2
+returns-2 c = remap-past _ _ (rw (sym (c .before .var .ensures)) (c .if2 .taken))
+
+mul-t8 : tie.Need-mul-t8
+mul-t8 c = search needs
+
+shared-slice-read-t7 : tie.Need-shared-slice-read-t7
+shared-slice-read-t7 c = search needs
+
+is-inverted-requires : tie.Need-is-inverted-requires
+is-inverted-requires c κs = search needs
+
+xor-requires : tie.Need-xor-requires
+xor-requires c κs = search needs
+
+returns-3 : tie.Need-returns-3
+returns-3 c =
+    let v = c .before .before .before .before in
+    c .xor .ensures
+    ∙ remap-gate _ _ (sym (v .before .before .is-var .ensures) ∙ not-false _ (v .before .if1 .left)) (v .var .ensures) (c .before .before .before .if2 .left)
+    (c .before .is-inverted .ensures)
+
+pub remap-order-spec : {M : Type 1} → statement M
+remap-order-spec =
+    tie.close
+    (tie.spec
+    is-var-requires
+    returns
+    var-requires
+    cast-v
+    returns-2
+    mul-t8
+    shared-slice-read-t7
+    is-inverted-requires
+    xor-requires
+    returns-3)

@@ -1,0 +1,14 @@
+use native.Mathlib.Omega.{arith}
+use Rattle.signal.proofs.Cells.{xor-cell}
+use borrow.Author.Needs.{needs}
+use Rattle.signal.proofs.Signal.xor.Statement.{statement}
+use Rattle.signal.proofs.Signal.xor.Tie as tie
+
+cast-t3 : tie.Need-cast-t3
+cast-t3 c = search needs
+
+returns : tie.Need-returns
+returns c = xor-cell (c .before .args .b) (c .before .args .self .a) (omega arith)
+
+pub xor-spec : {M : Type 1} → statement M
+xor-spec = tie.close (tie.spec cast-t3 returns)
