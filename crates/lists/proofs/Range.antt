@@ -5,8 +5,10 @@ use mathlib.Core.List.{List, [], _∷_, map, List·Memᴰ, List·Memᴰ·head, L
 use mathlib.Core.Option.{Option, none, some}
 use Prim.Native.Nat.{ℕ, zero, suc, _+_, _-_, _≤_, _<_}
 use native.Mathlib.Omega.{arith}
-use native.Mathlib.Nat.{add-zero, add-suc, suc-add, zero-add}
-use lib.ListN.{length, getElem?, getD, length-map}
+use native.Mathlib.Nat.{add-zero, add-suc, suc-add, zero-add, sub-zero}
+use native.Mathlib.Numerals.{add-one}
+use lib.Seq.{drop-cons}
+use lib.ListN.{length, getElem?, getD, drop, drop-of-length-le}
 use Rattle.lists.specs.Lists.{all, range}
 use Rattle.lists.proofs.Tests.{and-both, and-left, and-right, and-false}
 
@@ -47,3 +49,58 @@ module _ (p : ℕ → Bool) where
   pub all-range : (n k : ℕ) → ((i : ℕ) → n ≤ i → i < n + k → p i ≡ true) → all p (range n k) ≡ true
   all-range n zero h = refl
   all-range n (suc k) h = and-both (p n) (all p (range (suc n) k)) (h n (omega arith) (omega arith)) (all-range (suc n) k (λ i a b. h i (omega arith) (omega arith)))
+
+-- ---- a test of every element, one after the other
+
+-- the first i elements have passed: what is left tests as the whole does
+pub record Tested {A : Type 0} (p : A → Bool) (l : List A) (i : ℕ) : Type 0 where
+  pub within : i ≤ length l
+  pub rest : all p (drop i l) ≡ all p l
+
+module _ {A : Type 0} {p : A → Bool} {l : List A} where
+  pub tested-start : Tested p l 0
+  tested-start = record { within = omega arith; rest = refl }
+
+  module _ {i : ℕ} (d : A) (c : Tested p l i) where
+    pub tested-next : i < length l → p (getD l i d) ≡ true → Tested p l (i + 1)
+    tested-next h t =
+        let e : all p (drop (i + 1) l) ≡ all p (drop i l) = rw (add-one, drop-cons l i d h, t) in
+        record { within = omega arith; rest = e ∙ c .rest }
+
+    pub tested-fails : i < length l → p (getD l i d) ≡ false → false ≡ all p l
+    tested-fails h t =
+        let e : all p (drop i l) ≡ false = rw (drop-cons l i d h, t) in
+        sym e ∙ c .rest
+
+    pub tested-done : length l ≤ i → true ≡ all p l
+    tested-done h = let e : all p (drop i l) ≡ true = rw (drop-of-length-le l h) in sym e ∙ c .rest
+
+-- the numbers below g have passed: what is left tests as the whole does
+pub record TestedTo (p : ℕ → Bool) (n g : ℕ) : Type 0 where
+  pub within : g ≤ n
+  pub rest : all p (range g (n - g)) ≡ all p (range 0 n)
+
+module _ {p : ℕ → Bool} {n : ℕ} where
+  pub to-start : TestedTo p n 0
+  to-start = record { within = omega arith; rest = rw sub-zero }
+
+  module _ {g : ℕ} (c : TestedTo p n g) where
+    range-cons : g < n → range g (n - g) ≡ g ∷ range (g + 1) (n - (g + 1))
+    range-cons h =
+        let e : n - g ≡ suc (n - (g + 1)) = omega arith in
+        ap (range g) e ∙ ap (λ (m : ℕ). g ∷ range m (n - (g + 1))) (sym (add-one g))
+
+    pub to-next : g < n → p g ≡ true → TestedTo p n (g + 1)
+    to-next h t =
+        let e : all p (range g (n - g)) ≡ all p (range (g + 1) (n - (g + 1))) = ap (all p) (range-cons h) ∙ rw t in
+        record { within = omega arith; rest = sym e ∙ c .rest }
+
+    pub to-fails : g < n → p g ≡ false → false ≡ all p (range 0 n)
+    to-fails h t =
+        let e : all p (range g (n - g)) ≡ false = ap (all p) (range-cons h) ∙ rw t in
+        sym e ∙ c .rest
+
+    pub to-done : n ≤ g → true ≡ all p (range 0 n)
+    to-done h =
+        let e : n - g ≡ 0 = omega arith in
+        sym (ap (λ (k : ℕ). all p (range g k)) e) ∙ c .rest

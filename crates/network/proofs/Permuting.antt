@@ -1,0 +1,56 @@
+-- A list that holds every gate's number, and no other, renumbers a network. Assumes nothing.
+use mathlib.Core.Path.{_≡_, refl, sym, ap, ap₂, _∙_, subst}
+use mathlib.Core.List.{List, [], _∷_, _++_, map, List·Memᴰ}
+use mathlib.Core.Option.{Option, none, some}
+use Prim.Native.Nat.{ℕ, zero, suc, _+_, _≤_, _<_}
+use native.Mathlib.Omega.{arith}
+use native.Mathlib.Decide.{ℕ-discrete}
+use lib.ListN.{length, getD, getElem?, length-map}
+use Rattle.lists.specs.Lists.{find}
+use Rattle.signal.specs.Signal.{Node, Const, Input, Gated}
+use Rattle.gates.specs.Gate.{Comb}
+use Rattle.network.specs.Net.{Net, GateIs, ValidNode, Valid}
+use Rattle.network.specs.Renumber.{remapGate, Kept, Renumbered, orZero, placeOf, gateOr, permuted, Orders}
+use Rattle.gates.specs.Gate.{Buf}
+use Rattle.lists.proofs.Places.{place-lt, place-mem, lt-place, getD-place, map-at}
+use Rattle.lists.proofs.Find.{find-some, find-none}
+
+gate-at : (net : Net) (g : ℕ) → g < length (net .gates) → GateIs net g (gateOr net g)
+gate-at net g u = let t = lt-place (net .gates) g u in t .1 ∙ ap some (sym (getD-place (Comb Buf []) (net .gates) g (t .0) (t .1)))
+
+place-of : (l : List ℕ) (g : ℕ) → List·Memᴰ g l → getElem? l (placeOf l g) ≡ some g
+place-of l g m = go (find ℕ-discrete l g) refl
+  where
+    go : (r : Option ℕ) → find ℕ-discrete l g ≡ r → getElem? l (orZero (find ℕ-discrete l g)) ≡ some g
+    go none p = absurd (find-none ℕ-discrete l g p m)
+    go (some i) p = ap (λ (r : Option ℕ). getElem? l (orZero r)) p ∙ find-some ℕ-discrete l g i p
+
+module _ (net : Net) (valid : Valid net) (l : List ℕ) (o : Orders (length (net .gates)) l) where
+  abbrev back : ℕ → ℕ
+  back i = getD l i 0
+
+  kept-node : (n : Node) → ValidNode net n → Kept (length (permuted l net .gates)) (placeOf l) back n
+  kept-node Const v = tt
+  kept-node (Input i) v = tt
+  kept-node (Gated g) v =
+      let p : getElem? l (placeOf l g) ≡ some g = place-of l g (o .every g v) in (
+        subst (λ (n : ℕ). placeOf l g < n) (sym (length-map l (λ (k : ℕ). remapGate (placeOf l) (gateOr net k)))) (place-lt l (placeOf l g) g p),
+        getD-place 0 l (placeOf l g) g p,
+      )
+
+  pub permuted-renumbers : Renumbered net (permuted l net) (placeOf l) back
+  permuted-renumbers = record {
+    sameInputs = refl;
+    gatesFrom = λ i x e.
+        let t = map-at (λ (k : ℕ). remapGate (placeOf l) (gateOr net k)) l i x e in
+        let q : back i ≡ t .0 = getD-place 0 l i (t .0) (t .1) in
+        let w : GateIs net (t .0) (gateOr net (t .0)) = gate-at net (t .0) (o .only (t .0) (place-mem l i (t .0) (t .1))) in
+        record {
+          was = gateOr net (t .0);
+          wasAt = ap (getElem? (net .gates)) q ∙ w;
+          renamed = sym (t .2);
+          kept = λ s m. kept-node (s .node) (valid .pinsValid (t .0) (gateOr net (t .0)) s w m);
+        };
+    sameOutputs = refl;
+    outputsKept = λ s m. kept-node (s .node) (valid .outsValid s m);
+  }

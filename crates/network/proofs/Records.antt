@@ -1,0 +1,214 @@
+-- The tests that refusal 20 asks for, as the code makes them. Assumes nothing.
+use mathlib.Core.Path.{_≡_, refl, sym, ap, ap₂, _∙_, subst}
+use mathlib.Core.Bool.{Bool, true, false, not, _&&_, true≢false, false≢true}
+use mathlib.Core.List.{List, [], _∷_, map}
+use mathlib.Core.Option.{Option, none, some}
+use Prim.Native.Nat.{ℕ, zero, suc, _+_, _-_, _*_, _/_, _^_, _≤_, _<_}
+use native.Mathlib.Omega.{arith}
+use native.Mathlib.Numerals.{add-one}
+use lib.Dec.{eqb, leb, ltb}
+use lib.ListN.{length, getD, take, drop, length-take, length-drop}
+use lib.Seq.{length-take-le}
+use borrow.Author.Tests.{le-leb, lt-leb, le-ltb, lt-ltb, leb-true}
+use Rattle.lists.specs.Lists.{all, range, sumTo}
+use Rattle.lists.proofs.Tests.{and-false, and-left, and-right}
+use Rattle.lists.proofs.Range.{TestedTo, to-start, to-next, to-fails, to-done}
+use Rattle.signal.specs.Signal.{Node, Const, Input, Gated, inputNode, gateNode}
+use Rattle.signal.specs.Cell.{nodeOf, sigOf, inputNumber, gateNumber}
+use Rattle.signal.proofs.Cells.{input-number, gate-number}
+use Rattle.gates.specs.Forms.{kindOf, kindTakes, gateFrom}
+use Rattle.gates.specs.Decode.{decodedIn, withPins}
+use Rattle.gates.specs.declared.Kind.{Kind}
+use Rattle.gates.specs.declared.Decoded.{Decoded}
+use Rattle.gates.proofs.Decode.{RunAt, decode-is}
+use Rattle.network.specs.Cells.{gateWidth, formAt, firstAt, countAt, runAt, CellIs, gateAt, sizesFit, startAt, recordFits, recordsFit, validNode, allValid, lent, isNetwork}
+use Rattle.network.specs.declared.Counts.{Counts}
+
+-- ---- valid signals
+
+module _ (inputs gates c : ℕ) where
+  pub valid-input : inputNode (nodeOf c) ≡ true → ltb (inputNumber c) inputs ≡ validNode inputs gates (nodeOf c)
+  valid-input t = sym (ap (validNode inputs gates) (input-number c t))
+
+  pub valid-gate : gateNode (nodeOf c) ≡ true → ltb (gateNumber c) gates ≡ validNode inputs gates (nodeOf c)
+  valid-gate t = sym (ap (validNode inputs gates) (gate-number c t))
+
+  pub valid-const : inputNode (nodeOf c) ≡ false → gateNode (nodeOf c) ≡ false → true ≡ validNode inputs gates (nodeOf c)
+  valid-const p q = go (nodeOf c) p q
+    where
+      go : (n : Node) → inputNode n ≡ false → gateNode n ≡ false → true ≡ validNode inputs gates n
+      go Const a b = refl
+      go (Input i) a b = absurd (true≢false a)
+      go (Gated g) a b = absurd (true≢false b)
+
+-- ---- sizes
+
+module _ (n : Counts) (gs ps os : ℕ) where
+  pub over-inputs : 256 < n .inputs → false ≡ sizesFit n gs ps os
+  unfolding sizesFit
+  over-inputs h = sym (simp (lt-leb (n .inputs) 256 h))
+
+  pub over-gates : 1024 < n .gates → false ≡ sizesFit n gs ps os
+  unfolding sizesFit
+  over-gates h = sym (simp (lt-leb (n .gates) 1024 h, and-false))
+
+  pub over-pins : 16384 < n .pins → false ≡ sizesFit n gs ps os
+  unfolding sizesFit
+  over-pins h = sym (simp (lt-leb (n .pins) 16384 h, and-false))
+
+  pub over-outputs : 256 < n .outputs → false ≡ sizesFit n gs ps os
+  unfolding sizesFit
+  over-outputs h = sym (simp (lt-leb (n .outputs) 256 h, and-false))
+
+  pub over-gate-cells : gs < n .gates * 3 → false ≡ sizesFit n gs ps os
+  unfolding sizesFit
+  over-gate-cells h = sym (simp (lt-leb (n .gates * 3) gs h, and-false))
+
+  pub over-pin-cells : ps < n .pins → false ≡ sizesFit n gs ps os
+  unfolding sizesFit
+  over-pin-cells h = sym (simp (lt-leb (n .pins) ps h, and-false))
+
+  pub within-sizes : n .inputs ≤ 256 → n .gates ≤ 1024 → n .pins ≤ 16384 → n .outputs ≤ 256 → n .gates * 3 ≤ gs → n .pins ≤ ps
+      → leb (n .outputs) os ≡ sizesFit n gs ps os
+  unfolding sizesFit
+  within-sizes a b c d e f =
+      sym (simp (le-leb (n .inputs) 256 a, le-leb (n .gates) 1024 b, le-leb (n .pins) 16384 c, le-leb (n .outputs) 256 d, le-leb (n .gates * 3) gs e, le-leb (n .pins) ps f))
+
+pub ruleset sizes = (over-inputs, over-gates, over-pins, over-outputs, over-gate-cells, over-pin-cells, within-sizes)
+
+-- ---- records
+
+module _ (cells : List ℕ) (g : ℕ) where
+  -- the kind and the count that the code read
+  pub takes-is : {f m : ℕ} {k : Kind} {b : Bool} → f ≡ formAt cells g → k ≡ kindOf f → CellIs (countAt cells g) m → b ≡ kindTakes k m
+      → b ≡ kindTakes (kindOf (formAt cells g)) (countAt cells g)
+  takes-is p q r e = e ∙ ap₂ kindTakes (q ∙ ap kindOf p) (r .cell)
+
+  pub form-refused : kindTakes (kindOf (formAt cells g)) (countAt cells g) ≡ false → false ≡ recordFits cells g
+  form-refused t = rw t
+
+  pub form-taken : {at first : ℕ} → kindTakes (kindOf (formAt cells g)) (countAt cells g) ≡ true → CellIs (firstAt cells g) first → at ≡ startAt cells g
+      → eqb first at ≡ recordFits cells g
+  form-taken t r e = rw t (ap₂ eqb (r .cell) e)
+
+-- the records below g fit, and their runs end at `at`
+pub record Following (cells : List ℕ) (n at g : ℕ) : Type 0 where
+  pub few : n ≤ 1024
+  pub inside : n * 3 ≤ length cells
+  pub start : at ≡ startAt cells g
+  pub bound : at ≤ g * 4294967295
+  pub fit : TestedTo (recordFits cells) n g
+
+pub following-start : {cells : List ℕ} (n : ℕ) → n ≤ 1024 → n * 3 ≤ length cells → Following cells n 0 0
+following-start n h k = record { few = h; inside = k; start = refl; bound = omega arith; fit = to-start }
+
+module _ {cells : List ℕ} {n at g : ℕ} (c : Following cells n at g) where
+  pub following-next : {m : ℕ} → g < n → recordFits cells g ≡ true → CellIs (countAt cells g) m → Following cells n (at + m) (g + 1)
+  following-next h t w =
+      record {
+        few = c .few;
+        inside = c .inside;
+        start = rw add-one (ap₂ _+_ (c .start) (w .cell));
+        bound = omega (arith, c .bound, w .low);
+        fit = to-next (c .fit) h t;
+      }
+
+  pub following-fails : (p : ℕ) → g < n → recordFits cells g ≡ false → false ≡ recordsFit cells n p
+  unfolding recordsFit
+  following-fails p h t = rw (sym (to-fails (c .fit) h t))
+
+  pub following-ends : (p : ℕ) → n ≤ g → eqb at p ≡ recordsFit cells n p
+  unfolding recordsFit
+  following-ends p h =
+      let e : g ≡ n = omega (arith, c .fit .within) in
+      rw (sym (to-done (c .fit) h)) (ap (λ (x : ℕ). eqb x p) (c .start ∙ ap (startAt cells) e))
+
+-- ---- one gate
+
+module _ (cells pins : List ℕ) (g : ℕ) where
+  pub no-record : length cells / 3 ≤ g → none ≡ gateAt cells pins g
+  unfolding gateAt
+  no-record h = rw (le-ltb (g * 3 + 2) (length cells) (omega arith))
+
+  module _ {first count : ℕ} (f : CellIs (firstAt cells g) first) (c : CellIs (countAt cells g) count) where
+    end-is : firstAt cells g + countAt cells g ≡ first + count
+    end-is = sym (ap₂ _+_ (f .cell) (c .cell))
+
+    pub no-run : length pins < first + count → none ≡ gateAt cells pins g
+    unfolding gateAt
+    no-run h = rw (lt-leb (firstAt cells g + countAt cells g) (length pins) (omega (arith, end-is)), and-false (ltb (g * 3 + 2) (length cells)))
+
+    -- the run from the first pin to the end, as the code cuts it
+    cut-run : take (first + count - first) (drop first pins) ≡ runAt cells pins g
+    cut-run =
+        let k : first + count - first ≡ count = omega arith in
+        ap (λ (m : ℕ). take m (drop first pins)) k ∙ ap₂ (λ (m i : ℕ). take m (drop i pins)) (c .cell) (f .cell)
+
+    run-at : first + count ≤ length pins → RunAt pins (firstAt cells g) (runAt cells pins g)
+    run-at h =
+        let k : length (runAt cells pins g) ≡ countAt cells g =
+        length-take-le (countAt cells g) (drop (firstAt cells g) pins) (rw (length-drop (firstAt cells g) pins) (omega (arith, end-is))) in
+        ap (λ (m : ℕ). take m (drop (firstAt cells g) pins)) k
+
+    pub gate-read : {form : ℕ} {k : Kind} {d : Decoded} → g < length cells / 3 → first + count ≤ length pins → form ≡ formAt cells g → k ≡ kindOf form
+        → d ≡ withPins k first (take (first + count - first) (drop first pins)) → decodedIn d pins ≡ gateAt cells pins g
+    unfolding gateAt
+    gate-read h l p q e =
+        ap (λ (x : Decoded). decodedIn x pins) (e ∙ (λ i. withPins ((q ∙ ap kindOf p) i) (f .cell i) (cut-run i)))
+        ∙ decode-is pins (firstAt cells g) (runAt cells pins g) (run-at l) (formAt cells g)
+        ∙ sym (rw (lt-ltb (g * 3 + 2) (length cells) (omega arith), le-leb (firstAt cells g + countAt cells g) (length pins) (omega (arith, end-is))))
+
+-- ---- all of refusal 20
+
+-- what the size test gives
+pub record Sizes (n : Counts) (gs ps os : ℕ) : Type 0 where
+  pub few-inputs : n .inputs ≤ 256
+  pub few-gates : n .gates ≤ 1024
+  pub few-pins : n .pins ≤ 16384
+  pub few-outputs : n .outputs ≤ 256
+  pub gates-lent : n .gates * 3 ≤ gs
+  pub pins-lent : n .pins ≤ ps
+  pub outs-lent : n .outputs ≤ os
+
+pub sizes-give : {n : Counts} {gs ps os : ℕ} → sizesFit n gs ps os ≡ true → Sizes n gs ps os
+unfolding sizesFit
+sizes-give {n} {gs} {ps} {os} e =
+    record {
+      few-inputs = leb-true (n .inputs) 256 (search (and-left, and-right) depth 8);
+      few-gates = leb-true (n .gates) 1024 (search (and-left, and-right) depth 8);
+      few-pins = leb-true (n .pins) 16384 (search (and-left, and-right) depth 8);
+      few-outputs = leb-true (n .outputs) 256 (search (and-left, and-right) depth 8);
+      gates-lent = leb-true (n .gates * 3) gs (search (and-left, and-right) depth 8);
+      pins-lent = leb-true (n .pins) ps (search (and-left, and-right) depth 8);
+      outs-lent = leb-true (n .outputs) os (search (and-left, and-right) depth 8);
+    }
+
+module _ (n : Counts) (cells pins outs : List ℕ) where
+  -- the four tests of `isNetwork`
+  abbrev pub Fit : Bool → Type 0
+  Fit b = b ≡ sizesFit n (length cells) (length pins) (length outs)
+
+  abbrev pub Recorded : Bool → Type 0
+  Recorded b = b ≡ recordsFit cells (n .gates) (n .pins)
+
+  abbrev pub PinsGood : Bool → Type 0
+  PinsGood b = b ≡ allValid (n .inputs) (n .gates) (take (n .pins) pins)
+
+  abbrev pub OutsGood : Bool → Type 0
+  OutsGood b = b ≡ allValid (n .inputs) (n .gates) (take (n .outputs) outs)
+
+  pub no-sizes : Fit false → false ≡ isNetwork (lent n cells pins outs)
+  unfolding isNetwork
+  no-sizes e = rw (sym e)
+
+  pub no-records : Recorded false → false ≡ isNetwork (lent n cells pins outs)
+  unfolding isNetwork
+  no-records e = sym (simp (sym e, and-false))
+
+  pub no-pins : PinsGood false → false ≡ isNetwork (lent n cells pins outs)
+  unfolding isNetwork
+  no-pins e = sym (simp (sym e, and-false))
+
+  pub network-is : {b : Bool} → Fit true → Recorded true → PinsGood true → OutsGood b → b ≡ isNetwork (lent n cells pins outs)
+  unfolding isNetwork
+  network-is p q r s = s ∙ sym (simp (sym p, sym q, sym r))

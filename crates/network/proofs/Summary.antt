@@ -1,0 +1,37 @@
+-- The network's theorems, as a reviewer would read them. Assumes nothing.
+use mathlib.Core.Path.{_≡_, refl, sym, subst}
+use mathlib.Core.Bool.{Bool}
+use mathlib.Core.List.{List}
+use mathlib.Core.Logic.{_↔_}
+use Prim.Native.Nat.{ℕ, _<_}
+use lib.ListN.{length}
+use Rattle.network.specs.Net.{Net, Valid, Loop}
+use Rattle.network.specs.Clock.{Fits, Clock, Runs}
+use Rattle.network.specs.Settle.{settle, runFrom}
+use Rattle.network.specs.Renumber.{Renumbered}
+use Rattle.network.proofs.OneChoice.{ranked, settle-fits, fits-unique, run-is, runs-unique}
+use Rattle.network.proofs.Renumbering.{renumbered-same}
+
+-- "without a loop just one choice fits": `settle` fits, and whatever fits is `settle` on every gate, for any row and any held bits
+pub one-choice : (net : Net) → Valid net → (Loop net → ⊥) → (row : List Bool) (held : ℕ → Bool)
+    → Fits net row held (settle net row held)
+    × ((bits : ℕ → Bool) → Fits net row held bits → (g : ℕ) → g < length (net .gates) → bits g ≡ settle net row held g)
+one-choice net valid free row held = (
+  settle-fits net (ranked net free) row held,
+  λ bits f. fits-unique net valid (ranked net free) row held held bits (settle net row held) (λ g u. refl) f (settle-fits net (ranked net free) row held),
+)
+
+-- and for every list of rows, the empty one too, there is just one list of outputs, from any held bits
+pub one-run : (net : Net) → Valid net → (Loop net → ⊥) → (held : ℕ → Bool) (rows outs : List (List Bool))
+    → Runs (Clock net) held rows outs ↔ (outs ≡ runFrom net held rows)
+one-run net valid free held rows outs = (
+  (λ r. runs-unique net valid (ranked net free) held held rows outs (runFrom net held rows) (λ g u. refl) r (run-is net valid (ranked net free) rows held)),
+  (λ e. subst (Runs (Clock net) held rows) (sym e) (run-is net valid (ranked net free) rows held)),
+)
+
+-- a network whose gates are those of another, renumbered, with some left out or none, gives the same outputs at every clock for every
+-- list of rows, each gate starting at the bit that it held under its old number
+pub renumbered-runs : (old new : Net) (π order : ℕ → ℕ) → Renumbered old new π order → Valid old → (Loop old → ⊥)
+    → (held : ℕ → Bool) (rows : List (List Bool)) → runFrom new (λ g. held (order g)) rows ≡ runFrom old held rows
+renumbered-runs old new π order ren valid free held rows =
+    renumbered-same old new π order ren valid free held (λ g. held (order g)) (λ i x e. refl) rows

@@ -1,0 +1,66 @@
+-- `check_layout` makes the four tests in order. Assumes nothing.
+use mathlib.Core.Path.{sym, _∙_}
+use lib.Seq.{length-take-le}
+use borrow.Author.Tests.{not-true, not-false}
+use Rattle.network.proofs.Records.{sizes-give, no-sizes, no-records, no-pins, network-is}
+use borrow.Author.Needs.{needs}
+use Rattle.network.proofs.check_layout.Statement.{statement}
+use Rattle.network.proofs.check_layout.Tie as tie
+use Rattle.network.proofs.check_layout.Reads as reads
+use Rattle.network.proofs.check_layout.Lts as lts
+use Rattle.network.proofs.all_valid.Reads as all-valid-reads
+use Rattle.network.proofs.records_fit.Reads as records-fit-reads
+use Rattle.network.proofs.sizes_fit.Reads as sizes-fit-reads
+
+sizes-fit-requires : tie.Need-sizes-fit-requires
+sizes-fit-requires c κs = search needs
+
+returns : tie.Need-returns
+returns c = no-sizes _ _ _ _ (sym (not-true _ (c .if1 .taken)) ∙ c .before .sizes-fit .ensures)
+
+records-fit-requires : tie.Need-records-fit-requires
+records-fit-requires c κs =
+    let s = sizes-give (sym (c .before .sizes-fit .ensures) ∙ not-false _ (c .if1 .left)) in
+    (s .few-gates, s .gates-lent)
+
+returns-2 : tie.Need-returns-2
+returns-2 c = no-records _ _ _ _ (sym (not-true _ (c .if2 .taken)) ∙ c .before .records-fit .ensures)
+
+slice-aggregate-all-valid : tie.Need-slice-aggregate-all-valid
+slice-aggregate-all-valid c =
+    let s = sizes-give (sym (c .before .before .before .before .sizes-fit .ensures) ∙ not-false _ (c .before .before .before .if1 .left)) in
+    sym (length-take-le _ _ (s .pins-lent))
+
+all-valid-requires : tie.Need-all-valid-requires
+all-valid-requires c κs = search needs
+
+returns-3 : tie.Need-returns-3
+returns-3 c = no-pins _ _ _ _ (sym (not-true _ (c .if3 .taken)) ∙ c .before .all-valid .ensures)
+
+slice-aggregate-all-valid-2 : tie.Need-slice-aggregate-all-valid-2
+slice-aggregate-all-valid-2 c =
+    let s = sizes-give (sym (c .before .before .before .before .before .before .before .sizes-fit .ensures) ∙ not-false _ (c .before .before .before .before .before .before .if1 .left)) in
+    sym (length-take-le _ _ (s .outs-lent))
+
+all-valid-requires-2 : tie.Need-all-valid-requires-2
+all-valid-requires-2 c κs = search needs
+
+returns-4 : tie.Need-returns-4
+returns-4 c =
+    network-is _ _ _ _ (sym (not-false _ (c .before .before .before .before .before .before .before .if1 .left)) ∙ c .before .before .before .before .before .before .before .before .sizes-fit .ensures) (sym (not-false _ (c .before .before .before .before .before .if2 .left)) ∙ c .before .before .before .before .before .before .records-fit .ensures)
+    (sym (not-false _ (c .before .before .if3 .left)) ∙ c .before .before .before .all-valid .ensures) (c .all-valid2 .ensures)
+
+pub check-layout-spec : {M : Type 1} → statement M
+check-layout-spec =
+    tie.close
+    (tie.spec
+    sizes-fit-requires
+    returns
+    records-fit-requires
+    returns-2
+    slice-aggregate-all-valid
+    all-valid-requires
+    returns-3
+    slice-aggregate-all-valid-2
+    all-valid-requires-2
+    returns-4)

@@ -1,0 +1,32 @@
+-- A cell read and widened. Assumes nothing.
+use mathlib.Core.Path.{refl}
+use Prim.Native.Nat.{_+_, _*_}
+use native.Mathlib.Omega.{arith}
+use borrow.Author.Needs.{needs}
+use Rattle.network.proofs.count_at.Statement.{statement}
+use Rattle.network.proofs.count_at.Tie as tie
+use Rattle.network.proofs.count_at.Reads as reads
+use Rattle.network.proofs.count_at.Lts as lts
+
+mul-result : tie.Need-mul-result
+mul-result c = search needs
+
+add-result : tie.Need-add-result
+add-result c = search needs
+
+mul-result-2 : tie.Need-mul-result-2
+mul-result-2 c = search needs
+
+shared-slice-read-result : tie.Need-shared-slice-read-result
+shared-slice-read-result c = search needs
+
+cast-result : tie.Need-cast-result
+cast-result c = omega (arith, c .shared-slice-known .given (c .before .args .g * 3 + 2))
+
+returns : tie.Need-returns
+returns c = record { cell = refl; low = omega (arith, c .shared-slice-known .given (c .before .args .g * 3 + 2)) }
+
+pub count-at-spec : {M : Type 1} → statement M
+count-at-spec =
+    tie.close
+    (tie.spec mul-result add-result mul-result-2 shared-slice-read-result cast-result returns)

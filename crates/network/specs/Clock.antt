@@ -1,0 +1,58 @@
+-- A clock and a run (document 01, "A clock"). Assumes nothing: these are definitions.
+use mathlib.Core.Path.{_≡_}
+use mathlib.Core.Bool.{Bool, true, false, cond}
+use mathlib.Core.List.{List, [], _∷_, map}
+use Prim.Native.Nat.{ℕ}
+use lib.ListN.{getD}
+use Rattle.signal.specs.Signal.{Node, Const, Input, Gated, Signal, flip}
+use Rattle.gates.specs.Gate.{FlipFlop, Gate, Comb, Dff, formBit}
+use Rattle.network.specs.Net.{Net, GateIs}
+
+-- the bit of a node: "a row, a bit for each input in order", and the gates' bits
+abbrev pub nodeBit : List Bool → (ℕ → Bool) → Node → Bool
+nodeBit row bits Const = false
+nodeBit row bits (Input i) = getD row i false
+nodeBit row bits (Gated g) = bits g
+
+-- "Inversion turns a bit over"
+abbrev pub sigBit : List Bool → (ℕ → Bool) → Signal → Bool
+sigBit row bits s = flip (s .inv) (nodeBit row bits (s .node))
+
+-- "A flip-flop's bit is its held one, a combinational gate's what its form makes of its inputs' bits"
+abbrev pub gateBit : (Signal → Bool) → Bool → Gate → Bool
+gateBit σ h (Comb f ps) = formBit f (map σ ps)
+gateBit σ h (Dff s) = h
+
+-- a choice of bits fits the row and the held bits: each gate has the bit that it should
+abbrev pub Fits : Net → List Bool → (ℕ → Bool) → (ℕ → Bool) → Type 0
+Fits net row held bits = (g : ℕ) (x : Gate) → GateIs net g x → bits g ≡ gateBit (sigBit row bits) (held g) x
+
+-- "a reset of one gives zero, else an enable of one takes the data, else the value is held"
+abbrev pub stepBit : (Signal → Bool) → Bool → FlipFlop → Bool
+stepBit σ h s = cond (σ (s .reset)) false (cond (σ (s .enable)) (σ (s .dataIn)) h)
+
+-- "then all flip-flops step together"; "nothing else changes a held bit"
+abbrev pub nextBit : (Signal → Bool) → Bool → Gate → Bool
+nextBit σ h (Comb f ps) = h
+nextBit σ h (Dff s) = stepBit σ h s
+
+-- one clock, from held bits and a row to "the outputs' bits in order" and the bits held next
+pub record Clock (net : Net) (held : ℕ → Bool) (row out : List Bool) (next : ℕ → Bool) : Type 0 where
+  pub bits : ℕ → Bool
+  pub fits : Fits net row held bits
+  pub answers : out ≡ map (sigBit row bits) (net .outputs)
+  pub steps : (g : ℕ) (x : Gate) → GateIs net g x → next g ≡ nextBit (sigBit row bits) (held g) x
+
+-- a run of anything that ticks: "The next clock gets the next row and what this one left"
+pub data Runs {S : Type 0} (Tick : S → List Bool → List Bool → S → Type 0) : S → List (List Bool) → List (List Bool) → Type 0 where
+  done : {s : S} → Runs Tick s [] []
+  tick : {s t : S} {row out : List Bool} {rows outs : List (List Bool)}
+      → Tick s row out t → Runs Tick t rows outs → Runs Tick s (row ∷ rows) (out ∷ outs)
+
+-- all flip-flops at zero
+abbrev pub zeroBits : ℕ → Bool
+zeroBits g = false
+
+-- the outputs that the network gives for these rows from zero, a row for each clock
+abbrev pub NetRuns : Net → List (List Bool) → List (List Bool) → Type 0
+NetRuns net rows outs = Runs (Clock net) zeroBits rows outs

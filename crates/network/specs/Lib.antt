@@ -1,0 +1,5 @@
+pub mod Net
+pub mod Clock
+pub mod Settle
+pub mod Renumber
+pub mod Cells

@@ -1,0 +1,56 @@
+-- Networks, valid signals and combinational loops (document 01, src/network/network.rs). Assumes nothing: these are definitions.
+use mathlib.Core.Path.{_≡_}
+use mathlib.Core.Bool.{Bool, true}
+use mathlib.Core.List.{List, List·Memᴰ}
+use mathlib.Core.Option.{some}
+use Prim.Native.Nat.{ℕ, _<_}
+use lib.ListN.{length, getElem?}
+use Rattle.signal.specs.Signal.{Node, Const, Input, Gated, Signal}
+use Rattle.gates.specs.Gate.{Form, Gate, Comb, pins}
+use Rattle.gates.specs.Forms.{formed}
+
+-- a network: how many inputs, the gates by their numbers, the outputs in order
+pub record Net : Type 0 where
+  pub inputs : ℕ
+  pub gates : List Gate
+  pub outputs : List Signal
+
+-- gate g of the network is x
+abbrev pub GateIs : Net → ℕ → Gate → Type 0
+GateIs net g x = getElem? (net .gates) g ≡ some x
+
+-- `is_valid`: "an input below the input count, a gate number below the gate count, or a constant"
+abbrev pub ValidNode : Net → Node → Type 0
+ValidNode net Const = Unit {0}
+ValidNode net (Input i) = i < net .inputs
+ValidNode net (Gated g) = g < length (net .gates)
+
+-- every input of a gate and every output is valid
+pub record Valid (net : Net) : Type 0 where
+  pub pinsValid : (g : ℕ) (x : Gate) (s : Signal) → GateIs net g x → List·Memᴰ s (pins x) → ValidNode net (s .node)
+  pub outsValid : (s : Signal) → List·Memᴰ s (net .outputs) → ValidNode net (s .node)
+
+-- every gate has as many inputs as its form can have
+abbrev pub Formed : Net → Type 0
+Formed net = (g : ℕ) (x : Gate) → GateIs net g x → formed x ≡ true
+
+-- combinational gate a is an input of combinational gate b
+pub record Feeds (net : Net) (a b : ℕ) : Type 0 where
+  pub formA : Form
+  pub pinsA : List Signal
+  pub isA : GateIs net a (Comb formA pinsA)
+  pub formB : Form
+  pub pinsB : List Signal
+  pub isB : GateIs net b (Comb formB pinsB)
+  pub by : Signal
+  pub among : List·Memᴰ by pinsB
+  pub points : by .node ≡ Gated a
+
+-- a way of one or more steps, each gate "an input of the next"
+pub data Way (net : Net) : ℕ → ℕ → Type 0 where
+  last : {a b : ℕ} → Feeds net a b → Way net a b
+  more : {a b c : ℕ} → Feeds net a b → Way net b c → Way net a c
+
+-- "A combinational loop is a ring of one or more combinational gates, each an input of the next"
+abbrev pub Loop : Net → Type 0
+Loop net = (g : ℕ) × Way net g g

@@ -1,0 +1,71 @@
+-- A network with its gates in another order, or with some left out (document 01, src/network/network.rs: `remap`). Assumes nothing:
+-- these are definitions.
+use mathlib.Core.Path.{_≡_}
+use mathlib.Core.List.{List, [], map, List·Memᴰ}
+use mathlib.Core.Option.{Option, none, some}
+use Prim.Native.Nat.{ℕ, _<_}
+use native.Mathlib.Decide.{ℕ-discrete}
+use lib.ListN.{length, getD}
+use Rattle.lists.specs.Lists.{find}
+use Rattle.signal.specs.Signal.{Node, Const, Input, Gated, Signal, remap}
+use Rattle.gates.specs.Gate.{Buf, FlipFlop, Gate, Comb, Dff, pins}
+use Rattle.network.specs.Net.{Net, GateIs}
+
+-- a flip-flop's signals renumbered
+abbrev pub remapFlop : (ℕ → ℕ) → FlipFlop → FlipFlop
+remapFlop π s = record { dataIn = remap π (s .dataIn); enable = remap π (s .enable); reset = remap π (s .reset) }
+
+-- a gate with its inputs renumbered: gate g is π g now
+abbrev pub remapGate : (ℕ → ℕ) → Gate → Gate
+remapGate π (Comb f ps) = Comb f (map (remap π) ps)
+remapGate π (Dff s) = Dff (remapFlop π s)
+
+-- the node is kept among n gates: a gate has a new number, which leads back to it
+abbrev pub Kept : ℕ → (ℕ → ℕ) → (ℕ → ℕ) → Node → Type 0
+Kept n π order Const = Unit {0}
+Kept n π order (Input i) = Unit {0}
+Kept n π order (Gated g) = (π g < n) × (order (π g) ≡ g)
+
+-- gate i of the new network is gate `order i` of the old one, its inputs renumbered
+pub record From (old : Net) (n : ℕ) (π order : ℕ → ℕ) (i : ℕ) (x : Gate) : Type 0 where
+  pub was : Gate
+  pub wasAt : GateIs old (order i) was
+  pub renamed : x ≡ remapGate π was
+  pub kept : (s : Signal) → List·Memᴰ s (pins was) → Kept n π order (s .node)
+
+-- every gate of the new network is one of the old, renumbered, and what its gates and outputs use is there:
+-- `order` is the old number of a new gate, `π` the new number of an old one
+pub record Renumbered (old new : Net) (π order : ℕ → ℕ) : Type 0 where
+  pub sameInputs : new .inputs ≡ old .inputs
+  pub gatesFrom : (i : ℕ) (x : Gate) → GateIs new i x → From old (length (new .gates)) π order i x
+  pub sameOutputs : new .outputs ≡ map (remap π) (old .outputs)
+  pub outputsKept : (s : Signal) → List·Memᴰ s (old .outputs) → Kept (length (new .gates)) π order (s .node)
+
+-- ---- a new order as the list of old numbers
+
+-- the place found, or 0
+abbrev pub orZero : Option ℕ → ℕ
+orZero none = 0
+orZero (some i) = i
+
+-- the new number of old gate g: its place in the order
+abbrev pub placeOf : List ℕ → ℕ → ℕ
+placeOf l g = orZero (find ℕ-discrete l g)
+
+-- gate g of the network, where there is one
+abbrev pub gateOr : Net → ℕ → Gate
+gateOr net g = getD (net .gates) g (Comb Buf [])
+
+-- the network with its gates in this order, gate inputs and outputs renumbered
+abbrev pub permuted : List ℕ → Net → Net
+permuted l net =
+    record {
+      inputs = net .inputs;
+      gates = map (λ (o : ℕ). remapGate (placeOf l) (gateOr net o)) l;
+      outputs = map (remap (placeOf l)) (net .outputs);
+    }
+
+-- the list holds every gate's number, and no other
+pub record Orders (n : ℕ) (l : List ℕ) : Type 0 where
+  pub every : (g : ℕ) → g < n → List·Memᴰ g l
+  pub only : (g : ℕ) → List·Memᴰ g l → g < n

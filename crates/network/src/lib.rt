@@ -1,0 +1,168 @@
+// Networks in lent cells: valid signals, the layout that refusal 20 asks for, and one gate read out of the cells
+// (Quaigh's src/network/network.rs).
+use gates::Decoded;
+use signal::Signal;
+ghost use mathlib.Core.Path.{_≡_};
+ghost use Prim.Native.Nat.{_+_, _*_, _≤_, _<_};
+ghost use lib.ListN.{length};
+ghost use Rattle.signal.specs.Cell.{nodeOf};
+ghost use Rattle.gates.specs.Decode.{decodedIn};
+ghost use Rattle.network.specs.Cells.{gateWidth, maxGates, formAt, firstAt, countAt, gateAt, CellIs, lent, sizesFit, startAt, recordFits, recordsFit, validNode, allValid, isNetwork};
+
+pub const MAX_INPUTS: usize = 256;
+
+pub const MAX_OUTPUTS: usize = 256;
+
+pub const MAX_GATES: usize = 1024;
+
+pub const MAX_PINS: usize = 16384;
+
+// The cells of a gate's record: form number, first pin, pin count.
+pub const GATE_CELLS: usize = 3;
+
+// How many inputs, gates, pins and outputs a network has.
+pub struct Counts {
+    pub inputs: usize,
+    pub gates: usize,
+    pub pins: usize,
+    pub outputs: usize,
+}
+
+// Whether a signal is an input below the input count, a gate below the gate count, or a constant.
+pub fn is_valid(inputs: usize, gates: usize, s: Signal) -> bool
+    ensures { λ r. ⌜ r ≡ validNode inputs gates (nodeOf (s .a)) ⌝ }
+{
+    if s.is_input() {
+        return (s.input() as usize) < inputs;
+    }
+    if s.is_var() {
+        return (s.var() as usize) < gates;
+    }
+    true
+}
+
+// Whether every cell holds a valid signal.
+pub fn all_valid(inputs: usize, gates: usize, cells: &[u32]) -> bool
+    ensures { λ r. ⌜ r ≡ allValid inputs gates (now (cells .entry)) ⌝ }
+{
+    let mut i = 0;
+    while i < cells.len() {
+        if !is_valid(inputs, gates, Signal { a: cells[i] }) {
+            return false;
+        }
+        i += 1;
+    }
+    true
+}
+
+// Whether the counts are within the limits and within slices of these lengths.
+pub fn sizes_fit(counts: Counts, gates: usize, pins: usize, outputs: usize) -> bool
+    ensures { λ r. ⌜ r ≡ sizesFit counts gates pins outputs ⌝ }
+{
+    if counts.inputs > MAX_INPUTS {
+        return false;
+    }
+    if counts.gates > MAX_GATES {
+        return false;
+    }
+    if counts.pins > MAX_PINS {
+        return false;
+    }
+    if counts.outputs > MAX_OUTPUTS {
+        return false;
+    }
+    if counts.gates * GATE_CELLS > gates {
+        return false;
+    }
+    if counts.pins > pins {
+        return false;
+    }
+    counts.outputs <= outputs
+}
+
+// Gate g's form number.
+pub fn form_at(gates: &[u32], g: usize) -> u32
+    requires { ⌜ g * gateWidth + 2 < length (now gates) ⌝ }
+    ensures { λ r. ⌜ r ≡ formAt (now (gates .entry)) g ⌝ }
+{
+    gates[g * GATE_CELLS]
+}
+
+// Gate g's first pin.
+pub fn first_at(gates: &[u32], g: usize) -> usize
+    requires { ⌜ g * gateWidth + 2 < length (now gates) ⌝ }
+    ensures { λ r. ⌜ CellIs (firstAt (now (gates .entry)) g) r ⌝ }
+{
+    gates[g * GATE_CELLS + 1] as usize
+}
+
+// Gate g's pin count.
+pub fn count_at(gates: &[u32], g: usize) -> usize
+    requires { ⌜ g * gateWidth + 2 < length (now gates) ⌝ }
+    ensures { λ r. ⌜ CellIs (countAt (now (gates .entry)) g) r ⌝ }
+{
+    gates[g * GATE_CELLS + 2] as usize
+}
+
+// Whether gate g has a known form, a pin count that it can have, and its pins from cell at on.
+fn record_fits(gates: &[u32], g: usize, at: usize) -> bool
+    requires { ⌜ (g * gateWidth + 2 < length (now gates)) × (at ≡ startAt (now gates) g) ⌝ }
+    ensures { λ r. ⌜ r ≡ recordFits (now (gates .entry)) g ⌝ }
+{
+    let kind = gates::kind_of(form_at(gates, g));
+    if !kind.takes(count_at(gates, g)) {
+        return false;
+    }
+    first_at(gates, g) == at
+}
+
+// Whether n gates' records fit, and their runs follow each other and end at pin p.
+fn records_fit(gates: &[u32], n: usize, p: usize) -> bool
+    requires { ⌜ (n ≤ maxGates) × (n * gateWidth ≤ length (now gates)) ⌝ }
+    ensures { λ r. ⌜ r ≡ recordsFit (now (gates .entry)) n p ⌝ }
+{
+    let mut at = 0;
+    let mut g = 0;
+    while g < n {
+        if !record_fits(gates, g, at) {
+            return false;
+        }
+        at += count_at(gates, g);
+        g += 1;
+    }
+    at == p
+}
+
+// Whether the lent cells are a network: what refusal 20 asks.
+pub fn check_layout(counts: Counts, gates: &[u32], pins: &[u32], outputs: &[u32]) -> bool
+    ensures { λ r. ⌜ r ≡ isNetwork (lent counts (now (gates .entry)) (now (pins .entry)) (now (outputs .entry))) ⌝ }
+{
+    if !sizes_fit(counts, gates.len(), pins.len(), outputs.len()) {
+        return false;
+    }
+    let n = counts.gates;
+    let p = counts.pins;
+    let o = counts.outputs;
+    if !records_fit(gates, n, p) {
+        return false;
+    }
+    if !all_valid(counts.inputs, n, &pins[..p]) {
+        return false;
+    }
+    all_valid(counts.inputs, n, &outputs[..o])
+}
+
+// Gate g of the cells.
+pub fn gate_at(gates: &[u32], pins: &[u32], g: usize) -> Decoded
+    ensures { λ r. ⌜ decodedIn r (now (pins .entry)) ≡ gateAt (now (gates .entry)) (now (pins .entry)) g ⌝ }
+{
+    if g >= gates.len() / GATE_CELLS {
+        return Decoded::Bad;
+    }
+    let first = first_at(gates, g);
+    let end = first + count_at(gates, g);
+    if end > pins.len() {
+        return Decoded::Bad;
+    }
+    gates::kind_of(form_at(gates, g)).with_pins(first, &pins[first..end])
+}
