@@ -1,7 +1,7 @@
 -- Lists, as every layer above uses them. Assumes nothing: these are definitions.
 use mathlib.Core.Path.{_≡_}
 use mathlib.Core.Bool.{Bool, true, false, _&&_, cond}
-use mathlib.Core.List.{List, [], _∷_, List·Memᴰ}
+use mathlib.Core.List.{List, [], _∷_, _++_, List·Memᴰ}
 use mathlib.Core.Option.{Option, none, some}
 use Prim.Native.Nat.{ℕ, zero, suc, _+_}
 use lib.Dec.{eqb}
@@ -36,6 +36,26 @@ range n (suc k) = n ∷ range (suc n) k
 abbrev pub sumTo : ℕ → (ℕ → ℕ) → ℕ
 sumTo zero f = 0
 sumTo (suc k) f = sumTo k f + f k
+
+-- f 0, f 1, .., f (k - 1)
+abbrev pub listTo : ℕ → (ℕ → ℕ) → List ℕ
+listTo zero f = []
+listTo (suc k) f = listTo k f ++ f k ∷ []
+
+-- 1 where the two numbers are the same, else 0
+unfoldable pub hit : ℕ → ℕ → ℕ
+hit v x = cond (eqb v x) 1 0
+
+-- how often v stands in the list
+abbrev pub occ : ℕ → List ℕ → ℕ
+occ v [] = 0
+occ v (x ∷ l) = hit v x + occ v l
+
+-- the list t laid over the front of o, cut where o ends: what a function that fills a slice from its front leaves of it
+abbrev pub over : List ℕ → List ℕ → List ℕ
+over [] o = o
+over (x ∷ t) [] = []
+over (x ∷ t) (y ∷ o) = x ∷ over t o
 
 -- an element stands again further on: "a name is defined twice"
 pub data Dup {A : Type 0} : List A → Type 0 where
