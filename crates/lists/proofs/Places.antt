@@ -111,6 +111,9 @@ module _ {A : Type 0} where
       let q : getElem? l (n + i) ≡ some x = sym (place-drop n l i) ∙ place-take k (drop n l) i x (t .1) in
       place-mem (take m l) (n + i) x (take-place m l (n + i) (omega arith) ∙ q)
 
+  pub mem-take : (n : ℕ) (l : List A) (x : A) → List·Memᴰ x (take n l) → List·Memᴰ x l
+  mem-take n l x m = let t = mem-place (take n l) x m in place-mem l (t .0) x (place-take n l (t .0) x (t .1))
+
   -- what holds of each place holds of each element
   pub mem-getD : (d : A) (P : A → Type 0) (l : List A) → ((i : ℕ) → P (getD l i d)) → (x : A) → List·Memᴰ x l → P x
   mem-getD d P l h x m = let t = mem-place l x m in subst P (getD-place d l (t .0) x (t .1)) (h (t .0))
