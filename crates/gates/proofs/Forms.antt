@@ -154,3 +154,43 @@ gate-from n ps g e = ⊎-elim small large (le-or-lt n 14)
     large h =
         let q : none ≡ some g = sym (ap (λ (k : Kind). gateOfKind k ps) (number-unknown n h)) ∙ e in
         absurd (let z : _≡_ {A = ℕ} 0 1 = cc in omega arith)
+
+-- a kind and as many pins as it can have give a gate
+comb-made : (f : Form) (ps : List Signal) → canHave f (length ps) ≡ true → (x : Gate) × (combFrom f ps ≡ some x)
+comb-made f ps t = (Comb f ps, rw t)
+
+flop-made : (ps : List Signal) → length ps ≡ 3 → (x : Gate) × (flopFrom ps ≡ some x)
+flop-made [] e = absurd (omega arith)
+flop-made (d ∷ []) e = absurd (omega arith)
+flop-made (d ∷ n ∷ []) e = absurd (omega arith)
+flop-made (d ∷ n ∷ r ∷ []) e = (Dff (record { dataIn = d; enable = n; reset = r }), refl)
+flop-made (d ∷ n ∷ r ∷ s ∷ ps) e = absurd (omega arith)
+
+kind-made : (k : Kind) (ps : List Signal) → kindTakes k (length ps) ≡ true → (x : Gate) × (gateOfKind k ps ≡ some x)
+kind-made (K.Binary t) ps h = comb-made (binaryForm t) ps h
+kind-made (K.Ternary t) ps h = comb-made (ternaryForm t) ps h
+kind-made (K.Nary t) ps h = comb-made (naryForm t) ps h
+kind-made K.Buf ps h = comb-made Buf ps h
+kind-made K.Dff ps h = flop-made ps (eqb-true (length ps) 3 h)
+kind-made K.Unknown ps h = absurd (false≢true h)
+
+pub gate-made : (n : ℕ) (ps : List Signal) → kindTakes (kindOf n) (length ps) ≡ true → (x : Gate) × (gateFrom n ps ≡ some x)
+unfolding gateFrom
+gate-made n ps h = kind-made (kindOf n) ps h
+
+-- the pin counts that the kind of a gate's number takes are those that its form can have
+pub takes-formed : (x : Gate) → kindTakes (kindOf (formCell x)) (length (pins x)) ≡ formed x
+takes-formed (Dff s) = refl
+takes-formed (Comb And2 ps) = refl
+takes-formed (Comb Xor2 ps) = refl
+takes-formed (Comb And3 ps) = refl
+takes-formed (Comb Xor3 ps) = refl
+takes-formed (Comb Maj3 ps) = refl
+takes-formed (Comb Mux3 ps) = refl
+takes-formed (Comb AndN ps) = refl
+takes-formed (Comb OrN ps) = refl
+takes-formed (Comb NandN ps) = refl
+takes-formed (Comb NorN ps) = refl
+takes-formed (Comb XorN ps) = refl
+takes-formed (Comb XnorN ps) = refl
+takes-formed (Comb Buf ps) = refl

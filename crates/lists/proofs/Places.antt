@@ -1,12 +1,12 @@
 -- Elements by their place in a list. Assumes nothing.
-use mathlib.Core.Path.{_≡_, refl, sym, ap, ap₂, _∙_}
+use mathlib.Core.Path.{_≡_, refl, sym, ap, ap₂, _∙_, subst}
 use mathlib.Core.List.{List, [], _∷_, _++_, map, List·Memᴰ, List·Memᴰ·head, List·Memᴰ·tail}
 use mathlib.Core.Option.{Option, none, some}
 use mathlib.Core.Logic.{_⊎_, inl, inr}
 use Prim.Native.Nat.{ℕ, zero, suc, _+_, _≤_, _<_}
 use native.Mathlib.Omega.{arith}
 use native.Mathlib.Nat.{zero-add, add-zero, add-suc, suc-add}
-use lib.ListN.{length, getD, getElem?, length-map}
+use lib.ListN.{length, getD, getElem?, take, drop, length-map, length-take}
 
 module _ {A : Type 0} where
   pub place-lt : (l : List A) (n : ℕ) (x : A) → getElem? l n ≡ some x → n < length l
@@ -80,3 +80,40 @@ module _ {A : Type 0} where
   ext-place (x ∷ l) (y ∷ m) e h =
       let q : some y ≡ some x = h 0 x refl in
       ap₂ (λ (a : A) (r : List A). a ∷ r) (cc) (ext-place l m (omega arith) (λ i z p. h (suc i) z p))
+
+-- ---- cut lists
+
+module _ {A : Type 0} where
+  pub place-take : (n : ℕ) (l : List A) (i : ℕ) (x : A) → getElem? (take n l) i ≡ some x → getElem? l i ≡ some x
+  place-take zero l i x e = absurd (let z : _≡_ {A = ℕ} 0 1 = cc in omega arith)
+  place-take (suc n) [] i x e = e
+  place-take (suc n) (y ∷ l) zero x e = e
+  place-take (suc n) (y ∷ l) (suc i) x e = place-take n l i x e
+
+  pub take-place : (n : ℕ) (l : List A) (i : ℕ) → i < n → getElem? (take n l) i ≡ getElem? l i
+  take-place zero l i h = absurd (omega arith)
+  take-place (suc n) [] i h = refl
+  take-place (suc n) (y ∷ l) zero h = refl
+  take-place (suc n) (y ∷ l) (suc i) h = take-place n l i (omega arith)
+
+  pub place-drop : (n : ℕ) (l : List A) (i : ℕ) → getElem? (drop n l) i ≡ getElem? l (n + i)
+  place-drop zero l i = rw zero-add
+  place-drop (suc n) [] i = refl
+  place-drop (suc n) (y ∷ l) i = rw (suc-add n i) (place-drop n l i)
+
+  -- what stands in a run of the list stands in its front, where that reaches the run's end
+  pub mem-run : (n k m : ℕ) (l : List A) (x : A) → n + k ≤ m → List·Memᴰ x (take k (drop n l)) → List·Memᴰ x (take m l)
+  mem-run n k m l x h w =
+      let t = mem-place (take k (drop n l)) x w in
+      let i : ℕ = t .0 in
+      let u : i < length (take k (drop n l)) = place-lt (take k (drop n l)) i x (t .1) in
+      let v : i < k = omega (arith, length-take k (drop n l)) in
+      let q : getElem? l (n + i) ≡ some x = sym (place-drop n l i) ∙ place-take k (drop n l) i x (t .1) in
+      place-mem (take m l) (n + i) x (take-place m l (n + i) (omega arith) ∙ q)
+
+  pub mem-take : (n : ℕ) (l : List A) (x : A) → List·Memᴰ x (take n l) → List·Memᴰ x l
+  mem-take n l x m = let t = mem-place (take n l) x m in place-mem l (t .0) x (place-take n l (t .0) x (t .1))
+
+  -- what holds of each place holds of each element
+  pub mem-getD : (d : A) (P : A → Type 0) (l : List A) → ((i : ℕ) → P (getD l i d)) → (x : A) → List·Memᴰ x l → P x
+  mem-getD d P l h x m = let t = mem-place l x m in subst P (getD-place d l (t .0) x (t .1)) (h (t .0))

@@ -5,3 +5,5 @@ pub mod Renumbering
 pub mod Permuting
 pub mod Records
 pub mod Summary
+pub mod LaidCells
+pub mod Lent

@@ -183,6 +183,11 @@ sizes-give {n} {gs} {ps} {os} e =
       outs-lent = leb-true (n .outputs) os (search (and-left, and-right) depth 8);
     }
 
+pub sizes-from : {n : Counts} {gs ps os : ℕ} → Sizes n gs ps os → sizesFit n gs ps os ≡ true
+sizes-from {n} {gs} {ps} {os} s =
+    sym (within-sizes n gs ps os (s .few-inputs) (s .few-gates) (s .few-pins) (s .few-outputs) (s .gates-lent) (s .pins-lent))
+    ∙ le-leb (n .outputs) os (s .outs-lent)
+
 module _ (n : Counts) (cells pins outs : List ℕ) where
   -- the four tests of `isNetwork`
   abbrev pub Fit : Bool → Type 0

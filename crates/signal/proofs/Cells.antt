@@ -1,6 +1,7 @@
 -- Cells and signals, there and back: every 32-bit number is the cell of exactly one signal. Assumes nothing.
 use mathlib.Core.Path.{_≡_, refl, sym, ap, ap₂, _∙_, subst}
 use mathlib.Core.Bool.{Bool, true, false, not, cond, false≢true}
+use mathlib.Core.List.{List, [], _∷_, map, List·Memᴰ, List·Memᴰ·head, List·Memᴰ·tail}
 use mathlib.Core.Logic.{⊎-elim}
 use Prim.Native.Nat.{ℕ, _+_, _-_, _*_, _/_, _%_, _^_, _≤_, _<_}
 use native.Mathlib.Omega.{arith}
@@ -131,6 +132,18 @@ cell-fits s h = go (s .node) h
 -- so two 32-bit numbers with one signal are one number
 pub one-cell : (c d : ℕ) → c < 2 ^ 32 → d < 2 ^ 32 → sigOf c ≡ sigOf d → c ≡ d
 one-cell c d h k e = sym (cell-again c h) ∙ ap sigCell e ∙ cell-again d k
+
+-- ---- lists of them
+
+pub cells-again : (l : List ℕ) → ((c : ℕ) → List·Memᴰ c l → c < 2 ^ 32) → map sigCell (map sigOf l) ≡ l
+cells-again [] h = refl
+cells-again (c ∷ l) h =
+    ap₂ (λ (x : ℕ) (m : List ℕ). x ∷ m) (cell-again c (h c (List·Memᴰ·head refl))) (cells-again l (λ x m. h x (List·Memᴰ·tail m)))
+
+pub signals-again : (l : List Signal) → ((s : Signal) → List·Memᴰ s l → Small (s .node)) → map sigOf (map sigCell l) ≡ l
+signals-again [] h = refl
+signals-again (s ∷ l) h =
+    ap₂ (λ (x : Signal) (m : List Signal). x ∷ m) (signal-again s (h s (List·Memᴰ·head refl))) (signals-again l (λ x m. h x (List·Memᴰ·tail m)))
 
 -- ---- the tests
 
