@@ -1,0 +1,37 @@
+-- What demand 3 asks of a network and says of two, and the models that reading accepts (document 01). Assumes nothing: these are
+-- definitions.
+use mathlib.Core.Path.{_≡_}
+use mathlib.Core.Bool.{Bool}
+use mathlib.Core.List.{List, List·Memᴰ}
+use Prim.Native.Nat.{ℕ, _≤_}
+use lib.ListN.{length}
+use Rattle.lists.specs.Lists.{Dup}
+use Rattle.signal.specs.Signal.{Signal}
+use Rattle.gates.specs.Gate.{XorN, XnorN, Gate, Comb}
+use Rattle.network.specs.Net.{Net, GateIs, Valid, Loop}
+use Rattle.network.specs.Settle.{run}
+use Rattle.blif_model.specs.Blif.{Block, Model}
+use Rattle.blif_model.specs.Lookup.{defined, lookup}
+use Rattle.blif_model.specs.Build.{build, Closed, GoodBlock}
+use Rattle.blif_model.specs.Write.{PlainGate}
+
+-- "a valid, loop-free network with no exclusive gate over 12 inputs and plain flip-flops"
+pub record Good (net : Net) : Type 0 where
+  pub valid : Valid net
+  pub free : Loop net → ⊥
+  pub plainGates : (g : ℕ) (x : Gate) → GateIs net g x → PlainGate x
+  pub narrowXor : (g : ℕ) (ps : List Signal) → GateIs net g (Comb XorN ps) → length ps ≤ 12
+  pub narrowXnor : (g : ℕ) (ps : List Signal) → GateIs net g (Comb XnorN ps) → length ps ≤ 12
+
+-- as many inputs and outputs, and for every list of input rows equal outputs at every clock from zero
+pub record SameOutputs (a b : Net) : Type 0 where
+  pub inputs : a .inputs ≡ b .inputs
+  pub outputs : length (a .outputs) ≡ length (b .outputs)
+  pub runs : (rows : List (List Bool)) → run a rows ≡ run b rows
+
+-- a model that reading accepts: no refusal 10, 11, 12 or 13, and no loop among the gates as built (14)
+pub record Accepts {Name : Type 0} (dec : (x y : Name) → Dec (x ≡ y)) (m : Model Name) : Type 0 where
+  pub once : Dup (defined m) → ⊥
+  pub closed : Closed m
+  pub good : (b : Block Name) → List·Memᴰ b (m .blocks) → GoodBlock b
+  pub free : Loop (build (lookup dec m) m) → ⊥
