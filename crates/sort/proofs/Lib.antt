@@ -1,3 +1,4 @@
 pub mod Walk
 pub mod WalkEnds
 pub mod Ordering
+pub mod Sorting
