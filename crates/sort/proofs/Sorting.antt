@@ -35,7 +35,7 @@ nums-point d (s ∷ ss) m = go (s .node) refl m (nums-point d ss)
         ⊎-elim (λ (q : d ≡ g). (s, List·Memᴰ·head refl, e ∙ ap Gated (sym q)))
           (λ (v : List·Memᴰ d (gateNums ss)). let r = ih v in (r .0, List·Memᴰ·tail (r .1), r .2)) (List·Memᴰ·cases-cons w)
 
-point-nums : (d : ℕ) (ss : List Signal) (s : Signal) → List·Memᴰ s ss → s .node ≡ Gated d → List·Memᴰ d (gateNums ss)
+pub point-nums : (d : ℕ) (ss : List Signal) (s : Signal) → List·Memᴰ s ss → s .node ≡ Gated d → List·Memᴰ d (gateNums ss)
 point-nums d _ s (List·Memᴰ·head {x = t} {xs = ss} e) q =
     subst (λ (n : Node). List·Memᴰ d (nodeGate n (gateNums ss))) (sym (ap (λ (u : Signal). u .node) (sym e) ∙ q)) (List·Memᴰ·head refl)
 point-nums d _ s (List·Memᴰ·tail {x = t} {xs = ss} m) q = go (t .node) (point-nums d ss s m q)
