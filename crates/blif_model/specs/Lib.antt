@@ -6,3 +6,4 @@ pub mod Names
 pub mod Render
 pub mod Read
 pub mod Demand
+pub mod Cases
