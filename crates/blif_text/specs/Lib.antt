@@ -1,3 +1,6 @@
 pub mod Lines
 pub mod Statements
 pub mod Decls
+pub mod Rows
+pub mod Places
+pub mod Scan

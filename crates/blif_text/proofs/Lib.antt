@@ -1,0 +1,5 @@
+pub mod Scan
+pub mod Loops
+pub mod LineLaws
+pub mod WordLaws
+pub mod RowLaws
