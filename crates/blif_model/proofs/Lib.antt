@@ -1,1 +1,7 @@
 pub mod Cases
+pub mod FormLines
+pub mod Lookups
+pub mod NamesDiffer
+pub mod Covers
+pub mod Reading
+pub mod ReadBack

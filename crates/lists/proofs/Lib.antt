@@ -7,3 +7,4 @@ pub mod Twice
 pub mod Find
 pub mod Counting
 pub mod Over
+pub mod Once
