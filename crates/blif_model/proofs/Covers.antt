@@ -8,16 +8,12 @@ use Rattle.signal.specs.Signal.{Node, Const, Input, Gated, Signal, turned, flip
 use Rattle.gates.specs.Gate.{Gate, Comb, Dff, allOf, anyOf, formBit, OrN, AndN}
 use Rattle.network.specs.Clock.{sigBit, nodeBit, gateBit, nextBit}
 use Rattle.blif_model.specs.Blif.{Col, C0, C1, Dash, Line, colBit, cubeBit, cubesBit, coverBit}
+use Rattle.blif_model.proofs.Along.{Seg}
 use Rattle.blif_model.specs.Build.{literals, literalGate, lineGate, lineGates, gateRun, coverGate, GoodLines}
 
 -- what the gate of a line is to be
 abbrev pub lineBit : List Bool → Line → Bool
 lineBit bs l = flip (not (l .out)) (cubeBit (l .cols) bs)
-
--- β gives the bits of l from place k on
-abbrev pub Seg : {A : Type 0} → (ℕ → A) → ℕ → List A → Type 0
-Seg β k [] = Unit {0}
-Seg β k (x ∷ l) = (β k ≡ x) × Seg β (suc k) l
 
 not-flip : (i b : Bool) → flip (not i) b ≡ not (flip i b)
 not-flip false b = refl

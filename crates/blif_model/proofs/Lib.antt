@@ -1,7 +1,16 @@
 pub mod Cases
+pub mod Along
 pub mod FormLines
-pub mod Lookups
 pub mod NamesDiffer
+pub mod Lookups
 pub mod Covers
 pub mod Reading
 pub mod ReadBack
+pub mod CoverPins
+pub mod BuiltValid
+pub mod BuiltFree
+pub mod Ranks
+pub mod Meaning
+pub mod Writing
+pub mod Written
+pub mod WrittenOnce

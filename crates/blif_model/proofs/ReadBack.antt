@@ -14,7 +14,8 @@ use Rattle.network.specs.Clock.{Fits, Clock, sigBit, gateBit, nextBit}
 use Rattle.blif_model.specs.Blif.{Line, Feed, Block, Latch, Cover, Model, target, optBit, nextHeld, blockBit, coverBit, BlifFits, BlifClock}
 use Rattle.blif_model.specs.Build.{optSig, lineGate, lineGates, coverGate, blockGate, moreGates, mains, extras, build, Looks, Closed, GoodBlock}
 use Rattle.lists.proofs.Places.{place-mem, mem-place, place-left, place-right, map-map}
-use Rattle.blif_model.proofs.Covers.{lineBit, linesBits, Seg, line-bit, cover-bit}
+use Rattle.blif_model.proofs.Covers.{lineBit, linesBits, line-bit, cover-bit}
+use Rattle.blif_model.proofs.Along.{Seg}
 use Rattle.blif_model.proofs.Reading.{mains-length, Holds}
 use Rattle.network.proofs.Runs.{Simulates}
 

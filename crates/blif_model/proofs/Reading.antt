@@ -18,7 +18,8 @@ use Rattle.network.specs.Clock.{Fits, Clock, sigBit, gateBit, nextBit}
 use Rattle.blif_model.specs.Blif.{Line, Feed, Block, Latch, Cover, Model, target, optBit, nextHeld, blockBit, coverBit, BlifFits, BlifClock}
 use Rattle.blif_model.specs.Build.{lineGate, lineGates, coverGate, optSig, optName, blockGate, moreGates, mains, extras, build, sources, Defined, Looks, Closed, GoodLines, GoodBlock}
 use Rattle.lists.proofs.Places.{place-lt, place-mem, mem-place, lt-place, place-left, place-right, map-on, map-map, map-place}
-use Rattle.blif_model.proofs.Covers.{lineBit, linesBits, Seg, line-bit, cover-bit, cover-next}
+use Rattle.blif_model.proofs.Covers.{lineBit, linesBits, line-bit, cover-bit, cover-next}
+use Rattle.blif_model.proofs.Along.{Seg, seg-append, seg-of, Each, each-of, place-front}
 
 -- ---- bits by place
 
@@ -45,26 +46,6 @@ module _ (σ : Signal → Bool) (held : ℕ → Bool) where
   match-at k (y ∷ xs) [] m g x e = absurd m
   match-at k (y ∷ xs) (b ∷ bs) m zero x e = m .0 ∙ cc (add-zero k)
   match-at k (y ∷ xs) (b ∷ bs) m (suc g) x e = match-at (suc k) xs bs (m .1) g x e ∙ ap (λ (j : ℕ). gateBit σ (held j) x) (omega arith)
-
-pub seg-append : {A : Type 0} (β : ℕ → A) (k : ℕ) (l m : List A) → Seg β k (l ++ m) → Seg β k l × Seg β (k + length l) m
-seg-append β k [] m s = (tt, subst (λ (j : ℕ). Seg β j m) (omega arith) s)
-seg-append β k (x ∷ l) m s =
-    let r : Seg β (suc k) l × Seg β (suc k + length l) m = seg-append β (suc k) l m (s .1) in
-    ((s .0, r .0), subst (λ (j : ℕ). Seg β j m) (omega arith) (r .1))
-
-pub seg-of : {A : Type 0} (d : A) (β : ℕ → A) (k : ℕ) (l : List A) → ((i : ℕ) → β (k + i) ≡ getD l i d) → Seg β k l
-seg-of d β k [] h = tt
-seg-of d β k (x ∷ l) h = (ap β (sym (add-zero k)) ∙ h 0, seg-of d β (suc k) l (λ i. ap β (omega arith) ∙ h (suc i)))
-
--- a property of each element with its place, the first being j
-abbrev pub Each : {A : Type 0} → (ℕ → A → Type 0) → ℕ → List A → Type 0
-Each P j [] = Unit {0}
-Each P j (x ∷ l) = P j x × Each P (suc j) l
-
-pub each-of : {A : Type 0} (P : ℕ → A → Type 0) (j : ℕ) (l : List A) → ((i : ℕ) (x : A) → getElem? l i ≡ some x → P (j + i) x) → Each P j l
-each-of P j [] h = tt
-each-of P j (x ∷ l) h =
-    (subst (λ (k : ℕ). P k x) (add-zero j) (h 0 x refl), each-of P (suc j) l (λ i y e. subst (λ (k : ℕ). P k y) (omega arith) (h (suc i) y e)))
 
 module _ {Name : Type 0} (look : Name → Signal) (row : List Bool) (env : Name → Bool) (held : ℕ → Bool) where
   -- the bits of the gates of a block's lines
@@ -137,11 +118,6 @@ mains-place look k [] j b e = absurd (let z : _≡_ {A = ℕ} 0 1 = cc in omega 
 mains-place look k (a ∷ bs) zero b e = (k, let q : a ≡ b = cc in ap (λ (y : Block _). some (blockGate look k y)) q)
 mains-place look k (a ∷ bs) (suc j) b e = mains-place look (k + length (moreGates look a)) bs j b e
 
-pub place-getD : {A : Type 0} (d : A) (l m : List A) (j : ℕ) (x : A) → getElem? l j ≡ some x → getD (l ++ m) j d ≡ x
-place-getD d [] m j x e = absurd (let z : _≡_ {A = ℕ} 0 1 = cc in omega arith)
-place-getD d (y ∷ l) m zero x e = cc
-place-getD d (y ∷ l) m (suc j) x e = place-getD d l m j x e
-
 module _ {Name : Type 0} (m : Model Name) (look : Name → Signal) (ok : Looks m look) (closed : Closed m)
     (good : (b : Block Name) → List·Memᴰ b (m .blocks) → GoodBlock b) where
   -- the flip-flop built for a latch holds what the latch holds
@@ -173,7 +149,7 @@ module _ {Name : Type 0} (m : Model Name) (look : Name → Signal) (ok : Looks m
     main-length = length-map (m .blocks) (λ (b : Block Name). env (target b))
 
     block-value : (j : ℕ) (b : Block Name) → getElem? (m .blocks) j ≡ some b → β j ≡ env (target b)
-    block-value j b e = place-getD false main extra j (env (target b)) (map-place (λ (x : Block Name). env (target x)) (m .blocks) j b e)
+    block-value j b e = place-front false main extra j (env (target b)) (map-place (λ (x : Block Name). env (target x)) (m .blocks) j b e)
 
     known-name : (x : Name) → Defined m x → sigBit row β (look x) ≡ env x
     known-name x (inl (i, e)) = ap (sigBit row β) (ok .inputAt i x e) ∙ sym (c .fits .ins i x e)
