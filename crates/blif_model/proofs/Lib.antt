@@ -14,3 +14,6 @@ pub mod Meaning
 pub mod Writing
 pub mod Written
 pub mod WrittenOnce
+pub mod WrittenMeans
+pub mod BlockOrder
+pub mod Masks
