@@ -63,9 +63,9 @@ module _ {Name : Type 0} (look : Name → Signal) (rank : Name → ℕ) where
     main-right k j (Cover xs y ls) o r =
         let v : ρ j ≡ suc (2 * rank y) = o .at in
         right-comb j (coverGate k (map look xs) ls)
-          (cover-all (Under (ρ j)) tt k (map look xs) ls
-            (λ l w. literals-all (Under (ρ j)) tt look (l .cols) xs (λ x m. o .names x (lit-source (l .cols) xs x m) (ρ j) (omega (arith, o .above l x w m))))
-            (λ i u. omega (arith, r i u)))
+        (cover-all (Under (ρ j)) tt k (map look xs) ls
+        (λ l w. literals-all (Under (ρ j)) tt look (l .cols) xs (λ x m. o .names x (lit-source (l .cols) xs x m) (ρ j) (omega (arith, o .above l x w m))))
+        (λ i u. omega (arith, r i u)))
 
     seg-replicate : (k n a : ℕ) → Seg ρ k (replicate n a) → (i : ℕ) → i < n → ρ (k + i) ≡ a
     seg-replicate k zero a s i u = absurd (omega arith)
@@ -76,15 +76,17 @@ module _ {Name : Type 0} (look : Name → Signal) (rank : Name → ℕ) where
     mains-right k j [] o s = tt
     mains-right k j (b ∷ bs) o s =
         let n : ℕ = length (moreGates look b) in
-        let r : Seg ρ k (blockRanks b) × Seg ρ (k + length (blockRanks b)) (extraRanks bs) = seg-append ρ k (blockRanks b) (extraRanks bs) s in
-        (main-right k j b (o .0) (seg-replicate k n (2 * rank (target b)) (r .0)),
-         mains-right (k + n) (suc j) bs (o .1) (subst (λ (c : ℕ). Seg ρ (k + c) (extraRanks bs)) (length-replicate n (2 * rank (target b))) (r .1)))
+        let r : Seg ρ k (blockRanks b) × Seg ρ (k + length (blockRanks b)) (extraRanks bs) = seg-append ρ k (blockRanks b) (extraRanks bs) s in (
+          main-right k j b (o .0) (seg-replicate k n (2 * rank (target b)) (r .0)),
+          mains-right (k + n) (suc j) bs (o .1) (subst (λ (c : ℕ). Seg ρ (k + c) (extraRanks bs)) (length-replicate n (2 * rank (target b))) (r .1)),
+        )
 
     lines-right : (j : ℕ) (ss : List Signal) (ls : List Line) (c : ℕ) → ((l : Line) → List·Memᴰ l ls → (s : Signal) → List·Memᴰ s (literals (l .cols) ss) → Under c (s .node)) → ((i : ℕ) → i < length ls → ρ (j + i) ≡ c) → Each Right j (map (lineGate ss) ls)
     lines-right j ss [] c h r = tt
-    lines-right j ss (l ∷ ls) c h r =
-        (right-comb j (lineGate ss l) (subst (λ (B : ℕ). (s : Signal) → List·Memᴰ s (pins (lineGate ss l)) → Under B (s .node)) (sym (ap ρ (sym (add-zero j)) ∙ r 0 (omega arith))) (line-all (Under c) tt ss l (h l (List·Memᴰ·head refl)))),
-         lines-right (suc j) ss ls c (λ k w. h k (List·Memᴰ·tail w)) (λ i u. ap ρ (omega arith) ∙ r (suc i) (omega arith)))
+    lines-right j ss (l ∷ ls) c h r = (
+      right-comb j (lineGate ss l) (subst (λ (B : ℕ). (s : Signal) → List·Memᴰ s (pins (lineGate ss l)) → Under B (s .node)) (sym (ap ρ (sym (add-zero j)) ∙ r 0 (omega arith))) (line-all (Under c) tt ss l (h l (List·Memᴰ·head refl)))),
+      lines-right (suc j) ss ls c (λ k w. h k (List·Memᴰ·tail w)) (λ i u. ap ρ (omega arith) ∙ r (suc i) (omega arith)),
+    )
 
     more-right : (j i : ℕ) (b : Block Name) → Okay i b → ((n : ℕ) → n < length (moreGates look b) → ρ (j + n) ≡ 2 * rank (target b)) → Each Right j (moreGates look b)
     more-right j i (Latch f q) o r = tt
@@ -92,8 +94,8 @@ module _ {Name : Type 0} (look : Name → Signal) (rank : Name → ℕ) where
     more-right j i (Cover xs y (l ∷ [])) o r = tt
     more-right j i (Cover xs y (l ∷ m ∷ ls)) o r =
         lines-right j (map look xs) (l ∷ m ∷ ls) (2 * rank y)
-          (λ k v. literals-all (Under (2 * rank y)) tt look (k .cols) xs (λ x w. o .names x (lit-source (k .cols) xs x w) (2 * rank y) (omega (arith, o .above k x v w))))
-          (λ n u. r n (omega (arith, length-map ls (lineGate (map look xs)))))
+        (λ k v. literals-all (Under (2 * rank y)) tt look (k .cols) xs (λ x w. o .names x (lit-source (k .cols) xs x w) (2 * rank y) (omega (arith, o .above k x v w))))
+        (λ n u. r n (omega (arith, length-map ls (lineGate (map look xs)))))
 
     extras-right : (j i : ℕ) (bs : List (Block Name)) → Each Okay i bs → Seg ρ j (extraRanks bs) → Each Right j (extras look bs)
     extras-right j i [] o s = tt
@@ -101,8 +103,8 @@ module _ {Name : Type 0} (look : Name → Signal) (rank : Name → ℕ) where
         let n : ℕ = length (moreGates look b) in
         let r : Seg ρ j (blockRanks b) × Seg ρ (j + length (blockRanks b)) (extraRanks bs) = seg-append ρ j (blockRanks b) (extraRanks bs) s in
         each-append Right j (moreGates look b) (extras look bs)
-          (more-right j i b (o .0) (seg-replicate j n (2 * rank (target b)) (r .0)))
-          (extras-right (j + n) (suc i) bs (o .1) (subst (λ (c : ℕ). Seg ρ (j + c) (extraRanks bs)) (length-replicate n (2 * rank (target b))) (r .1)))
+        (more-right j i b (o .0) (seg-replicate j n (2 * rank (target b)) (r .0)))
+        (extras-right (j + n) (suc i) bs (o .1) (subst (λ (c : ℕ). Seg ρ (j + c) (extraRanks bs)) (length-replicate n (2 * rank (target b))) (r .1)))
 
 module _ {Name : Type 0} (m : Model Name) (look : Name → Signal) (ok : Looks m look) (closed : Closed m) (rm : RankedModel m) where
   abbrev net : Net
@@ -156,7 +158,7 @@ module _ {Name : Type 0} (m : Model Name) (look : Name → Signal) (ok : Looks m
   all-right =
       let ms : List Gate = mains look nb (m .blocks) in
       each-append RightAt 0 ms (extras look (m .blocks)) (mains-right look (rm .rankOf) ρ nb 0 (m .blocks) okays er-seg)
-        (extras-right look (rm .rankOf) ρ (0 + length ms) 0 (m .blocks) okays (subst (λ (n : ℕ). Seg ρ n er) (sym (zero-add (length ms) ∙ mains-length look nb (m .blocks))) er-seg))
+      (extras-right look (rm .rankOf) ρ (0 + length ms) 0 (m .blocks) okays (subst (λ (n : ℕ). Seg ρ n er) (sym (zero-add (length ms) ∙ mains-length look nb (m .blocks))) er-seg))
 
   right-at : (g : ℕ) (x : Gate) → GateIs net g x → RightAt g x
   right-at g x e = subst (λ (n : ℕ). RightAt n x) (zero-add g) (each-at RightAt 0 (net .gates) all-right g x e)

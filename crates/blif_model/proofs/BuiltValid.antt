@@ -48,8 +48,8 @@ module _ {Name : Type 0} (look : Name → Signal) (ins total : ℕ) where
   main-in : (k : ℕ) (b : Block Name) → NamesIn b → ((i : ℕ) → i < length (moreGates look b) → k + i < total) → GateIn (blockGate look k b)
   main-in k (Latch d q) h r =
       all-cons In tt (look (d .input)) (optSig look oneS (d .enable) ∷ optSig look zeroS (d .reset) ∷ []) (h (d .input) (List·Memᴰ·head refl))
-        (all-cons In tt (optSig look oneS (d .enable)) (optSig look zeroS (d .reset) ∷ []) (opt-in (d .enable) oneS tt (λ x m. h x (List·Memᴰ·tail (Memᴰ·append-left (optName (d .reset)) m))))
-          (all-cons In tt (optSig look zeroS (d .reset)) [] (opt-in (d .reset) zeroS tt (λ x m. h x (List·Memᴰ·tail (Memᴰ·append-right (optName (d .enable)) m)))) (all-nil In tt)))
+      (all-cons In tt (optSig look oneS (d .enable)) (optSig look zeroS (d .reset) ∷ []) (opt-in (d .enable) oneS tt (λ x m. h x (List·Memᴰ·tail (Memᴰ·append-left (optName (d .reset)) m))))
+      (all-cons In tt (optSig look zeroS (d .reset)) [] (opt-in (d .reset) zeroS tt (λ x m. h x (List·Memᴰ·tail (Memᴰ·append-right (optName (d .enable)) m)))) (all-nil In tt)))
   main-in k (Cover xs y ls) h r = cover-all In tt k (map look xs) ls (λ l w. literals-all In tt look (l .cols) xs (λ x m. h x (lit-source (l .cols) xs x m))) r
 
   mains-in : (k : ℕ) (bs : List (Block Name)) → AllNames bs → k + length (extras look bs) ≤ total → AllIn (mains look k bs)
@@ -106,8 +106,8 @@ module _ {Name : Type 0} (m : Model Name) (look : Name → Signal) (ok : Looks m
   built-valid =
       let names : AllNames look (length (m .inputs)) total (m .blocks) = names-all look (length (m .inputs)) total (m .blocks) (λ b w x v. name-in x (closed .sourcesDefined b x w v)) in
       let every : AllIn look (length (m .inputs)) total (build look m .gates) =
-          all-append look (length (m .inputs)) total (mains look nb (m .blocks)) (extras look (m .blocks))
-            (mains-in look (length (m .inputs)) total nb (m .blocks) names (omega arith)) (extras-in look (length (m .inputs)) total (m .blocks) names) in
+      all-append look (length (m .inputs)) total (mains look nb (m .blocks)) (extras look (m .blocks))
+      (mains-in look (length (m .inputs)) total nb (m .blocks) names (omega arith)) (extras-in look (length (m .inputs)) total (m .blocks) names) in
       record {
         pinsValid = λ g x s e w. in-valid (s .node) (in-at look (length (m .inputs)) total (build look m .gates) every g x e s w);
         outsValid = λ s w. let t = Memᴰ·of-map look (m .outputs) w in subst (λ (u : Signal). ValidNode (build look m) (u .node)) (t .2) (in-valid (look (t .0) .node) (name-in (t .0) (closed .outputsDefined (t .0) (t .1))));

@@ -56,7 +56,7 @@ module _ (P : Node → Type 0) (const : P Const) where
   run-all k zero h = all-nil
   run-all k (suc n) h =
       all-cons (plain (Gated k)) (gateRun (suc k) n) (subst (λ (j : ℕ). P (Gated j)) (add-zero k) (h 0 (omega arith)))
-        (run-all (suc k) n (λ i u. subst (λ (j : ℕ). P (Gated j)) (omega arith) (h (suc i) (omega arith))))
+      (run-all (suc k) n (λ i u. subst (λ (j : ℕ). P (Gated j)) (omega arith) (h (suc i) (omega arith))))
 
   pub cover-all : (k : ℕ) (ss : List Signal) (ls : List Line) → ((l : Line) → List·Memᴰ l ls → All (literals (l .cols) ss)) → ((i : ℕ) → i < length (lineGates ss ls) → P (Gated (k + i))) → All (pins (coverGate k ss ls))
   cover-all k ss [] h r = all-cons zeroS [] const all-nil

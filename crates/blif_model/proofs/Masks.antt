@@ -33,6 +33,7 @@ mask-bits (suc n) m h i l = ap (λ (v : List Bool). getD v i false) at ∙ go i 
   where
     at : getD (masks (suc n)) m [] ≡ eqb (m % 2) 1 ∷ getD (masks n) (m / 2) []
     at = doubled-at (masks n) m (omega (arith, masks-count n, pow-succ' 2 n))
+
     go : (j : ℕ) → j < suc n → ((k : ℕ) → k < n → getD (getD (masks n) (m / 2) []) k false ≡ eqb (m / 2 / 2 ^ k % 2) 1)
         → getD (eqb (m % 2) 1 ∷ getD (masks n) (m / 2) []) j false ≡ eqb (m / 2 ^ j % 2) 1
     go zero l ih = ap (λ (k : ℕ). eqb (k % 2) 1) (sym (div-one m))

@@ -31,10 +31,10 @@ lit-points look [] xs x m = absurd (List·Memᴰ·not-nil m)
 lit-points look (c ∷ cs) [] x m = absurd (List·Memᴰ·not-nil m)
 lit-points look (C0 ∷ cs) (y ∷ xs) x m =
     ⊎-elim (λ (e : x ≡ y). (turned (look y), List·Memᴰ·head refl, ap (λ z. look z .node) (sym e)))
-      (λ (w : List·Memᴰ x (litNames cs xs)). points-tail (turned (look y)) (literals cs (map look xs)) (look x .node) (lit-points look cs xs x w)) (List·Memᴰ·cases-cons m)
+    (λ (w : List·Memᴰ x (litNames cs xs)). points-tail (turned (look y)) (literals cs (map look xs)) (look x .node) (lit-points look cs xs x w)) (List·Memᴰ·cases-cons m)
 lit-points look (C1 ∷ cs) (y ∷ xs) x m =
     ⊎-elim (λ (e : x ≡ y). (look y, List·Memᴰ·head refl, ap (λ z. look z .node) (sym e)))
-      (λ (w : List·Memᴰ x (litNames cs xs)). points-tail (look y) (literals cs (map look xs)) (look x .node) (lit-points look cs xs x w)) (List·Memᴰ·cases-cons m)
+    (λ (w : List·Memᴰ x (litNames cs xs)). points-tail (look y) (literals cs (map look xs)) (look x .node) (lit-points look cs xs x w)) (List·Memᴰ·cases-cons m)
 lit-points look (Dash ∷ cs) (y ∷ xs) x m = lit-points look cs xs x m
 
 -- what points there among the pins of a combinational gate
@@ -84,7 +84,7 @@ module _ {Name : Type 0} (m : Model Name) (look : Name → Signal) (ok : Looks m
       let q : l ≡ k = List·Memᴰ·eq-of-singleton w in
       let p : Placed look (length (m .blocks)) (m .blocks) j b = at-place m look j b e in
       pins-below j (lineGate (map look xs) k) (look x .node) (main-is m look j b p)
-        (literal-points (k .out) (literals (k .cols) (map look xs)) (look x .node) (lit-points look (k .cols) xs x (subst (λ (z : Line). List·Memᴰ x (litNames (z .cols) xs)) q v)))
+      (literal-points (k .out) (literals (k .cols) (map look xs)) (look x .node) (lit-points look (k .cols) xs x (subst (λ (z : Line). List·Memᴰ x (litNames (z .cols) xs)) q v)))
   over-of xs y (k ∷ k′ ∷ ks) l x j e w v =
       let b : Block Name = Cover xs y (k ∷ k′ ∷ ks) in
       let p : Placed look (length (m .blocks)) (m .blocks) j b = at-place m look j b e in
@@ -92,11 +92,11 @@ module _ {Name : Type 0} (m : Model Name) (look : Name → Signal) (ok : Looks m
       let t : (i : ℕ) × (getElem? (k ∷ k′ ∷ ks) i ≡ some l) = mem-place (k ∷ k′ ∷ ks) l w in
       let u : t .0 < suc (suc (length ks)) = place-lt (k ∷ k′ ∷ ks) (t .0) l (t .1) in
       let a : nodeRank (look x .node) < suc (rk .rank (at + t .0)) =
-          pins-below (at + t .0) (lineGate (map look xs) l) (look x .node) (line-is m look j b p (t .0) (lineGate (map look xs) l) (map-place (lineGate (map look xs)) (k ∷ k′ ∷ ks) (t .0) l (t .1)))
-            (literal-points (l .out) (literals (l .cols) (map look xs)) (look x .node) (lit-points look (l .cols) xs x v)) in
+      pins-below (at + t .0) (lineGate (map look xs) l) (look x .node) (line-is m look j b p (t .0) (lineGate (map look xs) l) (map-place (lineGate (map look xs)) (k ∷ k′ ∷ ks) (t .0) l (t .1)))
+      (literal-points (l .out) (literals (l .cols) (map look xs)) (look x .node) (lit-points look (l .cols) xs x v)) in
       let c : suc (rk .rank (at + t .0)) < suc (rk .rank j) =
-          pins-below j (blockGate look at b) (Gated (at + t .0)) (main-is m look j b p)
-            (record { form = cond (k .out) OrN AndN; ins = gateRun at (suc (suc (length ks))); is = refl; points = run-points at (suc (suc (length ks))) (t .0) u }) in
+      pins-below j (blockGate look at b) (Gated (at + t .0)) (main-is m look j b p)
+      (record { form = cond (k .out) OrN AndN; ins = gateRun at (suc (suc (length ks))); is = refl; points = run-points at (suc (suc (length ks))) (t .0) u }) in
       omega arith
 
   pub ranks-of : RankedModel m

@@ -36,9 +36,9 @@ module _ {Name : Type 0} (name : Signal → Name) where
       (suc (t .0), t .1, t .2, t .3 ∙ ap (λ (n : ℕ). Latch (feedOf name (t .1)) (gateName name n)) (omega arith))
   latch-from k (Dff s ∷ xs) b m =
       ⊎-elim (λ (q : b ≡ Latch (feedOf name s) (gateName name k)). (0, s, refl, q ∙ ap (λ (n : ℕ). Latch (feedOf name s) (gateName name n)) (omega arith)))
-        (λ (w : List·Memᴰ b (latchBlocks name (suc k) xs)). let t = latch-from (suc k) xs b w in
-            (suc (t .0), t .1, t .2, t .3 ∙ ap (λ (n : ℕ). Latch (feedOf name (t .1)) (gateName name n)) (omega arith)))
-        (List·Memᴰ·cases-cons m)
+      (λ (w : List·Memᴰ b (latchBlocks name (suc k) xs)). let t = latch-from (suc k) xs b w in
+      (suc (t .0), t .1, t .2, t .3 ∙ ap (λ (n : ℕ). Latch (feedOf name (t .1)) (gateName name n)) (omega arith)))
+      (List·Memᴰ·cases-cons m)
 
   comb-from : (k : ℕ) (xs : List Gate) (b : Block Name) → List·Memᴰ b (combBlocks name k xs)
       → (i : ℕ) × (f : Form) × (ps : List Signal) × (getElem? xs i ≡ some (Comb f ps)) × (b ≡ combBlock name (k + i) f ps)
@@ -47,9 +47,9 @@ module _ {Name : Type 0} (name : Signal → Name) where
       (suc (t .0), t .1, t .2, t .3, t .4 ∙ ap (λ (n : ℕ). combBlock name n (t .1) (t .2)) (omega arith))
   comb-from k (Comb f ps ∷ xs) b m =
       ⊎-elim (λ (q : b ≡ combBlock name k f ps). (0, f, ps, refl, q ∙ ap (λ (n : ℕ). combBlock name n f ps) (omega arith)))
-        (λ (w : List·Memᴰ b (combBlocks name (suc k) xs)). let t = comb-from (suc k) xs b w in
-            (suc (t .0), t .1, t .2, t .3, t .4 ∙ ap (λ (n : ℕ). combBlock name n (t .1) (t .2)) (omega arith)))
-        (List·Memᴰ·cases-cons m)
+      (λ (w : List·Memᴰ b (combBlocks name (suc k) xs)). let t = comb-from (suc k) xs b w in
+      (suc (t .0), t .1, t .2, t .3, t .4 ∙ ap (λ (n : ℕ). combBlock name n (t .1) (t .2)) (omega arith)))
+      (List·Memᴰ·cases-cons m)
 
   module _ (unname : Name → Signal) (back : (s : Signal) → unname (name s) ≡ s) (row : List Bool) (bits : ℕ → Bool) where
     abbrev σ : Signal → Bool
@@ -136,10 +136,13 @@ module _ {Name : Type 0} (name : Signal → Name) where
       where
         latch : List·Memᴰ b (latchBlocks name 0 (net .gates)) → Source b
         latch w = let t = latch-from 0 (net .gates) b w in ofDff (t .0) (t .1) (t .2) (t .3 ∙ ap (λ (n : ℕ). Latch (feedOf name (t .1)) (gateName name n)) (omega arith))
+
         comb : List·Memᴰ b (combBlocks name 0 (net .gates)) → Source b
         comb w = let t = comb-from 0 (net .gates) b w in ofComb (t .0) (t .1) (t .2) (t .3) (t .4 ∙ ap (λ (n : ℕ). combBlock name n (t .1) (t .2)) (omega arith))
+
         inverter : List·Memᴰ b (map (inverterBlock name) (inverters net)) → Source b
         inverter w = let t = Memᴰ·of-map (inverterBlock name) (inverters net) w in ofInverter (t .0) (t .1) (sym (t .2))
+
         const : List·Memᴰ b (constBlocks name) → Source b
         const w = ⊎-elim ofOne (λ v. ofZero (List·Memᴰ·eq-of-singleton v)) (List·Memᴰ·cases-cons w)
 

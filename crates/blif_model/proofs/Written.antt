@@ -34,8 +34,8 @@ doubled-length n [] h v m = absurd (List·Memᴰ·not-nil m)
 doubled-length n (u ∷ vs) h v m =
     let e : length u ≡ n = h u (List·Memᴰ·head refl) in
     ⊎-elim (λ (q : v ≡ false ∷ u). ap length q ∙ ap suc e)
-      (λ (w : List·Memᴰ v ((true ∷ u) ∷ doubled vs)). ⊎-elim (λ (q : v ≡ true ∷ u). ap length q ∙ ap suc e)
-        (λ (x : List·Memᴰ v (doubled vs)). doubled-length n vs (λ y z. h y (List·Memᴰ·tail z)) v x) (List·Memᴰ·cases-cons w)) (List·Memᴰ·cases-cons m)
+    (λ (w : List·Memᴰ v ((true ∷ u) ∷ doubled vs)). ⊎-elim (λ (q : v ≡ true ∷ u). ap length q ∙ ap suc e)
+    (λ (x : List·Memᴰ v (doubled vs)). doubled-length n vs (λ y z. h y (List·Memᴰ·tail z)) v x) (List·Memᴰ·cases-cons w)) (List·Memᴰ·cases-cons m)
 
 masks-length : (n : ℕ) (v : List Bool) → List·Memᴰ v (masks n) → length v ≡ n
 masks-length zero v m = ap length (List·Memᴰ·eq-of-singleton m)
@@ -92,7 +92,7 @@ module _ {Name : Type 0} (name : Signal → Name) where
     comb-good g = comb-cases (λ f ps b. canHave f (length ps) ≡ true → GoodBlock b) g
         (λ ps a. (true, (length-map ps (λ (s : Signal). colOf (not (s .inv))) ∙ sym (length-map ps (λ (s : Signal). name (bare s))), refl, tt)))
         (λ f ps e a. let l : (o : Bool) × GoodLines (length ps) o (linesOf f (length ps)) = lines-good f (length ps) a in
-            (l .0, subst (λ (n : ℕ). GoodLines n (l .0) (linesOf f (length ps))) (sym (length-map ps name)) (l .1)))
+        (l .0, subst (λ (n : ℕ). GoodLines n (l .0) (linesOf f (length ps))) (sym (length-map ps name)) (l .1)))
 
     -- no refusal 12 or 13
     pub written-good : (b : Block Name) → List·Memᴰ b (written name net .blocks) → GoodBlock b
@@ -146,16 +146,16 @@ module _ {Name : Type 0} (name : Signal → Name) where
     comb-above : (g : ℕ) (f : Form) (ps : List Signal) → GateIs net g (Comb f ps) → AboveB (combBlock name g f ps)
     comb-above g = comb-cases (λ f ps b. GateIs net g (Comb f ps) → AboveB b) g
         (λ ps p x m. let t = Memᴰ·of-map (λ (s : Signal). name (bare s)) ps m in
-            let u : nodeRank (t .0 .node) < suc (rk .rank g) = node-rises g Buf ps p (t .0) (t .1) in
-            let v : rankName x ≡ sigRank (bare (t .0)) = ap rankName (sym (t .2)) ∙ rank-name (bare (t .0)) in
-            let w : rankName (gateName name g) ≡ sigRank (plain (Gated g)) = rank-name (plain (Gated g)) in
-            omega arith)
+        let u : nodeRank (t .0 .node) < suc (rk .rank g) = node-rises g Buf ps p (t .0) (t .1) in
+        let v : rankName x ≡ sigRank (bare (t .0)) = ap rankName (sym (t .2)) ∙ rank-name (bare (t .0)) in
+        let w : rankName (gateName name g) ≡ sigRank (plain (Gated g)) = rank-name (plain (Gated g)) in
+        omega arith)
         (λ f ps e p x m. let t = Memᴰ·of-map name ps m in
-            let u : nodeRank (t .0 .node) < suc (rk .rank g) = node-rises g f ps p (t .0) (t .1) in
-            let v : rankName x ≡ sigRank (t .0) = ap rankName (sym (t .2)) ∙ rank-name (t .0) in
-            let w : rankName (gateName name g) ≡ sigRank (plain (Gated g)) = rank-name (plain (Gated g)) in
-            let z : signRank (t .0 .inv) ≤ 1 = sign-le (t .0 .inv) in
-            omega arith)
+        let u : nodeRank (t .0 .node) < suc (rk .rank g) = node-rises g f ps p (t .0) (t .1) in
+        let v : rankName x ≡ sigRank (t .0) = ap rankName (sym (t .2)) ∙ rank-name (t .0) in
+        let w : rankName (gateName name g) ≡ sigRank (plain (Gated g)) = rank-name (plain (Gated g)) in
+        let z : signRank (t .0 .inv) ≤ 1 = sign-le (t .0 .inv) in
+        omega arith)
 
     inverter-above : (n : Node) → AboveB (inverterBlock name n)
     inverter-above n x m =
@@ -189,7 +189,7 @@ or-right a b e = ap (λ (x : Bool). a || x) e ∙ or-true a
 used-among : (s : Signal) (ss : List Signal) → s .inv ≡ true → List·Memᴰ s ss → usedAmong (s .node) ss ≡ true
 used-among s _ i (List·Memᴰ·head {x = t} {xs = ss} e) =
     or-left (t .inv && sameNode (t .node) (s .node)) (usedAmong (s .node) ss)
-      (ap (λ (u : Signal). u .inv && sameNode (u .node) (s .node)) (sym e) ∙ ap (λ (b : Bool). b && sameNode (s .node) (s .node)) i ∙ same-node (s .node))
+    (ap (λ (u : Signal). u .inv && sameNode (u .node) (s .node)) (sym e) ∙ ap (λ (b : Bool). b && sameNode (s .node) (s .node)) i ∙ same-node (s .node))
 used-among s _ i (List·Memᴰ·tail {x = t} {xs = ss} m) = or-right (t .inv && sameNode (t .node) (s .node)) (usedAmong (s .node) ss) (used-among s ss i m)
 
 used-in : (s : Signal) (xs : List Gate) (g : ℕ) (x : Gate) → s .inv ≡ true → getElem? xs g ≡ some x → List·Memᴰ s (named x) → usedIn (s .node) xs ≡ true
@@ -264,7 +264,7 @@ module _ {Name : Type 0} (name : Signal → Name) where
     inverter-defined : (n : Node) → ValidNode net n → (n ≡ Const → ⊥) → inverted net n ≡ true → Defined m (name (turned (plain n)))
     inverter-defined n v h e =
         block-defines (inverterBlock name n) (name (turned (plain n))) refl
-          (in-inverters (inverterBlock name n) (Memᴰ·map (inverterBlock name) (filter-mem (inverted net) (map Gated (range 0 (length (net .gates))) ++ map Input (downTo (net .inputs))) n (node-listed n v h) e)))
+        (in-inverters (inverterBlock name n) (Memᴰ·map (inverterBlock name) (filter-mem (inverted net) (map Gated (range 0 (length (net .gates))) ++ map Input (downTo (net .inputs))) n (node-listed n v h) e)))
 
     signal-defined : (s : Signal) → ValidNode net (s .node) → (s .inv ≡ true → inverted net (s .node) ≡ true) → Defined m (name s)
     signal-defined s v u = go (s .inv) refl (s .node) refl
@@ -288,9 +288,9 @@ module _ {Name : Type 0} (name : Signal → Name) where
     comb-sources : (g : ℕ) (f : Form) (ps : List Signal) → GateIs net g (Comb f ps) → SourcesOk (combBlock name g f ps)
     comb-sources g = comb-cases name (λ f ps b. GateIs net g (Comb f ps) → SourcesOk b) g
         (λ ps p x w. let t = Memᴰ·of-map (λ (s : Signal). name (bare s)) ps w in
-            subst (Defined m) (t .2) (node-defined (t .0 .node) (valid .pinsValid g (Comb Buf ps) (t .0) p (t .1))))
+        subst (Defined m) (t .2) (node-defined (t .0 .node) (valid .pinsValid g (Comb Buf ps) (t .0) p (t .1))))
         (λ f ps e p x w. let t = Memᴰ·of-map name ps w in
-            subst (Defined m) (t .2) (pin-defined g (Comb f ps) (t .0) p (t .1) (subst (List·Memᴰ (t .0)) (sym e) (t .1))))
+        subst (Defined m) (t .2) (pin-defined g (Comb f ps) (t .0) p (t .1) (subst (List·Memᴰ (t .0)) (sym e) (t .1))))
 
     listed-valid : (n : Node) → List·Memᴰ n (map Gated (range 0 (length (net .gates))) ++ map Input (downTo (net .inputs))) → ValidNode net n
     listed-valid n w = ⊎-elim gates inputs (List·Memᴰ·append-cases (map Gated (range 0 (length (net .gates)))) w)
@@ -298,11 +298,14 @@ module _ {Name : Type 0} (name : Signal → Name) where
         low : (k c x : ℕ) → List·Memᴰ x (range k c) → x < k + c
         low k zero x v = absurd (List·Memᴰ·not-nil v)
         low k (suc c) x v = ⊎-elim (λ (e : x ≡ k). omega arith) (λ (u : List·Memᴰ x (range (suc k) c)). let z : x < suc k + c = low (suc k) c x u in omega arith) (List·Memᴰ·cases-cons v)
+
         down : (c x : ℕ) → List·Memᴰ x (downTo c) → x < c
         down zero x v = absurd (List·Memᴰ·not-nil v)
         down (suc c) x v = ⊎-elim (λ (e : x ≡ c). omega arith) (λ (u : List·Memᴰ x (downTo c)). let z : x < c = down c x u in omega arith) (List·Memᴰ·cases-cons v)
+
         gates : List·Memᴰ n (map Gated (range 0 (length (net .gates)))) → ValidNode net n
         gates v = let t = Memᴰ·of-map Gated (range 0 (length (net .gates))) v in subst (ValidNode net) (t .2) (let z : t .0 < 0 + length (net .gates) = low 0 (length (net .gates)) (t .0) (t .1) in omega arith)
+
         inputs : List·Memᴰ n (map Input (downTo (net .inputs))) → ValidNode net n
         inputs v = let t = Memᴰ·of-map Input (downTo (net .inputs)) v in subst (ValidNode net) (t .2) (down (net .inputs) (t .0) (t .1))
 
@@ -316,9 +319,9 @@ module _ {Name : Type 0} (name : Signal → Name) where
     block-sources : (b : Block Name) → Source name net b → SourcesOk b
     block-sources b (ofDff g s p q) = subst SourcesOk (sym q)
         (λ x w. ⊎-elim (λ (z : x ≡ name (s .dataIn)). subst (Defined m) (sym z) (pin-defined g (Dff s) (s .dataIn) p (List·Memᴰ·head refl) (List·Memᴰ·head refl)))
-          (λ v. ⊎-elim (λ u. unless-defined true (s .enable) x u (pin-defined g (Dff s) (s .enable) p (List·Memᴰ·tail (List·Memᴰ·head refl)) (List·Memᴰ·tail (List·Memᴰ·head refl))))
-            (λ u. unless-defined false (s .reset) x u (pin-defined g (Dff s) (s .reset) p (List·Memᴰ·tail (List·Memᴰ·tail (List·Memᴰ·head refl))) (List·Memᴰ·tail (List·Memᴰ·tail (List·Memᴰ·head refl)))))
-            (List·Memᴰ·append-cases (optName (unless name true (s .enable))) v)) (List·Memᴰ·cases-cons w))
+        (λ v. ⊎-elim (λ u. unless-defined true (s .enable) x u (pin-defined g (Dff s) (s .enable) p (List·Memᴰ·tail (List·Memᴰ·head refl)) (List·Memᴰ·tail (List·Memᴰ·head refl))))
+        (λ u. unless-defined false (s .reset) x u (pin-defined g (Dff s) (s .reset) p (List·Memᴰ·tail (List·Memᴰ·tail (List·Memᴰ·head refl))) (List·Memᴰ·tail (List·Memᴰ·tail (List·Memᴰ·head refl)))))
+        (List·Memᴰ·append-cases (optName (unless name true (s .enable))) v)) (List·Memᴰ·cases-cons w))
     block-sources b (ofComb g f ps p q) = subst SourcesOk (sym q) (comb-sources g f ps p)
     block-sources b (ofInverter n w q) = subst SourcesOk (sym q)
         (λ x v. subst (Defined m) (sym (List·Memᴰ·eq-of-singleton v)) (node-defined n (listed-valid n (mem-filter (inverted net) (map Gated (range 0 (length (net .gates))) ++ map Input (downTo (net .inputs))) n w))))

@@ -37,7 +37,7 @@ nums-mem p k (x ∷ xs) g m = go (p x) refl m (nums-mem p (suc k) xs g)
         → (i : ℕ) × (y : Gate) × (g ≡ k + i) × (getElem? (x ∷ xs) i ≡ some y) × (p y ≡ true)
     go true e w ih =
         ⊎-elim (λ (q : g ≡ k). (0, x, omega arith, refl, e))
-          (λ (v : List·Memᴰ g (nums p (suc k) xs)). let t = ih v in (suc (t .0), t .1, (let z : g ≡ suc k + t .0 = t .2 in omega arith), t .3, t .4)) (List·Memᴰ·cases-cons w)
+        (λ (v : List·Memᴰ g (nums p (suc k) xs)). let t = ih v in (suc (t .0), t .1, (let z : g ≡ suc k + t .0 = t .2 in omega arith), t .3, t .4)) (List·Memᴰ·cases-cons w)
     go false e w ih = let t = ih w in (suc (t .0), t .1, (let z : g ≡ suc k + t .0 = t .2 in omega arith), t .3, t .4)
 
 once-nums : (p : Gate → Bool) (k : ℕ) (xs : List Gate) → Dup (nums p k xs) → ⊥
@@ -125,7 +125,7 @@ module _ (net : Net) where
       (once-map Gated (λ x y e. cc) (range 0 (length (net .gates))) (once-range 0 (length (net .gates))))
       (once-map Input (λ x y e. cc) (downTo (net .inputs)) (once-downTo (net .inputs)))
       (λ n v w. let t = Memᴰ·of-map Gated (range 0 (length (net .gates))) v in let u = Memᴰ·of-map Input (downTo (net .inputs)) w in
-          let z : Gated (t .0) ≡ Input (u .0) = t .2 ∙ sym (u .2) in let y : _≡_ {A = ℕ} 0 1 = cc in omega arith)
+      let z : Gated (t .0) ≡ Input (u .0) = t .2 ∙ sym (u .2) in let y : _≡_ {A = ℕ} 0 1 = cc in omega arith)
 
   tails : (s : Signal) → List·Memᴰ s (invsS ++ constS) → (kind s ≡ 3) ⊎ (kind s ≡ 0)
   tails s m = ⊎-elim (λ w. inl (kind-inv s w)) (λ w. inr (kind-const s w)) (List·Memᴰ·append-cases invsS m)
@@ -152,21 +152,21 @@ module _ (net : Net) where
   once-defs : Dup defs → ⊥
   once-defs =
       once-append (map inpS (range 0 (net .inputs))) (dffS ++ (combS ++ (invsS ++ constS)))
-        (once-map inpS (λ x y e. let q : Input x ≡ Input y = ap (λ (s : Signal). s .node) e in cc) (range 0 (net .inputs)) (once-range 0 (net .inputs)))
-        (once-append dffS (combS ++ (invsS ++ constS))
-          (once-map gateS node-of (nums isDff 0 (net .gates)) (once-nums isDff 0 (net .gates)))
-          (once-append combS (invsS ++ constS)
-            (once-map gateS node-of (nums isComb 0 (net .gates)) (once-nums isComb 0 (net .gates)))
-            (once-append invsS constS
-              (once-map invS (λ x y e. ap (λ (s : Signal). s .node) e) (inverters net) (once-filter (inverted net) nodes once-nodes)) once-const
-              (λ s v w. let a : kind s ≡ 3 = kind-inv s v in let b : kind s ≡ 0 = kind-const s w in omega arith))
-            (λ s v w. let a : kind s ≡ 2 = kind-of gateS 2 (λ g. refl) (nums isComb 0 (net .gates)) s v in ⊎-elim (λ (b : kind s ≡ 3). omega arith) (λ (b : kind s ≡ 0). omega arith) (tails s w)))
-          (λ s v w. let a : kind s ≡ 2 = kind-of gateS 2 (λ g. refl) (nums isDff 0 (net .gates)) s v in
-              ⊎-elim (λ u. apart-gates s v u) (λ u. ⊎-elim (λ (b : kind s ≡ 3). omega arith) (λ (b : kind s ≡ 0). omega arith) (tails s u)) (List·Memᴰ·append-cases combS w)))
-        (λ s v w. let a : kind s ≡ 1 = kind-of inpS 1 (λ g. refl) (range 0 (net .inputs)) s v in
-            ⊎-elim (λ u. let b : kind s ≡ 2 = kind-of gateS 2 (λ g. refl) (nums isDff 0 (net .gates)) s u in omega arith)
-              (λ u. ⊎-elim (λ c. let b : kind s ≡ 2 = kind-of gateS 2 (λ g. refl) (nums isComb 0 (net .gates)) s c in omega arith)
-                (λ c. ⊎-elim (λ (b : kind s ≡ 3). omega arith) (λ (b : kind s ≡ 0). omega arith) (tails s c)) (List·Memᴰ·append-cases combS u)) (List·Memᴰ·append-cases dffS w))
+      (once-map inpS (λ x y e. let q : Input x ≡ Input y = ap (λ (s : Signal). s .node) e in cc) (range 0 (net .inputs)) (once-range 0 (net .inputs)))
+      (once-append dffS (combS ++ (invsS ++ constS))
+      (once-map gateS node-of (nums isDff 0 (net .gates)) (once-nums isDff 0 (net .gates)))
+      (once-append combS (invsS ++ constS)
+      (once-map gateS node-of (nums isComb 0 (net .gates)) (once-nums isComb 0 (net .gates)))
+      (once-append invsS constS
+      (once-map invS (λ x y e. ap (λ (s : Signal). s .node) e) (inverters net) (once-filter (inverted net) nodes once-nodes)) once-const
+      (λ s v w. let a : kind s ≡ 3 = kind-inv s v in let b : kind s ≡ 0 = kind-const s w in omega arith))
+      (λ s v w. let a : kind s ≡ 2 = kind-of gateS 2 (λ g. refl) (nums isComb 0 (net .gates)) s v in ⊎-elim (λ (b : kind s ≡ 3). omega arith) (λ (b : kind s ≡ 0). omega arith) (tails s w)))
+      (λ s v w. let a : kind s ≡ 2 = kind-of gateS 2 (λ g. refl) (nums isDff 0 (net .gates)) s v in
+      ⊎-elim (λ u. apart-gates s v u) (λ u. ⊎-elim (λ (b : kind s ≡ 3). omega arith) (λ (b : kind s ≡ 0). omega arith) (tails s u)) (List·Memᴰ·append-cases combS w)))
+      (λ s v w. let a : kind s ≡ 1 = kind-of inpS 1 (λ g. refl) (range 0 (net .inputs)) s v in
+      ⊎-elim (λ u. let b : kind s ≡ 2 = kind-of gateS 2 (λ g. refl) (nums isDff 0 (net .gates)) s u in omega arith)
+      (λ u. ⊎-elim (λ c. let b : kind s ≡ 2 = kind-of gateS 2 (λ g. refl) (nums isComb 0 (net .gates)) s c in omega arith)
+      (λ c. ⊎-elim (λ (b : kind s ≡ 3). omega arith) (λ (b : kind s ≡ 0). omega arith) (tails s c)) (List·Memᴰ·append-cases combS u)) (List·Memᴰ·append-cases dffS w))
 
 module _ {Name : Type 0} (name : Signal → Name) where
   latch-targets : (k : ℕ) (xs : List Gate) → map target (latchBlocks name k xs) ≡ map name (map gateS (nums isDff k xs))

@@ -8,3 +8,5 @@ pub mod Find
 pub mod Counting
 pub mod Over
 pub mod Once
+pub mod Every
+pub mod Known

@@ -1,6 +1,6 @@
 -- Tests: a number is at most another or above it, a Bool is true or false, and a conjunction holds where both sides do. Assumes nothing.
 use mathlib.Core.Path.{_≡_, refl}
-use mathlib.Core.Bool.{Bool, true, false, _&&_, true≢false, false≢true}
+use mathlib.Core.Bool.{Bool, true, false, _&&_, _||_, true≢false, false≢true}
 use mathlib.Core.Logic.{_⊎_, inl, inr}
 use Prim.Native.Nat.{ℕ, _≤_, _<_}
 use native.Mathlib.Omega.{arith}
@@ -44,3 +44,12 @@ same-test true true f g = refl
 same-test true false f g = absurd (false≢true (f refl))
 same-test false true f g = absurd (false≢true (g refl))
 same-test false false f g = refl
+
+-- neither side of a disjunction that fails holds
+pub or-left : (a b : Bool) → (a || b) ≡ false → a ≡ false
+or-left true b e = e
+or-left false b e = refl
+
+pub or-right : (a b : Bool) → (a || b) ≡ false → b ≡ false
+or-right true b e = absurd (true≢false e)
+or-right false b e = e
