@@ -17,3 +17,4 @@ pub mod WrittenOnce
 pub mod WrittenMeans
 pub mod BlockOrder
 pub mod Masks
+pub mod Rendered
