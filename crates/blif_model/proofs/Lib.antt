@@ -18,3 +18,6 @@ pub mod WrittenMeans
 pub mod BlockOrder
 pub mod Masks
 pub mod Rendered
+pub mod NoFault
+pub mod Accepted
+pub mod RoundTrip
