@@ -21,3 +21,4 @@ pub mod Rendered
 pub mod NoFault
 pub mod Accepted
 pub mod RoundTrip
+pub mod Summary
