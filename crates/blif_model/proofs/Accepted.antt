@@ -1,9 +1,9 @@
 -- A text that no test refuses is one that reading accepts: so what is read means what the text means. Assumes nothing.
 use mathlib.Core.Path.{_≡_, refl, sym, ap, ap₂, _∙_, subst}
-use mathlib.Core.Bool.{Bool, true, false, not, _&&_, _||_}
+use mathlib.Core.Bool.{Bool, true, false, not, _&&_}
 use mathlib.Core.List.{List, [], _∷_, _++_, map, flatMap, append-assoc, List·Memᴰ, List·Memᴰ·head, List·Memᴰ·tail, Memᴰ·cast, List·Memᴰ·not-nil, List·Memᴰ·cases-cons, List·Memᴰ·append-cases, List·Memᴰ·eq-of-singleton, Memᴰ·append-left, Memᴰ·append-right, Memᴰ·of-map}
 use mathlib.Core.Option.{Option, none, some}
-use mathlib.Core.Logic.{_⊎_, inl, inr, ⊎-elim, _↔_}
+use mathlib.Core.Logic.{inl, inr, ⊎-elim, _↔_}
 use Prim.Native.Nat.{ℕ, zero, suc, _-_}
 use native.Mathlib.Omega.{arith}
 use lib.Dec.{eqb, leb, ltb}
@@ -20,8 +20,8 @@ use Rattle.network.specs.Settle.{run}
 use Rattle.sort.specs.Sorted.{sorted}
 use Rattle.sort.proofs.Sorting.{sorted-free}
 use Rattle.blif_text.specs.Statements.{parsed, firstBad, stmts}
-use Rattle.blif_text.specs.Decls.{Def, latch, cover, Decl, model, end, inputs, outputs, gate, decls, insOf, outsOf, defsOf, ins, outs, defs, coverOut, coverIns, defines, uses, columns, output, isOne}
-use Rattle.blif_model.specs.Blif.{Block, Model, target, BlifRuns}
+use Rattle.blif_text.specs.Decls.{Def, latch, cover, Decl, model, end, inputs, outputs, gate, decls, insOf, defsOf, ins, outs, defs, coverOut, coverIns, defines, uses, columns, output, isOne}
+use Rattle.blif_model.specs.Blif.{Model, target, BlifRuns}
 use Rattle.blif_model.specs.Build.{build, sources, Defined, Closed, GoodLines, GoodBlock}
 use Rattle.blif_model.specs.Lookup.{defined, lookup}
 use Rattle.blif_model.specs.Names.{byte-names}
@@ -104,16 +104,16 @@ fresh-named (model ∷ ds) seen l e = fresh-named ds true l (then-right (when se
 fresh-named (end ∷ ds) seen l e = fresh-named ds seen l (then-right (when (not seen) 8) (naming seen l ds) e)
 fresh-named (inputs ns ∷ ds) seen l e =
     fresh-append l ns (declared ds) (fresh-twice ns l (when-no (twice l ns) 9 (then-left (when (twice l ns) 10) (naming seen (l ++ ns) ds) e)))
-      (fresh-named ds seen (l ++ ns) (then-right (when (twice l ns) 10) (naming seen (l ++ ns) ds) e))
+    (fresh-named ds seen (l ++ ns) (then-right (when (twice l ns) 10) (naming seen (l ++ ns) ds) e))
 fresh-named (outputs ns ∷ ds) seen l e = fresh-named ds seen l e
 fresh-named (gate (latch d q) ∷ ds) seen l e =
     fresh-append l (q ∷ []) (declared ds) (fresh-one l q (when-no (known q l) 9 (then-left (when (known q l) 10) (naming seen (l ++ (q ∷ [])) ds) e)))
-      (fresh-named ds seen (l ++ (q ∷ [])) (then-right (when (known q l) 10) (naming seen (l ++ (q ∷ [])) ds) e))
+    (fresh-named ds seen (l ++ (q ∷ [])) (then-right (when (known q l) 10) (naming seen (l ++ (q ∷ [])) ds) e))
 fresh-named (gate (cover [] ls) ∷ ds) seen l e = absurd (omega arith)
 fresh-named (gate (cover (n ∷ ns) ls) ∷ ds) seen l e =
     let q : Bytes = coverOut (n ∷ ns) in
     fresh-append l (q ∷ []) (declared ds) (fresh-one l q (when-no (known q l) 9 (then-left (when (known q l) 10) (naming seen (l ++ (q ∷ [])) ds) e)))
-      (fresh-named ds seen (l ++ (q ∷ [])) (then-right (when (known q l) 10) (naming seen (l ++ (q ∷ [])) ds) e))
+    (fresh-named ds seen (l ++ (q ∷ [])) (then-right (when (known q l) 10) (naming seen (l ++ (q ∷ [])) ds) e))
 
 abbrev inNames : List Decl → List Bytes
 inNames ds = flatMap insOf ds
@@ -128,12 +128,12 @@ mem-declared (model ∷ ds) x m = mem-declared ds x m
 mem-declared (end ∷ ds) x m = mem-declared ds x m
 mem-declared (inputs ns ∷ ds) x m =
     ⊎-elim (λ (w : List·Memᴰ x ns). Memᴰ·append-left (declared ds) w) (λ (w : List·Memᴰ x (inNames ds ++ gateNames ds)). Memᴰ·append-right ns (mem-declared ds x w))
-      (List·Memᴰ·append-cases ns (subst (List·Memᴰ x) (append-assoc ns (inNames ds) (gateNames ds)) m))
+    (List·Memᴰ·append-cases ns (subst (List·Memᴰ x) (append-assoc ns (inNames ds) (gateNames ds)) m))
 mem-declared (outputs ns ∷ ds) x m = mem-declared ds x m
 mem-declared (gate g ∷ ds) x m =
     ⊎-elim (λ (w : List·Memᴰ x (inNames ds)). List·Memᴰ·tail (mem-declared ds x (Memᴰ·append-left (gateNames ds) w)))
-      (λ (w : List·Memᴰ x (defines g ∷ gateNames ds)). ⊎-elim (λ (e : x ≡ defines g). List·Memᴰ·head e) (λ (v : List·Memᴰ x (gateNames ds)). List·Memᴰ·tail (mem-declared ds x (Memᴰ·append-right (inNames ds) v))) (List·Memᴰ·cases-cons w))
-      (List·Memᴰ·append-cases (inNames ds) m)
+    (λ (w : List·Memᴰ x (defines g ∷ gateNames ds)). ⊎-elim (λ (e : x ≡ defines g). List·Memᴰ·head e) (λ (v : List·Memᴰ x (gateNames ds)). List·Memᴰ·tail (mem-declared ds x (Memᴰ·append-right (inNames ds) v))) (List·Memᴰ·cases-cons w))
+    (List·Memᴰ·append-cases (inNames ds) m)
 
 dup-declared : (ds : List Decl) → Dup (inNames ds ++ gateNames ds) → Dup (declared ds)
 unfolding flatMap insOf defsOf
@@ -142,16 +142,16 @@ dup-declared (model ∷ ds) d = dup-declared ds d
 dup-declared (end ∷ ds) d = dup-declared ds d
 dup-declared (inputs ns ∷ ds) d =
     ⊎-elim (λ (w : Dup ns). dup-left ns (declared ds) w)
-      (λ w. ⊎-elim (λ (v : Dup (inNames ds ++ gateNames ds)). dup-right ns (declared ds) (dup-declared ds v)) (λ v. dup-both ns (declared ds) (v .0) (v .1) (mem-declared ds (v .0) (v .2))) w)
-      (dup-append ns (inNames ds ++ gateNames ds) (subst Dup (append-assoc ns (inNames ds) (gateNames ds)) d))
+    (λ w. ⊎-elim (λ (v : Dup (inNames ds ++ gateNames ds)). dup-right ns (declared ds) (dup-declared ds v)) (λ v. dup-both ns (declared ds) (v .0) (v .1) (mem-declared ds (v .0) (v .2))) w)
+    (dup-append ns (inNames ds ++ gateNames ds) (subst Dup (append-assoc ns (inNames ds) (gateNames ds)) d))
 dup-declared (outputs ns ∷ ds) d = dup-declared ds d
 dup-declared (gate g ∷ ds) d =
     let q : Bytes = defines g in
     ⊎-elim (λ (w : Dup (inNames ds)). there (dup-declared ds (dup-left (inNames ds) (gateNames ds) w)))
-      (λ w. ⊎-elim (λ (v : Dup (defines g ∷ gateNames ds)). tail (dup-declared ds) v)
-        (λ v. ⊎-elim (λ (e : v .0 ≡ defines g). here (mem-declared ds (defines g) (Memᴰ·append-left (gateNames ds) (Memᴰ·cast (sym e) (v .1)))))
-          (λ (u : List·Memᴰ (v .0) (gateNames ds)). there (dup-declared ds (dup-both (inNames ds) (gateNames ds) (v .0) (v .1) u))) (List·Memᴰ·cases-cons (v .2))) w)
-      (dup-append (inNames ds) (defines g ∷ gateNames ds) d)
+    (λ w. ⊎-elim (λ (v : Dup (defines g ∷ gateNames ds)). tail (dup-declared ds) v)
+    (λ v. ⊎-elim (λ (e : v .0 ≡ defines g). here (mem-declared ds (defines g) (Memᴰ·append-left (gateNames ds) (Memᴰ·cast (sym e) (v .1)))))
+    (λ (u : List·Memᴰ (v .0) (gateNames ds)). there (dup-declared ds (dup-both (inNames ds) (gateNames ds) (v .0) (v .1) u))) (List·Memᴰ·cases-cons (v .2))) w)
+    (dup-append (inNames ds) (defines g ∷ gateNames ds) d)
   where
     tail : (Dup (inNames ds ++ gateNames ds) → Dup (declared ds)) → Dup (defines g ∷ gateNames ds) → Dup (defines g ∷ declared ds)
     tail ih (here m) = here (mem-declared ds (defines g) (Memᴰ·append-right (inNames ds) m))
@@ -187,11 +187,11 @@ module _ (ds : List Decl) where
   mem-defined : (x : Bytes) → List·Memᴰ x (ins ds ++ map defines (defs ds)) → Defined m x
   mem-defined x w =
       ⊎-elim (λ (v : List·Memᴰ x (ins ds)). inl (mem-place (ins ds) x v))
-        (λ (v : List·Memᴰ x (map defines (defs ds))).
-            let t = Memᴰ·of-map defines (defs ds) v in
-            let p = mem-place (defs ds) (t .0) (t .1) in
-            inr (p .0, blockOf (t .0), map-place blockOf (defs ds) (p .0) (t .0) (p .1), target-of (t .0) ∙ t .2))
-        (List·Memᴰ·append-cases (ins ds) w)
+      (λ (v : List·Memᴰ x (map defines (defs ds))).
+      let t = Memᴰ·of-map defines (defs ds) v in
+      let p = mem-place (defs ds) (t .0) (t .1) in
+      inr (p .0, blockOf (t .0), map-place blockOf (defs ds) (p .0) (t .0) (p .1), target-of (t .0) ∙ t .2))
+      (List·Memᴰ·append-cases (ins ds) w)
 
   closed-of : undefined ds ≡ false → Closed m
   unfolding undefined

@@ -2,7 +2,7 @@
 use mathlib.Core.Path.{_≡_, refl, sym, ap, _∙_, subst}
 use mathlib.Core.List.{List, [], _∷_, _++_, map, List·Memᴰ, List·Memᴰ·head, List·Memᴰ·tail}
 use mathlib.Core.Option.{some}
-use mathlib.Core.Logic.{_⊎_, inl, inr}
+use mathlib.Core.Logic.{inl, inr}
 use Prim.Native.Nat.{ℕ, zero, suc, _+_, _*_, _≤_, _<_}
 use native.Mathlib.Omega.{arith}
 use native.Mathlib.Nat.{zero-add, add-zero}
@@ -12,7 +12,7 @@ use Rattle.lists.proofs.Places.{place-mem, map-place}
 use Rattle.signal.specs.Signal.{Node, Const, Input, Gated, Signal}
 use Rattle.gates.specs.Gate.{Gate, Comb, Dff, pins}
 use Rattle.network.specs.Net.{Net, GateIs, Loop}
-use Rattle.network.proofs.OneChoice.{Rises, rises-free}
+use Rattle.network.proofs.OneChoice.{rises-free}
 use Rattle.blif_model.specs.Blif.{Line, Block, Latch, Cover, Model, target}
 use Rattle.blif_model.specs.Build.{literals, lineGate, coverGate, blockGate, moreGates, mains, extras, build, sources, Defined, Looks, Closed}
 use Rattle.blif_model.proofs.Along.{Seg, seg-append, seg-of, Each, each-of, each-append, each-at, place-front}

@@ -1,18 +1,17 @@
 -- The network built for a model whose names are defined has valid signals, with or without a loop. Assumes nothing.
-use mathlib.Core.Path.{_≡_, refl, sym, ap, ap₂, _∙_, subst}
+use mathlib.Core.Path.{_≡_, refl, sym, ap, _∙_, subst}
 use mathlib.Core.List.{List, [], _∷_, _++_, map, List·Memᴰ, List·Memᴰ·head, List·Memᴰ·tail, Memᴰ·of-map, Memᴰ·append-left, Memᴰ·append-right}
 use mathlib.Core.Option.{Option, none, some}
-use mathlib.Core.Logic.{_⊎_, inl, inr}
+use mathlib.Core.Logic.{inl, inr}
 use Prim.Native.Nat.{ℕ, zero, suc, _+_, _≤_, _<_}
 use native.Mathlib.Omega.{arith}
-use native.Mathlib.Nat.{add-zero, zero-add}
-use lib.ListN.{length, getElem?, length-map, length-append}
+use lib.ListN.{length, getElem?, length-append}
 use Rattle.signal.specs.Signal.{Node, Const, Input, Gated, Signal, oneS, zeroS}
-use Rattle.gates.specs.Gate.{Gate, Comb, Dff, pins}
-use Rattle.network.specs.Net.{Net, GateIs, Valid, ValidNode}
-use Rattle.blif_model.specs.Blif.{Line, Block, Latch, Cover, Model, target}
-use Rattle.blif_model.specs.Build.{literals, optSig, optName, lineGate, lineGates, coverGate, blockGate, moreGates, mains, extras, build, sources, Defined, Looks, Closed}
-use Rattle.lists.proofs.Places.{place-lt, place-mem}
+use Rattle.gates.specs.Gate.{Gate, pins}
+use Rattle.network.specs.Net.{Valid, ValidNode}
+use Rattle.blif_model.specs.Blif.{Line, Block, Latch, Cover, Model}
+use Rattle.blif_model.specs.Build.{optSig, optName, lineGate, blockGate, moreGates, mains, extras, build, sources, Defined, Looks, Closed}
+use Rattle.lists.proofs.Places.{place-lt}
 use Rattle.blif_model.proofs.Reading.{mains-length}
 use Rattle.blif_model.proofs.CoverPins.{All, all-nil, all-cons, literals-all, line-all, cover-all, lit-source}
 

@@ -2,7 +2,7 @@
 use mathlib.Core.Path.{_≡_, refl, sym, subst}
 use mathlib.Core.List.{List, [], _∷_, map, List·Memᴰ, List·Memᴰ·head, List·Memᴰ·tail, List·Memᴰ·not-nil, List·Memᴰ·cases-cons}
 use mathlib.Core.Bool.{Bool, true, false}
-use mathlib.Core.Logic.{_⊎_, ⊎-elim}
+use mathlib.Core.Logic.{⊎-elim}
 use Prim.Native.Nat.{ℕ, zero, suc, _+_, _<_}
 use native.Mathlib.Omega.{arith}
 use native.Mathlib.Nat.{add-zero}
@@ -30,9 +30,6 @@ module _ (P : Node → Type 0) (const : P Const) where
 
   pub all-cons : (s : Signal) (ss : List Signal) → P (s .node) → All ss → All (s ∷ ss)
   all-cons s ss p h t m = ⊎-elim (λ (e : t ≡ s). subst (λ (u : Signal). P (u .node)) (sym e) p) (λ (w : List·Memᴰ t ss). h t w) (List·Memᴰ·cases-cons m)
-
-  all-tail : (s : Signal) (ss : List Signal) → All (s ∷ ss) → All ss
-  all-tail s ss h t m = h t (List·Memᴰ·tail m)
 
   pub literals-all : {Name : Type 0} (look : Name → Signal) (cs : List Col) (xs : List Name) → ((x : Name) → List·Memᴰ x (litNames cs xs) → P (look x .node)) → All (literals cs (map look xs))
   literals-all look [] xs h = all-nil

@@ -1,15 +1,15 @@
 -- The gates built for a cover mean what the cover means. Assumes nothing.
 use mathlib.Core.Path.{_≡_, refl, sym, ap, ap₂, _∙_}
-use mathlib.Core.List.{List, [], _∷_, _++_, map, List·Memᴰ}
-use mathlib.Core.Bool.{Bool, true, false, not, _&&_, _||_, cond, or-false, Bool·not-not, and-true, or-true}
-use Prim.Native.Nat.{ℕ, zero, suc, _+_, _≤_, _<_}
-use lib.ListN.{length, getD, getElem?, length-map, length-append}
-use Rattle.signal.specs.Signal.{Node, Const, Input, Gated, Signal, turned, flip, plain, zeroS}
-use Rattle.gates.specs.Gate.{Gate, Comb, Dff, allOf, anyOf, formBit, OrN, AndN}
-use Rattle.network.specs.Clock.{sigBit, nodeBit, gateBit, nextBit}
-use Rattle.blif_model.specs.Blif.{Col, C0, C1, Dash, Line, colBit, cubeBit, cubesBit, coverBit}
+use mathlib.Core.List.{List, [], _∷_, map}
+use mathlib.Core.Bool.{Bool, true, false, not, _&&_, _||_, cond, or-false, and-true}
+use Prim.Native.Nat.{ℕ, suc}
+use lib.ListN.{length, length-map}
+use Rattle.signal.specs.Signal.{Signal, turned, flip}
+use Rattle.gates.specs.Gate.{allOf, anyOf, formBit, OrN, AndN}
+use Rattle.network.specs.Clock.{sigBit, nodeBit, gateBit}
+use Rattle.blif_model.specs.Blif.{Col, C0, C1, Dash, Line, cubeBit, cubesBit, coverBit}
 use Rattle.blif_model.proofs.Along.{Seg}
-use Rattle.blif_model.specs.Build.{literals, literalGate, lineGate, lineGates, gateRun, coverGate, GoodLines}
+use Rattle.blif_model.specs.Build.{literals, literalGate, lineGate, gateRun, coverGate, GoodLines}
 
 -- what the gate of a line is to be
 abbrev pub lineBit : List Bool → Line → Bool
@@ -34,24 +34,16 @@ module _ (row : List Bool) (β : ℕ → Bool) where
   literals-bit (C1 ∷ cs) (s ∷ ss) = ap (λ (y : Bool). σ s && y) (literals-bit cs ss)
   literals-bit (Dash ∷ cs) (s ∷ ss) = literals-bit cs ss
 
-  gateOf-bit : (h p : Bool) (ls : List Signal) → gateBit σ h (literalGate p ls) ≡ flip (not p) (allOf (map σ ls))
-  gateOf-bit h true [] = refl
-  gateOf-bit h true (l ∷ []) = sym (and-true (σ l))
-  gateOf-bit h true (l ∷ k ∷ ls) = refl
-  gateOf-bit h false [] = refl
-  gateOf-bit h false (l ∷ []) = turned-bit l ∙ ap not (sym (and-true (σ l)))
-  gateOf-bit h false (l ∷ k ∷ ls) = refl
-
-  gateOf-next : (h p : Bool) (ls : List Signal) → nextBit σ h (literalGate p ls) ≡ h
-  gateOf-next h true [] = refl
-  gateOf-next h true (l ∷ []) = refl
-  gateOf-next h true (l ∷ k ∷ ls) = refl
-  gateOf-next h false [] = refl
-  gateOf-next h false (l ∷ []) = refl
-  gateOf-next h false (l ∷ k ∷ ls) = refl
+  literal-bit : (h p : Bool) (ls : List Signal) → gateBit σ h (literalGate p ls) ≡ flip (not p) (allOf (map σ ls))
+  literal-bit h true [] = refl
+  literal-bit h true (l ∷ []) = sym (and-true (σ l))
+  literal-bit h true (l ∷ k ∷ ls) = refl
+  literal-bit h false [] = refl
+  literal-bit h false (l ∷ []) = turned-bit l ∙ ap not (sym (and-true (σ l)))
+  literal-bit h false (l ∷ k ∷ ls) = refl
 
   pub line-bit : (h : Bool) (ss : List Signal) (l : Line) → gateBit σ h (lineGate ss l) ≡ lineBit (map σ ss) l
-  line-bit h ss l = gateOf-bit h (l .out) (literals (l .cols) ss) ∙ ap (flip (not (l .out))) (literals-bit (l .cols) ss)
+  line-bit h ss l = literal-bit h (l .out) (literals (l .cols) ss) ∙ ap (flip (not (l .out))) (literals-bit (l .cols) ss)
 
   run-bits : (k : ℕ) (bs : List Bool) → Seg β k bs → map σ (gateRun k (length bs)) ≡ bs
   run-bits k [] s = refl
@@ -91,7 +83,7 @@ module _ (row : List Bool) (β : ℕ → Bool) where
       ap (λ (p : Bool). formBit (cond p OrN AndN) (map (lineBit bs) (l ∷ ls))) (g .1) ∙ off-lines n bs (l ∷ ls) g
       ∙ sym (ap (λ (p : Bool). cond p (cubesBit (l ∷ ls) bs) (not (cubesBit (l ∷ ls) bs))) (g .1))
 
-  -- THE COVER LEMMA
+  -- the gate of a cover has the cover's value, where the gates of its lines have theirs
   pub cover-bit : (h : Bool) (k : ℕ) (ss : List Signal) (ls : List Line) (n : ℕ) (o : Bool) → GoodLines n o ls
       → Seg β k (linesBits (map (sigBit row β) ss) ls) → gateBit (sigBit row β) h (coverGate k ss ls) ≡ coverBit ls (map (sigBit row β) ss)
   cover-bit h k ss [] n o g s = refl
@@ -101,9 +93,3 @@ module _ (row : List Bool) (β : ℕ → Bool) where
       ap (λ (c : ℕ). map (sigBit row β) (gateRun k c)) (sym (length-map (l ∷ m ∷ ls) (lineBit (map (sigBit row β) ss))))
       ∙ run-bits row β k (map (lineBit (map (sigBit row β) ss)) (l ∷ m ∷ ls)) s)
       ∙ joined o n (map (sigBit row β) ss) l (m ∷ ls) g
-
-  -- no gate of a cover holds a bit
-  pub cover-next : (h : Bool) (k : ℕ) (ss : List Signal) (ls : List Line) → nextBit (sigBit row β) h (coverGate k ss ls) ≡ h
-  cover-next h k ss [] = refl
-  cover-next h k ss (l ∷ []) = gateOf-next row β h (l .out) (literals (l .cols) ss)
-  cover-next h k ss (l ∷ m ∷ ls) = refl

@@ -1,5 +1,5 @@
 -- Each form's cover lines mean what the form makes of its bits. Assumes nothing.
-use mathlib.Core.Path.{_≡_, refl, sym, ap, _∙_, subst}
+use mathlib.Core.Path.{_≡_, refl, ap, _∙_, subst}
 use mathlib.Core.List.{List, [], _∷_, map, List·Memᴰ, List·Memᴰ·head, List·Memᴰ·tail}
 use mathlib.Core.Bool.{Bool, true, false, not, _&&_, _||_, cond, or-false, Bool·not-not, false≢true}
 use Prim.Native.Nat.{ℕ}

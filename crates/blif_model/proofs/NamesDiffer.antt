@@ -1,13 +1,13 @@
 -- A name's bytes tell its signal. Assumes nothing.
-use mathlib.Core.Path.{_≡_, refl, sym, ap, ap₂, _∙_, subst}
-use mathlib.Core.List.{List, [], _∷_, _++_}
-use mathlib.Core.Bool.{Bool, true, false, not, _&&_, cond}
+use mathlib.Core.Path.{_≡_, refl, ap, ap₂, _∙_}
+use mathlib.Core.List.{List, [], _∷_}
+use mathlib.Core.Bool.{Bool, true, false, _&&_}
 use Prim.Native.Nat.{ℕ, zero, suc, _+_, _-_, _*_, _/_, _%_, _≤_, _<_}
 use native.Mathlib.Omega.{arith}
-use native.Mathlib.Nat.{div-add-mod'}
-use lib.Dec.{T, leb, ltb, ltb→lt, nltb→le, le→leb}
+use lib.Dec.{leb, ltb}
+use borrow.Author.Tests.{le-leb, ltb-true, ltb-false}
 use Rattle.signal.specs.Signal.{Node, Const, Input, Gated, Signal, plain}
-use Rattle.blif_model.specs.Names.{decimalBefore, decimal, suffix, nodeBytes, nameBytes}
+use Rattle.blif_model.specs.Names.{decimalBefore, suffix, nodeBytes, nameBytes}
 
 -- the number that the digits at the front are, after v, and whether anything follows
 abbrev digit : ℕ → Bool
@@ -17,12 +17,8 @@ readNum : ℕ → List ℕ → ℕ × Bool
 readNum v [] = (v, false)
 readNum v (c ∷ cs) = elim (digit c) [ true ↦ readNum (v * 10 + (c - 48)) cs | false ↦ (v, true) ]
 
-T-true : (b : Bool) → T b → b ≡ true
-T-true true t = refl
-T-true false t = absurd t
-
 digit-yes : (d : ℕ) → d < 10 → digit (48 + d) ≡ true
-digit-yes d h = ap₂ (λ (x y : Bool). x && y) (T-true (leb 48 (48 + d)) (le→leb 48 (48 + d) (omega arith))) (T-true (leb (48 + d) 57) (le→leb (48 + d) 57 (omega arith)))
+digit-yes d h = ap₂ (λ (x y : Bool). x && y) (le-leb 48 (48 + d) (omega arith)) (le-leb (48 + d) 57 (omega arith))
 
 read-digit : (v d : ℕ) (cs : List ℕ) → d < 10 → readNum v ((48 + d) ∷ cs) ≡ readNum (v * 10 + d) cs
 unfolding readNum
@@ -39,9 +35,9 @@ read-decimal (suc f) n s h = go (ltb n 10) refl (read-decimal f (n / 10))
   where
     go : (b : Bool) → ltb n 10 ≡ b → ((t : List ℕ) → n / 10 < f → readNum 0 (decimalBefore f (n / 10) t) ≡ readNum (n / 10) t)
         → readNum 0 (elim b as (λ (x : Bool). List ℕ) [ true ↦ (48 + n) ∷ s | false ↦ decimalBefore f (n / 10) ((48 + n % 10) ∷ s) ]) ≡ readNum n s
-    go true e ih = let u : n < 10 = ltb→lt n 10 (subst T (sym e) tt) in read-digit 0 n s u ∙ ap (λ (k : ℕ). readNum k s) (omega arith)
+    go true e ih = let u : n < 10 = ltb-true n 10 e in read-digit 0 n s u ∙ ap (λ (k : ℕ). readNum k s) (omega arith)
     go false e ih =
-        let u : 10 ≤ n = nltb→le n 10 (subst (λ (b : Bool). T (not b)) (sym e) tt) in
+        let u : 10 ≤ n = ltb-false n 10 e in
         ih ((48 + n % 10) ∷ s) (omega arith) ∙ read-digit (n / 10) (n % 10) s (mod-lt n) ∙ ap (λ (k : ℕ). readNum k s) (omega arith)
 
 read-suffix : (n : ℕ) (v : Bool) → readNum n (suffix v) ≡ (n, v)

@@ -2,10 +2,8 @@
 use mathlib.Core.Path.{_≡_, refl, sym, ap, ap₂, _∙_, subst}
 use mathlib.Core.Bool.{Bool, true, false, not, _&&_, _||_}
 use mathlib.Core.List.{List, [], _∷_, _++_, map, flatMap, append-assoc, List·Memᴰ, List·Memᴰ·head, List·Memᴰ·tail, Memᴰ·cast, List·Memᴰ·not-nil, List·Memᴰ·append-cases, Memᴰ·append-left, Memᴰ·append-right, Memᴰ·map}
-use mathlib.Core.Option.{some}
-use mathlib.Core.Logic.{_⊎_, inl, inr, ⊎-elim}
+use mathlib.Core.Logic.{inl, inr, ⊎-elim}
 use Prim.Native.Nat.{ℕ, _≤_}
-use lib.Dec.{eqb}
 use lib.ListN.{length, length-map}
 use borrow.Author.Tests.{eq-eqb, le-ltb}
 use Rattle.lists.specs.Lists.{Bytes, same, all, any, elem, known, Dup}
@@ -17,7 +15,7 @@ use Rattle.lists.proofs.Once.{dup-left, dup-both}
 use Rattle.gates.specs.Gate.{FlipFlop, Dff}
 use Rattle.network.specs.Net.{Net, GateIs}
 use Rattle.signal.specs.Signal.{oneS, zeroS}
-use Rattle.blif_text.specs.Decls.{Decl, gate, cover, ins, outs, defs, coverOut, defines, uses, columns, output, isOne}
+use Rattle.blif_text.specs.Decls.{Decl, gate, cover, defs, defines, uses, columns, output, isOne}
 use Rattle.blif_model.specs.Blif.{Col, C0, C1, Dash, Line, Block, Latch, Cover, Model, target}
 use Rattle.blif_model.specs.Build.{sources, optName, Defined, GoodLines, GoodBlock}
 use Rattle.blif_model.specs.Lookup.{defined}
@@ -157,8 +155,8 @@ module _ (net : Net) (plainFlops : (g : ℕ) (s : FlipFlop) → GateIs net g (Df
   all-known : (x : Bytes) → List·Memᴰ x (w .outputs ++ flatMap uses (map defOf (w .blocks))) → known x (defined w) ≡ true
   all-known x m =
       mem-known x (defined w) (defined-mem w x (
-        ⊎-elim (λ (v : List·Memᴰ x (w .outputs)). acc .closed .outputsDefined x v)
-        (λ (v : List·Memᴰ x (flatMap uses (map defOf (w .blocks)))). let t = uses-mem (w .blocks) x v in acc .closed .sourcesDefined (t .0) x (t .1) (t .2)) (List·Memᴰ·append-cases (w .outputs) m)))
+      ⊎-elim (λ (v : List·Memᴰ x (w .outputs)). acc .closed .outputsDefined x v)
+      (λ (v : List·Memᴰ x (flatMap uses (map defOf (w .blocks)))). let t = uses-mem (w .blocks) x v in acc .closed .sourcesDefined (t .0) x (t .1) (t .2)) (List·Memᴰ·append-cases (w .outputs) m)))
 
   none-undefined : undefined dl ≡ false
   unfolding undefined

@@ -1,18 +1,18 @@
 -- A model has ranks if the gates built for it have no loop. Assumes nothing.
-use mathlib.Core.Path.{_≡_, refl, sym, ap, ap₂, _∙_, subst}
-use mathlib.Core.List.{List, [], _∷_, _++_, map, List·Memᴰ, List·Memᴰ·head, List·Memᴰ·tail, List·Memᴰ·not-nil, List·Memᴰ·cases-cons, List·Memᴰ·eq-of-singleton}
+use mathlib.Core.Path.{_≡_, refl, sym, ap, _∙_, subst}
+use mathlib.Core.List.{List, [], _∷_, map, List·Memᴰ, List·Memᴰ·head, List·Memᴰ·tail, List·Memᴰ·not-nil, List·Memᴰ·cases-cons, List·Memᴰ·eq-of-singleton}
 use mathlib.Core.Bool.{Bool, true, false, cond}
-use mathlib.Core.Option.{Option, none, some}
-use mathlib.Core.Logic.{_⊎_, inl, inr, ⊎-elim}
-use Prim.Native.Nat.{ℕ, zero, suc, _+_, _≤_, _<_}
+use mathlib.Core.Option.{some}
+use mathlib.Core.Logic.{⊎-elim}
+use Prim.Native.Nat.{ℕ, zero, suc, _+_, _<_}
 use native.Mathlib.Omega.{arith}
 use native.Mathlib.Nat.{add-zero}
-use lib.ListN.{length, getElem?, length-map}
-use Rattle.signal.specs.Signal.{Node, Const, Input, Gated, Signal, plain, turned, oneS, zeroS}
-use Rattle.gates.specs.Gate.{Form, OrN, AndN, NandN, Buf, Gate, Comb, Dff, pins}
+use lib.ListN.{length, getElem?}
+use Rattle.signal.specs.Signal.{Node, Const, Input, Gated, Signal, plain, turned}
+use Rattle.gates.specs.Gate.{Form, OrN, AndN, NandN, Buf, Gate, Comb}
 use Rattle.network.specs.Net.{Net, GateIs, Loop}
-use Rattle.blif_model.specs.Blif.{Col, C0, C1, Dash, Line, Block, Latch, Cover, Model, target}
-use Rattle.blif_model.specs.Build.{literals, literalGate, lineGate, lineGates, gateRun, coverGate, blockGate, moreGates, mains, extras, build, Looks}
+use Rattle.blif_model.specs.Blif.{Col, C0, C1, Dash, Line, Block, Cover, Model}
+use Rattle.blif_model.specs.Build.{literals, literalGate, lineGate, gateRun, blockGate, build, Looks}
 use Rattle.lists.proofs.Places.{place-lt, mem-place, map-place}
 use Rattle.network.proofs.OneChoice.{Ranked, ranked}
 use Rattle.blif_model.proofs.BuiltFree.{RankedModel}

@@ -1,18 +1,18 @@
--- (A, the other way) Every clock of the network built for a model is one of the model. Assumes nothing.
-use mathlib.Core.Path.{_≡_, refl, sym, ap, ap₂, _∙_, subst}
-use mathlib.Core.List.{List, [], _∷_, _++_, map, List·Memᴰ, List·Memᴰ·head, List·Memᴰ·tail}
+-- Every clock of the network built for a model is one of the model. Assumes nothing.
+use mathlib.Core.Path.{_≡_, refl, sym, ap, ap₂, _∙_}
+use mathlib.Core.List.{List, [], _∷_, _++_, map, List·Memᴰ}
 use mathlib.Core.Bool.{Bool, true, false, cond}
 use mathlib.Core.Option.{Option, none, some}
-use Prim.Native.Nat.{ℕ, zero, suc, _+_, _≤_, _<_}
+use Prim.Native.Nat.{ℕ, zero, suc, _+_}
 use native.Mathlib.Omega.{arith}
 use native.Mathlib.Nat.{zero-add, add-zero}
-use lib.ListN.{length, getD, getElem?, length-map, length-append}
-use Rattle.signal.specs.Signal.{Node, Const, Input, Gated, Signal, plain, oneS, zeroS}
-use Rattle.gates.specs.Gate.{Gate, Comb, Dff}
-use Rattle.network.specs.Net.{Net, GateIs}
-use Rattle.network.specs.Clock.{Fits, Clock, sigBit, gateBit, nextBit}
-use Rattle.blif_model.specs.Blif.{Line, Feed, Block, Latch, Cover, Model, target, optBit, nextHeld, blockBit, coverBit, BlifFits, BlifClock}
-use Rattle.blif_model.specs.Build.{optSig, lineGate, lineGates, coverGate, blockGate, moreGates, mains, extras, build, Looks, Closed, GoodBlock}
+use lib.ListN.{length, getElem?}
+use Rattle.signal.specs.Signal.{Node, Const, Input, Gated, Signal, oneS, zeroS}
+use Rattle.gates.specs.Gate.{Gate}
+use Rattle.network.specs.Net.{GateIs}
+use Rattle.network.specs.Clock.{Clock, sigBit}
+use Rattle.blif_model.specs.Blif.{Line, Feed, Block, Latch, Cover, Model, target, optBit, blockBit, coverBit, BlifClock}
+use Rattle.blif_model.specs.Build.{optSig, lineGate, lineGates, blockGate, moreGates, mains, extras, build, Looks, Closed, GoodBlock}
 use Rattle.lists.proofs.Places.{place-mem, mem-place, place-left, place-right, map-map}
 use Rattle.blif_model.proofs.Covers.{lineBit, linesBits, line-bit, cover-bit}
 use Rattle.blif_model.proofs.Along.{Seg}

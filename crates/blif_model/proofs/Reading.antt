@@ -1,24 +1,24 @@
--- Reading: the network built for a model has the clocks of the model. Assumes nothing.
-use mathlib.Core.Path.{_≡_, refl, sym, ap, ap₂, _∙_, subst}
+-- Every clock of a model is one of the network built for it. Assumes nothing.
+use mathlib.Core.Path.{_≡_, refl, sym, ap, _∙_, subst}
 use mathlib.Core.List.{List, [], _∷_, _++_, map, List·Memᴰ, List·Memᴰ·head, List·Memᴰ·tail, Memᴰ·append-left, Memᴰ·append-right}
-use mathlib.Core.Bool.{Bool, true, false, not, _&&_, _||_, cond}
+use mathlib.Core.Bool.{Bool, true, false, cond}
 use mathlib.Core.Option.{Option, none, some}
-use mathlib.Core.Logic.{_⊎_, inl, inr}
-use Prim.Native.Nat.{ℕ, zero, suc, _+_, _≤_, _<_}
+use mathlib.Core.Logic.{inl, inr}
+use Prim.Native.Nat.{ℕ, zero, suc, _+_}
 use native.Mathlib.Omega.{arith}
-use native.Mathlib.Nat.{zero-add, add-zero, add-suc, suc-add, add-assoc}
-use lib.ListN.{length, getD, getElem?, length-map, length-append}
+use native.Mathlib.Nat.{zero-add, add-zero}
+use lib.ListN.{length, getD, getElem?, length-map}
 use lib.Seq.{getD-append-add}
 use Rattle.network.specs.Settle.{nextOf}
 use Rattle.network.proofs.Runs.{Simulates, nextOf-is}
-use Rattle.signal.specs.Signal.{Node, Const, Input, Gated, Signal, plain, oneS, zeroS}
-use Rattle.gates.specs.Gate.{Gate, Comb, Dff}
-use Rattle.network.specs.Net.{Net, GateIs}
-use Rattle.network.specs.Clock.{Fits, Clock, sigBit, gateBit, nextBit}
-use Rattle.blif_model.specs.Blif.{Line, Feed, Block, Latch, Cover, Model, target, optBit, nextHeld, blockBit, coverBit, BlifFits, BlifClock}
-use Rattle.blif_model.specs.Build.{lineGate, lineGates, coverGate, optSig, optName, blockGate, moreGates, mains, extras, build, sources, Defined, Looks, Closed, GoodLines, GoodBlock}
-use Rattle.lists.proofs.Places.{place-lt, place-mem, mem-place, lt-place, place-left, place-right, map-on, map-map, map-place}
-use Rattle.blif_model.proofs.Covers.{lineBit, linesBits, line-bit, cover-bit, cover-next}
+use Rattle.signal.specs.Signal.{Signal, oneS, zeroS}
+use Rattle.gates.specs.Gate.{Gate}
+use Rattle.network.specs.Net.{Net}
+use Rattle.network.specs.Clock.{Fits, Clock, sigBit, gateBit}
+use Rattle.blif_model.specs.Blif.{Line, Feed, Block, Latch, Cover, Model, target, optBit, blockBit, coverBit, BlifClock}
+use Rattle.blif_model.specs.Build.{lineGate, optSig, optName, blockGate, moreGates, mains, extras, build, sources, Defined, Looks, Closed, GoodBlock}
+use Rattle.lists.proofs.Places.{place-mem, place-left, map-on, map-map, map-place}
+use Rattle.blif_model.proofs.Covers.{lineBit, linesBits, line-bit, cover-bit}
 use Rattle.blif_model.proofs.Along.{Seg, seg-append, seg-of, Each, each-of, place-front}
 
 -- ---- bits by place
@@ -208,6 +208,6 @@ module _ {Name : Type 0} (m : Model Name) (look : Name → Signal) (ok : Looks m
       next-holds,
     )
 
-  -- (A) every clock of the model is one of the network built for it
+  -- every clock of the model is one of the network built for it
   pub read-simulates : Simulates Holds (BlifClock m) (Clock (build look m))
   read-simulates heldB nextB heldN row out h c = read-clock heldB nextB heldN row out h c

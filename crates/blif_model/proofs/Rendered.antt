@@ -1,10 +1,10 @@
 -- The text written for a network parses as its model: lines as statements, statements as declarations, declarations as blocks.
 -- Assumes nothing.
 use mathlib.Core.Path.{_≡_, refl, sym, ap, ap₂, _∙_, subst}
-use mathlib.Core.Bool.{Bool, true, false, cond}
+use mathlib.Core.Bool.{Bool, true, false}
 use mathlib.Core.List.{List, [], _∷_, _++_, map, flatMap, headD, append-assoc, append-nil, map-append}
-use mathlib.Core.Option.{Option, none, some}
-use Prim.Native.Nat.{ℕ, zero, suc, _+_, _-_, _/_, _%_, _≤_, _<_}
+use mathlib.Core.Option.{none, some}
+use Prim.Native.Nat.{ℕ, zero, suc, _+_, _-_, _/_, _%_, _<_}
 use native.Mathlib.Omega.{arith}
 use lib.Dec.{leb, ltb}
 use lib.ListN.{length, getD, getElem?, take, length-append}
@@ -20,8 +20,8 @@ use Rattle.blif_text.specs.Statements.{Stmt, Parsed, ok, stmtOf, modelOf, parse
 use Rattle.blif_text.specs.Decls.{Def, latch, cover, Decl, gate, cubes, decls, insOf, outsOf, defsOf, ins, outs, defs, coverOut, coverIns, columns, output, isOne}
 use Rattle.blif_text.proofs.Saying.{WordByte, IsWord, quoted, says, Single, quoted-line, parsed-lines, lines-ascii, words-single, says-words, stmt-names, stmt-inputs, stmt-outputs, stmt-latch, stmts-ok, none-bad}
 use Rattle.blif_model.specs.Blif.{Col, C0, C1, Dash, Line, Feed, Block, Latch, Cover, Model}
-use Rattle.blif_model.specs.Write.{bare, feedOf, unless, gateName, latchBlocks, combBlock, combBlocks, inverterBlock, inverters, constBlocks, written}
-use Rattle.blif_model.specs.Names.{decimalBefore, decimal, suffix, nodeBytes, nameBytes}
+use Rattle.blif_model.specs.Write.{bare, feedOf, unless, gateName, latchBlocks, combBlocks, inverterBlock, inverters, constBlocks, written}
+use Rattle.blif_model.specs.Names.{decimalBefore, suffix, nodeBytes, nameBytes}
 use Rattle.blif_model.specs.Render.{spaced, line, colByte, outByte, cubeLine, latchLine, storedLine, blockLines, allLines, textLines, textOf, colOfByte, lineOf, blockOf, modelOf as modelOfDecls, modelOfText}
 use Rattle.blif_model.proofs.Written.{comb-cases}
 
@@ -130,9 +130,9 @@ block-says : (b : Block Bytes) → PlainBlock b → flatMap says (blockLines b) 
 unfolding flatMap
 block-says (Latch f q) w =
     ap (λ (r : List Parsed). r ++ []) (
-      ap says (latch-line f q (w .0) (w .1))
-      ∙ says-spaced (bytes ".latch") (f .input ∷ q ∷ bytes "0" ∷ []) kw-latch (latch-words (w .2) (w .3))
-      ∙ ap (λ (p : Parsed). p ∷ []) (stmt-latch (f .input) q (bytes "0" ∷ [])))
+    ap says (latch-line f q (w .0) (w .1))
+    ∙ says-spaced (bytes ".latch") (f .input ∷ q ∷ bytes "0" ∷ []) kw-latch (latch-words (w .2) (w .3))
+    ∙ ap (λ (p : Parsed). p ∷ []) (stmt-latch (f .input) q (bytes "0" ∷ [])))
 block-says (Cover xs y ls) w =
     ap₂ (λ (a b : List Parsed). a ++ b)
     (says-spaced (bytes ".names") (xs ++ (y ∷ [])) kw-names (cover-words (w .0) (w .1)) ∙ ap (λ (p : Parsed). p ∷ []) (stmt-names (xs ++ (y ∷ []))))
@@ -247,6 +247,7 @@ decimal-word (suc f) n s h = go (ltb n 10) refl (decimal-word f (n / 10))
   where
     digit : (d : ℕ) → d < 10 → WordByte (48 + d)
     digit d u = (omega arith, (λ q. omega arith), (λ q. omega arith), omega arith)
+
     go : (b : Bool) → ltb n 10 ≡ b → ((t : Bytes) → Every WordByte t → Every WordByte (decimalBefore f (n / 10) t))
         → Every WordByte (elim b as (λ (x : Bool). Bytes) [ true ↦ (48 + n) ∷ s | false ↦ decimalBefore f (n / 10) ((48 + n % 10) ∷ s) ])
     go true e ih = every-cons (digit n (ltb-true n 10 e)) h
@@ -284,8 +285,8 @@ covers-plain k [] = every-nil
 covers-plain k (Dff s ∷ xs) = covers-plain (suc k) xs
 covers-plain k (Comb f ps ∷ xs) =
     every-cons (comb-cases nameBytes (λ f ps b. PlainBlock b) k
-      (λ qs. (every-map (λ (s : Signal). nameBytes (bare s)) qs (λ s. name-word (bare s)), name-word (plain (Gated k))))
-      (λ g qs e. (every-map nameBytes qs name-word, name-word (plain (Gated k)))) f ps)
+    (λ qs. (every-map (λ (s : Signal). nameBytes (bare s)) qs (λ s. name-word (bare s)), name-word (plain (Gated k))))
+    (λ g qs e. (every-map nameBytes qs name-word, name-word (plain (Gated k)))) f ps)
     (covers-plain (suc k) xs)
 
 inverters-plain : (l : List Node) → Every PlainBlock (map (inverterBlock nameBytes) l)

@@ -1,22 +1,20 @@
 -- What is written is read, as a network with equal outputs; so no text is written for two networks with other outputs. Assumes nothing.
 use mathlib.Core.Path.{_≡_, refl, sym, ap, ap₂, _∙_, subst}
-use mathlib.Core.Bool.{Bool, false}
-use mathlib.Core.List.{List}
+use mathlib.Core.Bool.{false}
 use mathlib.Core.Option.{Option, none, some}
 use Prim.Native.Nat.{ℕ, _≤_}
-use native.Mathlib.Omega.{arith}
 use lib.ListN.{length}
 use Rattle.lists.specs.Lists.{Bytes}
 use Rattle.signal.specs.Signal.{oneS, zeroS}
 use Rattle.gates.specs.Gate.{FlipFlop, Dff}
-use Rattle.network.specs.Net.{Net, GateIs, Valid}
+use Rattle.network.specs.Net.{Net, GateIs}
 use Rattle.sort.specs.Sorted.{sorted}
 use Rattle.sort.proofs.Sorting.{none-loop}
 use Rattle.blif_model.specs.Blif.{Model}
 use Rattle.blif_model.specs.Write.{written}
 use Rattle.blif_model.specs.Names.{nameBytes, byte-names}
 use Rattle.blif_model.specs.Render.{textOf, modelOfText}
-use Rattle.blif_model.specs.Read.{tooLarge, declsOf, readFault, read, answer, builtFrom, readText}
+use Rattle.blif_model.specs.Read.{tooLarge, declsOf, read, answer, builtFrom, readText}
 use Rattle.blif_model.specs.Demand.{Good, SameOutputs, Accepts}
 use Rattle.blif_model.proofs.NamesDiffer.{unname, unname-name}
 use Rattle.blif_model.proofs.Meaning.{builtOf, accepted-valid}
@@ -46,6 +44,7 @@ module _ (net : Net) (good : Good net) where
     where
       built : Net
       built = builtOf byte-names (written nameBytes net)
+
       go : (o : Option Net) → sorted built ≡ o → (new : Net) × (sorted built ≡ some new)
       go none e = absurd (accepts .free (none-loop built (accepted-valid byte-names (written nameBytes net) accepts) .0 e))
       go (some new) e = (new, e)

@@ -1,23 +1,23 @@
--- (C) Writing: the model written for a network has the clocks of the network. Assumes nothing.
+-- Every clock of a network is one of the model written for it. Assumes nothing.
 use mathlib.Core.Path.{_≡_, refl, sym, ap, ap₂, _∙_, subst}
-use mathlib.Core.List.{List, [], _∷_, _++_, map, List·Memᴰ, List·Memᴰ·head, List·Memᴰ·tail, Memᴰ·cast, List·Memᴰ·not-nil, List·Memᴰ·cases-cons, List·Memᴰ·append-cases, Memᴰ·of-map, List·Memᴰ·eq-of-singleton}
-use mathlib.Core.Bool.{Bool, true, false, not, _&&_, _||_, cond, or-false, and-true, Bool·not-not}
-use mathlib.Core.Option.{Option, none, some}
-use mathlib.Core.Logic.{_⊎_, inl, inr, ⊎-elim}
-use Prim.Native.Nat.{ℕ, zero, suc, _+_, _≤_, _<_}
+use mathlib.Core.List.{List, [], _∷_, map, List·Memᴰ, List·Memᴰ·not-nil, List·Memᴰ·cases-cons, List·Memᴰ·append-cases, Memᴰ·of-map, List·Memᴰ·eq-of-singleton}
+use mathlib.Core.Bool.{Bool, true, false, not, _&&_, _||_, cond, or-false, and-true}
+use mathlib.Core.Option.{none, some}
+use mathlib.Core.Logic.{⊎-elim}
+use Prim.Native.Nat.{ℕ, zero, suc, _+_}
 use native.Mathlib.Omega.{arith}
-use native.Mathlib.Nat.{zero-add, add-zero}
+use native.Mathlib.Nat.{zero-add}
 use lib.ListN.{length, getD, getElem?, length-map}
 use borrow.Author.Tests.{eqb-true}
 use Rattle.signal.specs.Signal.{Node, Const, Input, Gated, Signal, flip, plain, turned, oneS, zeroS}
-use Rattle.gates.specs.Gate.{Form, And2, Xor2, And3, Xor3, Maj3, Mux3, AndN, OrN, NandN, NorN, XorN, XnorN, Buf, FlipFlop, Gate, Comb, Dff, pins, allOf, formBit}
+use Rattle.gates.specs.Gate.{Form, And2, Xor2, And3, Xor3, Maj3, Mux3, AndN, OrN, NandN, NorN, XorN, XnorN, Buf, FlipFlop, Gate, Comb, Dff, formBit}
 use Rattle.gates.specs.Forms.{canHave}
 use Rattle.network.specs.Net.{Net, GateIs, Formed}
-use Rattle.network.specs.Clock.{Fits, Clock, nodeBit, sigBit, gateBit, nextBit}
-use Rattle.blif_model.specs.Blif.{Col, C0, C1, Dash, Line, Feed, Block, Latch, Cover, Model, target, optBit, nextHeld, cubeBit, coverBit, blockBit, BlifFits, BlifClock}
+use Rattle.network.specs.Clock.{Clock, nodeBit, sigBit}
+use Rattle.blif_model.specs.Blif.{Feed, Block, Latch, Cover, target, optBit, nextHeld, cubeBit, coverBit, blockBit, BlifClock}
 use Rattle.blif_model.specs.Write.{isConst, sameNode, unless, feedOf, line, colOf, linesOf, inverters, bare, gateName, bufBlock, formBlock, combBlock, latchBlocks, combBlocks, inverterBlock, constBlocks, written}
 use Rattle.lists.specs.Lists.{range}
-use Rattle.lists.proofs.Places.{place-lt, place-mem, mem-place, lt-place, map-on, map-map, map-at}
+use Rattle.lists.proofs.Places.{map-on, map-map, map-at}
 use Rattle.blif_model.proofs.FormLines.{lines-mean}
 use Rattle.blif_model.proofs.Covers.{turned-bit}
 use Rattle.network.proofs.Runs.{Simulates}
@@ -227,6 +227,6 @@ module _ {Name : Type 0} (name : Signal → Name) where
           λ g s p. next-gate g,
         )
 
-      -- (C) every clock of the network is one of the model written for it
+      -- every clock of the network is one of the model written for it
       pub write-simulates : Simulates HoldsName (Clock net) (BlifClock (written name net))
       write-simulates heldN nextN heldB row out h c = write-clock heldN nextN heldB row out h c

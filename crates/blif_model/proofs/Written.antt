@@ -1,31 +1,29 @@
 -- The model written for a network is one that reading accepts: good lines, names defined and defined once, ranks. Assumes nothing.
-use mathlib.Core.Path.{_≡_, refl, sym, ap, ap₂, _∙_, subst}
-use mathlib.Core.List.{List, [], _∷_, _++_, map, List·Memᴰ, List·Memᴰ·head, List·Memᴰ·tail, Memᴰ·cast, List·Memᴰ·not-nil, List·Memᴰ·cases-cons, List·Memᴰ·append-cases, Memᴰ·append-left, Memᴰ·append-right, Memᴰ·of-map, Memᴰ·map, List·Memᴰ·eq-of-singleton, map-append}
+use mathlib.Core.Path.{_≡_, refl, sym, ap, _∙_, subst}
+use mathlib.Core.List.{List, [], _∷_, _++_, map, List·Memᴰ, List·Memᴰ·head, List·Memᴰ·tail, Memᴰ·cast, List·Memᴰ·not-nil, List·Memᴰ·cases-cons, List·Memᴰ·append-cases, Memᴰ·append-left, Memᴰ·append-right, Memᴰ·of-map, Memᴰ·map, List·Memᴰ·eq-of-singleton}
 use mathlib.Core.Bool.{Bool, true, false, not, _&&_, _||_, cond, or-true}
-use mathlib.Core.Option.{Option, none, some}
-use mathlib.Core.Logic.{_⊎_, inl, inr, ⊎-elim}
+use mathlib.Core.Option.{none, some}
+use mathlib.Core.Logic.{inl, inr, ⊎-elim}
 use Prim.Native.Nat.{ℕ, zero, suc, _+_, _*_, _≤_, _<_}
 use native.Mathlib.Omega.{arith}
 use native.Mathlib.Nat.{zero-add, add-zero}
-use lib.ListN.{length, getD, getElem?, length-map, replicate, length-replicate}
-use lib.Dec.{eqb}
+use lib.ListN.{length, getElem?, length-map, length-replicate}
 use borrow.Author.Tests.{eqb-true, eq-eqb}
 use Rattle.lists.proofs.Range.{range-place}
 use Rattle.gates.specs.Forms.{canHave}
-use Rattle.signal.specs.Signal.{Node, Const, Input, Gated, Signal, flip, plain, turned, oneS, zeroS}
+use Rattle.signal.specs.Signal.{Node, Const, Input, Gated, Signal, plain, turned, oneS, zeroS}
 use Rattle.gates.specs.Gate.{Form, And2, Xor2, And3, Xor3, Maj3, Mux3, AndN, OrN, NandN, NorN, XorN, XnorN, Buf, FlipFlop, Gate, Comb, Dff, pins, odd}
-use Rattle.network.specs.Net.{Net, GateIs, Formed, Valid, ValidNode, Loop}
-use Rattle.blif_model.specs.Blif.{Col, C0, C1, Dash, Line, Block, Latch, Cover, Model, target}
+use Rattle.network.specs.Net.{Net, GateIs, Formed, Valid, ValidNode}
+use Rattle.blif_model.specs.Blif.{C0, C1, Block, Latch, Cover, Model, target}
 use Rattle.blif_model.specs.Build.{optName, sources, Defined, Closed, GoodLines, GoodBlock}
 use Rattle.blif_model.specs.Write.{isConst, unless, feedOf, line, colOf, doubled, masks, minterms, even, linesOf, sameNode, usedAmong, named, usedIn, inverted, downTo, inverters, bare, gateName, bufBlock, formBlock, combBlock, latchBlocks, combBlocks, inverterBlock, constBlocks, written}
-use Rattle.lists.specs.Lists.{range, filter, Dup, here, there}
-use Rattle.blif_model.specs.Lookup.{defined}
-use Rattle.lists.proofs.Places.{place-lt, place-mem, mem-place, lt-place, map-place}
-use Rattle.network.proofs.OneChoice.{Ranked, ranked}
+use Rattle.lists.specs.Lists.{range}
+use Rattle.lists.proofs.Places.{place-mem, mem-place, lt-place, map-place}
+use Rattle.network.proofs.OneChoice.{Ranked}
 use Rattle.blif_model.proofs.BuiltFree.{RankedModel}
 use Rattle.blif_model.proofs.CoverPins.{lit-source}
 use Rattle.blif_model.proofs.Writing.{Source, ofDff, ofComb, ofInverter, ofOne, ofZero, source}
-use Rattle.lists.proofs.Once.{once-nil, once-cons, once-append, once-map, once-filter, filter-mem, mem-filter}
+use Rattle.lists.proofs.Once.{filter-mem, mem-filter}
 
 -- ---- lines
 

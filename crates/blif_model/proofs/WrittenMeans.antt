@@ -5,13 +5,13 @@ use mathlib.Core.List.{List, map}
 use mathlib.Core.Option.{some}
 use mathlib.Core.Logic.{_↔_}
 use Prim.Native.Nat.{ℕ}
-use lib.ListN.{length, length-map}
+use lib.ListN.{length-map}
 use Rattle.lists.specs.Lists.{Dup, range}
 use Rattle.lists.proofs.Range.{length-range}
 use Rattle.signal.specs.Signal.{Input, Signal, plain}
 use Rattle.gates.specs.Gate.{Gate, Comb, Dff}
 use Rattle.gates.specs.Forms.{formed}
-use Rattle.network.specs.Net.{Net, GateIs, Valid, Formed, Loop}
+use Rattle.network.specs.Net.{Net, Valid, Formed, Loop}
 use Rattle.network.specs.Clock.{Clock, zeroBits}
 use Rattle.network.specs.Settle.{run}
 use Rattle.network.proofs.OneChoice.{ranked, run-is}

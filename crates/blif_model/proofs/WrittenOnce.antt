@@ -1,19 +1,18 @@
 -- No name is defined twice in the model written for a network. Assumes nothing.
 use mathlib.Core.Path.{_≡_, refl, sym, ap, ap₂, _∙_, subst}
-use mathlib.Core.List.{List, [], _∷_, _++_, map, List·Memᴰ, List·Memᴰ·head, List·Memᴰ·tail, Memᴰ·cast, List·Memᴰ·not-nil, List·Memᴰ·cases-cons, List·Memᴰ·append-cases, Memᴰ·of-map, List·Memᴰ·eq-of-singleton, map-append}
-use mathlib.Core.Bool.{Bool, true, false, not, cond}
-use mathlib.Core.Option.{Option, none, some}
+use mathlib.Core.List.{List, [], _∷_, _++_, map, List·Memᴰ, List·Memᴰ·not-nil, List·Memᴰ·cases-cons, List·Memᴰ·append-cases, Memᴰ·of-map, List·Memᴰ·eq-of-singleton, map-append}
+use mathlib.Core.Bool.{Bool, true, false, cond}
+use mathlib.Core.Option.{some}
 use mathlib.Core.Logic.{_⊎_, inl, inr, ⊎-elim}
 use Prim.Native.Nat.{ℕ, zero, suc, _+_, _≤_, _<_}
 use native.Mathlib.Omega.{arith}
-use native.Mathlib.Nat.{zero-add, add-zero}
 use lib.ListN.{length, getElem?}
 use Rattle.signal.specs.Signal.{Node, Const, Input, Gated, Signal, plain, turned, oneS, zeroS}
-use Rattle.gates.specs.Gate.{Form, Gate, Comb, Dff, isComb}
-use Rattle.network.specs.Net.{Net, GateIs}
-use Rattle.blif_model.specs.Blif.{Block, Latch, Cover, Model, target}
-use Rattle.lists.specs.Lists.{range, filter, Dup, here, there}
-use Rattle.blif_model.specs.Write.{downTo, inverted, inverters, gateName, combBlock, latchBlocks, combBlocks, inverterBlock, constBlocks, written}
+use Rattle.gates.specs.Gate.{Gate, Comb, Dff, isComb}
+use Rattle.network.specs.Net.{Net}
+use Rattle.blif_model.specs.Blif.{target}
+use Rattle.lists.specs.Lists.{range, Dup}
+use Rattle.blif_model.specs.Write.{downTo, inverted, inverters, gateName, latchBlocks, combBlocks, inverterBlock, written}
 use Rattle.blif_model.specs.Lookup.{defined}
 use Rattle.lists.proofs.Places.{map-map}
 use Rattle.blif_model.proofs.Written.{comb-target}
