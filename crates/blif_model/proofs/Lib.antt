@@ -11,6 +11,7 @@ pub mod BuiltValid
 pub mod BuiltFree
 pub mod Ranks
 pub mod Meaning
+pub mod Blocks
 pub mod Writing
 pub mod Written
 pub mod WrittenOnce

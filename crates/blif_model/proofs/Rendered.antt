@@ -23,7 +23,7 @@ use Rattle.blif_model.specs.Blif.{Col, C0, C1, Dash, Line, Feed, Block, 
 use Rattle.blif_model.specs.Write.{bare, feedOf, unless, gateName, latchBlocks, combBlocks, inverterBlock, inverters, constBlocks, written}
 use Rattle.blif_model.specs.Names.{decimalBefore, suffix, nodeBytes, nameBytes}
 use Rattle.blif_model.specs.Render.{spaced, line, colByte, outByte, cubeLine, latchLine, storedLine, blockLines, allLines, textLines, textOf, colOfByte, lineOf, blockOf, modelOf as modelOfDecls, modelOfText}
-use Rattle.blif_model.proofs.Written.{comb-cases}
+use Rattle.blif_model.proofs.Blocks.{comb-cases}
 
 -- ---- lines of words
 

@@ -1,56 +1,28 @@
 -- Every clock of a network is one of the model written for it. Assumes nothing.
 use mathlib.Core.Path.{_≡_, refl, sym, ap, ap₂, _∙_, subst}
-use mathlib.Core.List.{List, [], _∷_, map, List·Memᴰ, List·Memᴰ·not-nil, List·Memᴰ·cases-cons, List·Memᴰ·append-cases, Memᴰ·of-map, List·Memᴰ·eq-of-singleton}
+use mathlib.Core.List.{List, [], _∷_, map}
 use mathlib.Core.Bool.{Bool, true, false, not, _&&_, _||_, cond, or-false, and-true}
 use mathlib.Core.Option.{none, some}
-use mathlib.Core.Logic.{⊎-elim}
-use Prim.Native.Nat.{ℕ, zero, suc, _+_}
+use Prim.Native.Nat.{ℕ}
 use native.Mathlib.Omega.{arith}
 use native.Mathlib.Nat.{zero-add}
 use lib.ListN.{length, getD, getElem?, length-map}
 use borrow.Author.Tests.{eqb-true}
 use Rattle.signal.specs.Signal.{Node, Const, Input, Gated, Signal, flip, plain, turned, oneS, zeroS}
-use Rattle.gates.specs.Gate.{Form, And2, Xor2, And3, Xor3, Maj3, Mux3, AndN, OrN, NandN, NorN, XorN, XnorN, Buf, FlipFlop, Gate, Comb, Dff, formBit}
+use Rattle.gates.specs.Gate.{Form, Buf, FlipFlop, Comb, Dff, formBit}
 use Rattle.gates.specs.Forms.{canHave}
 use Rattle.network.specs.Net.{Net, GateIs, Formed}
 use Rattle.network.specs.Clock.{Clock, nodeBit, sigBit}
-use Rattle.blif_model.specs.Blif.{Feed, Block, Latch, Cover, target, optBit, nextHeld, cubeBit, coverBit, blockBit, BlifClock}
-use Rattle.blif_model.specs.Write.{isConst, sameNode, unless, feedOf, line, colOf, linesOf, inverters, bare, gateName, bufBlock, formBlock, combBlock, latchBlocks, combBlocks, inverterBlock, constBlocks, written}
+use Rattle.blif_model.specs.Blif.{Feed, Block, Latch, target, optBit, nextHeld, cubeBit, coverBit, blockBit, BlifClock}
+use Rattle.blif_model.specs.Write.{isConst, sameNode, unless, feedOf, colOf, linesOf, bare, gateName, bufBlock, formBlock, combBlock, inverterBlock, written}
 use Rattle.lists.specs.Lists.{range}
 use Rattle.lists.proofs.Places.{map-on, map-map, map-at}
+use Rattle.blif_model.proofs.Blocks.{range-at, comb-cases, no-latch, Source, ofDff, ofComb, ofInverter, ofOne, ofZero, source}
 use Rattle.blif_model.proofs.FormLines.{lines-mean}
 use Rattle.blif_model.proofs.Covers.{turned-bit}
 use Rattle.network.proofs.Runs.{Simulates}
 
-pub range-at : (k n i x : ℕ) → getElem? (range k n) i ≡ some x → x ≡ k + i
-range-at k zero i x e = absurd (let z : _≡_ {A = ℕ} 0 1 = cc in omega arith)
-range-at k (suc n) zero x e = let q : k ≡ x = cc in omega arith
-range-at k (suc n) (suc i) x e = let r : x ≡ suc k + i = range-at (suc k) n i x e in omega arith
-
 module _ {Name : Type 0} (name : Signal → Name) where
-  -- a latch written is a flip-flop's, a cover written among the gates a combinational gate's
-  latch-from : (k : ℕ) (xs : List Gate) (b : Block Name) → List·Memᴰ b (latchBlocks name k xs)
-      → (i : ℕ) × (s : FlipFlop) × (getElem? xs i ≡ some (Dff s)) × (b ≡ Latch (feedOf name s) (gateName name (k + i)))
-  latch-from k [] b m = absurd (List·Memᴰ·not-nil m)
-  latch-from k (Comb f ps ∷ xs) b m = let t = latch-from (suc k) xs b m in
-      (suc (t .0), t .1, t .2, t .3 ∙ ap (λ (n : ℕ). Latch (feedOf name (t .1)) (gateName name n)) (omega arith))
-  latch-from k (Dff s ∷ xs) b m =
-      ⊎-elim (λ (q : b ≡ Latch (feedOf name s) (gateName name k)). (0, s, refl, q ∙ ap (λ (n : ℕ). Latch (feedOf name s) (gateName name n)) (omega arith)))
-      (λ (w : List·Memᴰ b (latchBlocks name (suc k) xs)). let t = latch-from (suc k) xs b w in
-      (suc (t .0), t .1, t .2, t .3 ∙ ap (λ (n : ℕ). Latch (feedOf name (t .1)) (gateName name n)) (omega arith)))
-      (List·Memᴰ·cases-cons m)
-
-  comb-from : (k : ℕ) (xs : List Gate) (b : Block Name) → List·Memᴰ b (combBlocks name k xs)
-      → (i : ℕ) × (f : Form) × (ps : List Signal) × (getElem? xs i ≡ some (Comb f ps)) × (b ≡ combBlock name (k + i) f ps)
-  comb-from k [] b m = absurd (List·Memᴰ·not-nil m)
-  comb-from k (Dff s ∷ xs) b m = let t = comb-from (suc k) xs b m in
-      (suc (t .0), t .1, t .2, t .3, t .4 ∙ ap (λ (n : ℕ). combBlock name n (t .1) (t .2)) (omega arith))
-  comb-from k (Comb f ps ∷ xs) b m =
-      ⊎-elim (λ (q : b ≡ combBlock name k f ps). (0, f, ps, refl, q ∙ ap (λ (n : ℕ). combBlock name n f ps) (omega arith)))
-      (λ (w : List·Memᴰ b (combBlocks name (suc k) xs)). let t = comb-from (suc k) xs b w in
-      (suc (t .0), t .1, t .2, t .3, t .4 ∙ ap (λ (n : ℕ). combBlock name n (t .1) (t .2)) (omega arith)))
-      (List·Memᴰ·cases-cons m)
-
   module _ (unname : Name → Signal) (back : (s : Signal) → unname (name s) ≡ s) (row : List Bool) (bits : ℕ → Bool) where
     abbrev σ : Signal → Bool
     σ = sigBit row bits
@@ -86,66 +58,16 @@ module _ {Name : Type 0} (name : Signal → Name) where
 
     comb-bit : (h : Bool) (g : ℕ) (f : Form) (ps : List Signal) → canHave f (length ps) ≡ true → bits g ≡ formBit f (map σ ps)
         → envOf (target (combBlock name g f ps)) ≡ blockBit envOf h (combBlock name g f ps)
-    comb-bit h g And2 ps a e = form-bit h g And2 ps a e
-    comb-bit h g Xor2 ps a e = form-bit h g Xor2 ps a e
-    comb-bit h g And3 ps a e = form-bit h g And3 ps a e
-    comb-bit h g Xor3 ps a e = form-bit h g Xor3 ps a e
-    comb-bit h g Maj3 ps a e = form-bit h g Maj3 ps a e
-    comb-bit h g Mux3 ps a e = form-bit h g Mux3 ps a e
-    comb-bit h g AndN ps a e = form-bit h g AndN ps a e
-    comb-bit h g OrN ps a e = form-bit h g OrN ps a e
-    comb-bit h g NandN ps a e = form-bit h g NandN ps a e
-    comb-bit h g NorN ps a e = form-bit h g NorN ps a e
-    comb-bit h g XorN ps a e = form-bit h g XorN ps a e
-    comb-bit h g XnorN ps a e = form-bit h g XnorN ps a e
-    comb-bit h g Buf ps a e = buf-bit h g ps (eqb-true (length ps) 1 a) e
+    comb-bit h g =
+        comb-cases name (λ f ps b. canHave f (length ps) ≡ true → bits g ≡ formBit f (map σ ps) → envOf (target b) ≡ blockBit envOf h b) g
+        (λ ps a e. buf-bit h g ps (eqb-true (length ps) 1 a) e) (λ f ps n a e. form-bit h g f ps a e)
 
     inverter-bit : (h : Bool) (n : Node) → envOf (target (inverterBlock name n)) ≡ blockBit envOf h (inverterBlock name n)
     inverter-bit h n =
         env-name (turned (plain n)) ∙ turned-bit row bits (plain n)
         ∙ sym (or-false (not (envOf (name (plain n))) && true) ∙ and-true (not (envOf (name (plain n)))) ∙ ap not (env-name (plain n)))
 
-  -- no latch is written among the covers
-  comb-no-latch : (g : ℕ) (f : Form) (ps : List Signal) (d : Feed Name) (q : Name) → Latch d q ≡ combBlock name g f ps → ⊥
-  comb-no-latch g And2 ps d q e = let z : _≡_ {A = ℕ} 0 1 = cc in omega arith
-  comb-no-latch g Xor2 ps d q e = let z : _≡_ {A = ℕ} 0 1 = cc in omega arith
-  comb-no-latch g And3 ps d q e = let z : _≡_ {A = ℕ} 0 1 = cc in omega arith
-  comb-no-latch g Xor3 ps d q e = let z : _≡_ {A = ℕ} 0 1 = cc in omega arith
-  comb-no-latch g Maj3 ps d q e = let z : _≡_ {A = ℕ} 0 1 = cc in omega arith
-  comb-no-latch g Mux3 ps d q e = let z : _≡_ {A = ℕ} 0 1 = cc in omega arith
-  comb-no-latch g AndN ps d q e = let z : _≡_ {A = ℕ} 0 1 = cc in omega arith
-  comb-no-latch g OrN ps d q e = let z : _≡_ {A = ℕ} 0 1 = cc in omega arith
-  comb-no-latch g NandN ps d q e = let z : _≡_ {A = ℕ} 0 1 = cc in omega arith
-  comb-no-latch g NorN ps d q e = let z : _≡_ {A = ℕ} 0 1 = cc in omega arith
-  comb-no-latch g XorN ps d q e = let z : _≡_ {A = ℕ} 0 1 = cc in omega arith
-  comb-no-latch g XnorN ps d q e = let z : _≡_ {A = ℕ} 0 1 = cc in omega arith
-  comb-no-latch g Buf ps d q e = let z : _≡_ {A = ℕ} 0 1 = cc in omega arith
-
   module _ (net : Net) where
-    -- where a written block comes from
-    pub data Source (b : Block Name) : Type 0 where
-      ofDff : (g : ℕ) (s : FlipFlop) → GateIs net g (Dff s) → b ≡ Latch (feedOf name s) (gateName name g) → Source b
-      ofComb : (g : ℕ) (f : Form) (ps : List Signal) → GateIs net g (Comb f ps) → b ≡ combBlock name g f ps → Source b
-      ofInverter : (n : Node) → List·Memᴰ n (inverters net) → b ≡ inverterBlock name n → Source b
-      ofOne : b ≡ Cover [] (name oneS) (line true [] ∷ []) → Source b
-      ofZero : b ≡ Cover [] (name zeroS) [] → Source b
-
-    pub source : (b : Block Name) → List·Memᴰ b (written name net .blocks) → Source b
-    source b m = ⊎-elim latch (λ w. ⊎-elim comb (λ v. ⊎-elim inverter const (List·Memᴰ·append-cases (map (inverterBlock name) (inverters net)) v)) (List·Memᴰ·append-cases (combBlocks name 0 (net .gates)) w))
-        (List·Memᴰ·append-cases (latchBlocks name 0 (net .gates)) m)
-      where
-        latch : List·Memᴰ b (latchBlocks name 0 (net .gates)) → Source b
-        latch w = let t = latch-from 0 (net .gates) b w in ofDff (t .0) (t .1) (t .2) (t .3 ∙ ap (λ (n : ℕ). Latch (feedOf name (t .1)) (gateName name n)) (omega arith))
-
-        comb : List·Memᴰ b (combBlocks name 0 (net .gates)) → Source b
-        comb w = let t = comb-from 0 (net .gates) b w in ofComb (t .0) (t .1) (t .2) (t .3) (t .4 ∙ ap (λ (n : ℕ). combBlock name n (t .1) (t .2)) (omega arith))
-
-        inverter : List·Memᴰ b (map (inverterBlock name) (inverters net)) → Source b
-        inverter w = let t = Memᴰ·of-map (inverterBlock name) (inverters net) w in ofInverter (t .0) (t .1) (sym (t .2))
-
-        const : List·Memᴰ b (constBlocks name) → Source b
-        const w = ⊎-elim ofOne (λ v. ofZero (List·Memᴰ·eq-of-singleton v)) (List·Memᴰ·cases-cons w)
-
     module _ (formed : Formed net) (unname : Name → Signal) (back : (s : Signal) → unname (name s) ≡ s) where
       -- a latch written holds what its flip-flop holds
       abbrev pub HoldsName : (ℕ → Bool) → (Name → Bool) → Type 0
@@ -163,7 +85,7 @@ module _ {Name : Type 0} (name : Signal → Name) where
         abbrev FitsBlock : Block Name → Type 0
         FitsBlock b = ε (target b) ≡ blockBit ε (heldB (target b)) b
 
-        block-fits : (b : Block Name) → Source b → FitsBlock b
+        block-fits : (b : Block Name) → Source name net b → FitsBlock b
         block-fits b (ofDff g s p q) =
             subst FitsBlock (sym q) (env-name unname back row (c .bits) (plain (Gated g)) ∙ c .fits g (Dff s) p ∙ sym (h g s p))
         block-fits b (ofComb g f ps p q) =
@@ -203,14 +125,14 @@ module _ {Name : Type 0} (name : Signal → Name) where
             go true p = sym (const-value v s p)
             go false p = env-name unname back row (c .bits) s
 
-        step-of : (d : Feed Name) (q : Name) → Source (Latch d q) → next q ≡ nextHeld ε (heldB q) d
+        step-of : (d : Feed Name) (q : Name) → Source name net (Latch d q) → next q ≡ nextHeld ε (heldB q) d
         step-of d q (ofDff g s p w) =
             let ed : d ≡ feedOf name s = cc in
             let eq : q ≡ gateName name g = cc in
             ap next eq ∙ next-gate g ∙ c .steps g (Dff s) p
             ∙ sym (λ i. cond (unless-bit false (s .reset) i) false (cond (unless-bit true (s .enable) i) (env-name unname back row (c .bits) (s .dataIn) i) (h g s p i)))
             ∙ sym (λ i. nextHeld ε (heldB (eq i)) (ed i))
-        step-of d q (ofComb g f ps p w) = absurd (comb-no-latch g f ps d q w)
+        step-of d q (ofComb g f ps p w) = absurd (no-latch name g f ps d q w)
         step-of d q (ofInverter n m w) = absurd (let z : _≡_ {A = ℕ} 0 1 = cc in omega arith)
         step-of d q (ofOne w) = absurd (let z : _≡_ {A = ℕ} 0 1 = cc in omega arith)
         step-of d q (ofZero w) = absurd (let z : _≡_ {A = ℕ} 0 1 = cc in omega arith)
@@ -220,9 +142,9 @@ module _ {Name : Type 0} (name : Signal → Name) where
           next,
           record {
             env = ε;
-            fits = record { ins = ins-fit; blocks = λ b m. block-fits b (source b m) };
+            fits = record { ins = ins-fit; blocks = λ b m. block-fits b (source name net b m) };
             answers = c .answers ∙ sym (env-names unname back row (c .bits) (net .outputs));
-            steps = λ d q m. step-of d q (source (Latch d q) m);
+            steps = λ d q m. step-of d q (source name net (Latch d q) m);
           },
           λ g s p. next-gate g,
         )

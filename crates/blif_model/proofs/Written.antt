@@ -6,23 +6,23 @@ use mathlib.Core.Option.{none, some}
 use mathlib.Core.Logic.{inl, inr, ⊎-elim}
 use Prim.Native.Nat.{ℕ, zero, suc, _+_, _*_, _≤_, _<_}
 use native.Mathlib.Omega.{arith}
-use native.Mathlib.Nat.{zero-add, add-zero}
+use native.Mathlib.Nat.{zero-add}
 use lib.ListN.{length, getElem?, length-map, length-replicate}
 use borrow.Author.Tests.{eqb-true, eq-eqb}
 use Rattle.lists.proofs.Range.{range-place}
 use Rattle.gates.specs.Forms.{canHave}
 use Rattle.signal.specs.Signal.{Node, Const, Input, Gated, Signal, plain, turned, oneS, zeroS}
-use Rattle.gates.specs.Gate.{Form, And2, Xor2, And3, Xor3, Maj3, Mux3, AndN, OrN, NandN, NorN, XorN, XnorN, Buf, FlipFlop, Gate, Comb, Dff, pins, odd}
+use Rattle.gates.specs.Gate.{Form, And2, Xor2, And3, Xor3, Maj3, Mux3, AndN, OrN, NandN, NorN, XorN, XnorN, Buf, Gate, Comb, Dff, pins, odd}
 use Rattle.network.specs.Net.{Net, GateIs, Formed, Valid, ValidNode}
 use Rattle.blif_model.specs.Blif.{C0, C1, Block, Latch, Cover, Model, target}
 use Rattle.blif_model.specs.Build.{optName, sources, Defined, Closed, GoodLines, GoodBlock}
-use Rattle.blif_model.specs.Write.{isConst, unless, feedOf, line, colOf, doubled, masks, minterms, even, linesOf, sameNode, usedAmong, named, usedIn, inverted, downTo, inverters, bare, gateName, bufBlock, formBlock, combBlock, latchBlocks, combBlocks, inverterBlock, constBlocks, written}
+use Rattle.blif_model.specs.Write.{isConst, unless, feedOf, line, colOf, doubled, masks, minterms, even, linesOf, sameNode, usedAmong, named, usedIn, inverted, downTo, inverters, bare, gateName, combBlock, latchBlocks, combBlocks, inverterBlock, constBlocks, written}
 use Rattle.lists.specs.Lists.{range}
 use Rattle.lists.proofs.Places.{place-mem, mem-place, lt-place, map-place}
 use Rattle.network.proofs.OneChoice.{Ranked}
 use Rattle.blif_model.proofs.BuiltFree.{RankedModel}
 use Rattle.blif_model.proofs.CoverPins.{lit-source}
-use Rattle.blif_model.proofs.Writing.{Source, ofDff, ofComb, ofInverter, ofOne, ofZero, source}
+use Rattle.blif_model.proofs.Blocks.{range-mem, downTo-lt, downTo-mem, comb-cases, comb-target, latch-in, comb-in, Source, ofDff, ofComb, ofInverter, ofOne, ofZero, source}
 use Rattle.lists.proofs.Once.{filter-mem, mem-filter}
 
 -- ---- lines
@@ -64,30 +64,9 @@ lines-good XnorN n e = (true, minterms-good n even (masks n) (masks-length n))
 lines-good Buf n e = let q : 1 ≡ n = sym (eqb-true n 1 e) in (true, (q, refl, tt))
 
 module _ {Name : Type 0} (name : Signal → Name) where
-  -- a property of a gate's cover: of Buf's, and of the others'
-  pub comb-cases : (P : Form → List Signal → Block Name → Type 0) (g : ℕ)
-      → ((ps : List Signal) → P Buf ps (bufBlock name g ps)) → ((f : Form) (ps : List Signal) → named (Comb f ps) ≡ ps → P f ps (formBlock name g f ps))
-      → (f : Form) (ps : List Signal) → P f ps (combBlock name g f ps)
-  comb-cases P g b o And2 ps = o And2 ps refl
-  comb-cases P g b o Xor2 ps = o Xor2 ps refl
-  comb-cases P g b o And3 ps = o And3 ps refl
-  comb-cases P g b o Xor3 ps = o Xor3 ps refl
-  comb-cases P g b o Maj3 ps = o Maj3 ps refl
-  comb-cases P g b o Mux3 ps = o Mux3 ps refl
-  comb-cases P g b o AndN ps = o AndN ps refl
-  comb-cases P g b o OrN ps = o OrN ps refl
-  comb-cases P g b o NandN ps = o NandN ps refl
-  comb-cases P g b o NorN ps = o NorN ps refl
-  comb-cases P g b o XorN ps = o XorN ps refl
-  comb-cases P g b o XnorN ps = o XnorN ps refl
-  comb-cases P g b o Buf ps = b ps
-
-  pub comb-target : (g : ℕ) (f : Form) (ps : List Signal) → target (combBlock name g f ps) ≡ gateName name g
-  comb-target g = comb-cases (λ f ps b. target b ≡ gateName name g) g (λ ps. refl) (λ f ps e. refl)
-
   module _ (net : Net) (formed : Formed net) where
     comb-good : (g : ℕ) (f : Form) (ps : List Signal) → canHave f (length ps) ≡ true → GoodBlock (combBlock name g f ps)
-    comb-good g = comb-cases (λ f ps b. canHave f (length ps) ≡ true → GoodBlock b) g
+    comb-good g = comb-cases name (λ f ps b. canHave f (length ps) ≡ true → GoodBlock b) g
         (λ ps a. (true, (length-map ps (λ (s : Signal). colOf (not (s .inv))) ∙ sym (length-map ps (λ (s : Signal). name (bare s))), refl, tt)))
         (λ f ps e a. let l : (o : Bool) × GoodLines (length ps) o (linesOf f (length ps)) = lines-good f (length ps) a in
         (l .0, subst (λ (n : ℕ). GoodLines n (l .0) (linesOf f (length ps))) (sym (length-map ps name)) (l .1)))
@@ -142,7 +121,7 @@ module _ {Name : Type 0} (name : Signal → Name) where
     AboveB (Cover xs y ls) = (x : Name) → List·Memᴰ x xs → rankName x < rankName y
 
     comb-above : (g : ℕ) (f : Form) (ps : List Signal) → GateIs net g (Comb f ps) → AboveB (combBlock name g f ps)
-    comb-above g = comb-cases (λ f ps b. GateIs net g (Comb f ps) → AboveB b) g
+    comb-above g = comb-cases name (λ f ps b. GateIs net g (Comb f ps) → AboveB b) g
         (λ ps p x m. let t = Memᴰ·of-map (λ (s : Signal). name (bare s)) ps m in
         let u : nodeRank (t .0 .node) < suc (rk .rank g) = node-rises g Buf ps p (t .0) (t .1) in
         let v : rankName x ≡ sigRank (bare (t .0)) = ap rankName (sym (t .2)) ∙ rank-name (bare (t .0)) in
@@ -196,30 +175,7 @@ used-in s (y ∷ xs) zero x i e m =
     or-left (usedAmong (s .node) (named y)) (usedIn (s .node) xs) (let q : y ≡ x = cc in ap (λ (u : Gate). usedAmong (s .node) (named u)) q ∙ used-among s (named x) i m)
 used-in s (y ∷ xs) (suc g) x i e m = or-right (usedAmong (s .node) (named y)) (usedIn (s .node) xs) (used-in s xs g x i e m)
 
-downTo-mem : (n i : ℕ) → i < n → List·Memᴰ i (downTo n)
-downTo-mem zero i u = absurd (omega arith)
-downTo-mem (suc n) i u = go (native.Mathlib.Decide.ℕ-discrete i n) (downTo-mem n i)
-  where
-    go : Dec (i ≡ n) → (i < n → List·Memᴰ i (downTo n)) → List·Memᴰ i (n ∷ downTo n)
-    go (yes e) ih = List·Memᴰ·head e
-    go (no e) ih = List·Memᴰ·tail (ih (omega arith))
-
 module _ {Name : Type 0} (name : Signal → Name) where
-  latch-in : (k : ℕ) (xs : List Gate) (i : ℕ) (s : FlipFlop) → getElem? xs i ≡ some (Dff s) → List·Memᴰ (Latch (feedOf name s) (gateName name (k + i))) (latchBlocks name k xs)
-  latch-in k [] i s p = absurd (let z : _≡_ {A = ℕ} 0 1 = cc in omega arith)
-  latch-in k (Comb f ps ∷ xs) zero s p = absurd (let z : _≡_ {A = ℕ} 0 1 = cc in omega arith)
-  latch-in k (Comb f ps ∷ xs) (suc i) s p = Memᴰ·cast (ap (λ (n : ℕ). Latch (feedOf name s) (gateName name n)) (omega arith)) (latch-in (suc k) xs i s p)
-  latch-in k (Dff t ∷ xs) zero s p = List·Memᴰ·head (let q : s ≡ t = cc in λ i. Latch (feedOf name (q i)) (gateName name (add-zero k i)))
-  latch-in k (Dff t ∷ xs) (suc i) s p = List·Memᴰ·tail (Memᴰ·cast (ap (λ (n : ℕ). Latch (feedOf name s) (gateName name n)) (omega arith)) (latch-in (suc k) xs i s p))
-
-  comb-in : (k : ℕ) (xs : List Gate) (i : ℕ) (f : Form) (ps : List Signal) → getElem? xs i ≡ some (Comb f ps) → List·Memᴰ (combBlock name (k + i) f ps) (combBlocks name k xs)
-  comb-in k [] i f ps p = absurd (let z : _≡_ {A = ℕ} 0 1 = cc in omega arith)
-  comb-in k (Dff s ∷ xs) zero f ps p = absurd (let z : _≡_ {A = ℕ} 0 1 = cc in omega arith)
-  comb-in k (Dff s ∷ xs) (suc i) f ps p = Memᴰ·cast (ap (λ (n : ℕ). combBlock name n f ps) (omega arith)) (comb-in (suc k) xs i f ps p)
-  comb-in k (Comb f′ ps′ ∷ xs) zero f ps p =
-      List·Memᴰ·head (let q : f ≡ f′ = cc in let q′ : ps ≡ ps′ = cc in λ i. combBlock name (add-zero k i) (q i) (q′ i))
-  comb-in k (Comb f′ ps′ ∷ xs) (suc i) f ps p = List·Memᴰ·tail (Memᴰ·cast (ap (λ (n : ℕ). combBlock name n f ps) (omega arith)) (comb-in (suc k) xs i f ps p))
-
   module _ (net : Net) (valid : Valid net) where
     abbrev m : Model Name
     m = written name net
@@ -249,9 +205,9 @@ module _ {Name : Type 0} (name : Signal → Name) where
       where
         go : (x : Gate) → GateIs net g x → Defined m (name (plain (Gated g)))
         go (Comb f ps) p = block-defines (combBlock name g f ps) (gateName name g) (comb-target name g f ps)
-            (Memᴰ·append-right ls (Memᴰ·append-left (is ++ constBlocks name) (Memᴰ·cast (ap (λ (n : ℕ). combBlock name n f ps) (sym (zero-add g))) (comb-in 0 (net .gates) g f ps p))))
+            (Memᴰ·append-right ls (Memᴰ·append-left (is ++ constBlocks name) (Memᴰ·cast (ap (λ (n : ℕ). combBlock name n f ps) (sym (zero-add g))) (comb-in name 0 (net .gates) g f ps p))))
         go (Dff s) p = block-defines (Latch (feedOf name s) (gateName name g)) (gateName name g) refl
-            (Memᴰ·append-left (cs ++ (is ++ constBlocks name)) (Memᴰ·cast (ap (λ (n : ℕ). Latch (feedOf name s) (gateName name n)) (sym (zero-add g))) (latch-in 0 (net .gates) g s p)))
+            (Memᴰ·append-left (cs ++ (is ++ constBlocks name)) (Memᴰ·cast (ap (λ (n : ℕ). Latch (feedOf name s) (gateName name n)) (sym (zero-add g))) (latch-in name 0 (net .gates) g s p)))
 
     node-listed : (n : Node) → ValidNode net n → (n ≡ Const → ⊥) → List·Memᴰ n (map Gated (range 0 (length (net .gates))) ++ map Input (downTo (net .inputs)))
     node-listed Const v h = absurd (h refl)
@@ -293,19 +249,11 @@ module _ {Name : Type 0} (name : Signal → Name) where
     listed-valid : (n : Node) → List·Memᴰ n (map Gated (range 0 (length (net .gates))) ++ map Input (downTo (net .inputs))) → ValidNode net n
     listed-valid n w = ⊎-elim gates inputs (List·Memᴰ·append-cases (map Gated (range 0 (length (net .gates)))) w)
       where
-        low : (k c x : ℕ) → List·Memᴰ x (range k c) → x < k + c
-        low k zero x v = absurd (List·Memᴰ·not-nil v)
-        low k (suc c) x v = ⊎-elim (λ (e : x ≡ k). omega arith) (λ (u : List·Memᴰ x (range (suc k) c)). let z : x < suc k + c = low (suc k) c x u in omega arith) (List·Memᴰ·cases-cons v)
-
-        down : (c x : ℕ) → List·Memᴰ x (downTo c) → x < c
-        down zero x v = absurd (List·Memᴰ·not-nil v)
-        down (suc c) x v = ⊎-elim (λ (e : x ≡ c). omega arith) (λ (u : List·Memᴰ x (downTo c)). let z : x < c = down c x u in omega arith) (List·Memᴰ·cases-cons v)
-
         gates : List·Memᴰ n (map Gated (range 0 (length (net .gates)))) → ValidNode net n
-        gates v = let t = Memᴰ·of-map Gated (range 0 (length (net .gates))) v in subst (ValidNode net) (t .2) (let z : t .0 < 0 + length (net .gates) = low 0 (length (net .gates)) (t .0) (t .1) in omega arith)
+        gates v = let t = Memᴰ·of-map Gated (range 0 (length (net .gates))) v in subst (ValidNode net) (t .2) (let z = range-mem 0 (length (net .gates)) (t .0) (t .1) in omega (arith, z .1, z .2))
 
         inputs : List·Memᴰ n (map Input (downTo (net .inputs))) → ValidNode net n
-        inputs v = let t = Memᴰ·of-map Input (downTo (net .inputs)) v in subst (ValidNode net) (t .2) (down (net .inputs) (t .0) (t .1))
+        inputs v = let t = Memᴰ·of-map Input (downTo (net .inputs)) v in subst (ValidNode net) (t .2) (downTo-lt (net .inputs) (t .0) (t .1))
 
     unless-defined : (v : Bool) (s : Signal) (x : Name) → List·Memᴰ x (optName (unless name v s)) → Defined m (name s) → Defined m x
     unless-defined v s x w d = go (isConst v s) w

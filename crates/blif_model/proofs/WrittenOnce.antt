@@ -4,7 +4,7 @@ use mathlib.Core.List.{List, [], _∷_, _++_, map, List·Memᴰ, List·Memᴰ·n
 use mathlib.Core.Bool.{Bool, true, false, cond}
 use mathlib.Core.Option.{some}
 use mathlib.Core.Logic.{_⊎_, inl, inr, ⊎-elim}
-use Prim.Native.Nat.{ℕ, zero, suc, _+_, _≤_, _<_}
+use Prim.Native.Nat.{ℕ, zero, suc, _+_, _<_}
 use native.Mathlib.Omega.{arith}
 use lib.ListN.{length, getElem?}
 use Rattle.signal.specs.Signal.{Node, Const, Input, Gated, Signal, plain, turned, oneS, zeroS}
@@ -15,7 +15,7 @@ use Rattle.lists.specs.Lists.{range, Dup}
 use Rattle.blif_model.specs.Write.{downTo, inverted, inverters, gateName, latchBlocks, combBlocks, inverterBlock, written}
 use Rattle.blif_model.specs.Lookup.{defined}
 use Rattle.lists.proofs.Places.{map-map}
-use Rattle.blif_model.proofs.Written.{comb-target}
+use Rattle.blif_model.proofs.Blocks.{range-mem, downTo-lt, comb-target}
 use Rattle.lists.proofs.Once.{once-nil, once-cons, once-append, once-map, once-filter, mem-filter}
 
 abbrev isDff : Gate → Bool
@@ -47,17 +47,9 @@ once-nums p k (x ∷ xs) = go (p x) (once-nums p (suc k) xs)
     go true ih = once-cons (λ w. let t = nums-mem p (suc k) xs k w in let z : k ≡ suc k + t .0 = t .2 in omega arith) ih
     go false ih = ih
 
-range-ge : (k n x : ℕ) → List·Memᴰ x (range k n) → k ≤ x
-range-ge k zero x m = absurd (List·Memᴰ·not-nil m)
-range-ge k (suc n) x m = ⊎-elim (λ (e : x ≡ k). omega arith) (λ (w : List·Memᴰ x (range (suc k) n)). let z : suc k ≤ x = range-ge (suc k) n x w in omega arith) (List·Memᴰ·cases-cons m)
-
 once-range : (k n : ℕ) → Dup (range k n) → ⊥
 once-range k zero = once-nil
-once-range k (suc n) = once-cons (λ w. let z : suc k ≤ k = range-ge (suc k) n k w in omega arith) (once-range (suc k) n)
-
-downTo-lt : (n x : ℕ) → List·Memᴰ x (downTo n) → x < n
-downTo-lt zero x m = absurd (List·Memᴰ·not-nil m)
-downTo-lt (suc n) x m = ⊎-elim (λ (e : x ≡ n). omega arith) (λ (w : List·Memᴰ x (downTo n)). let z : x < n = downTo-lt n x w in omega arith) (List·Memᴰ·cases-cons m)
+once-range k (suc n) = once-cons (λ w. omega (arith, range-mem (suc k) n k w .2)) (once-range (suc k) n)
 
 once-downTo : (n : ℕ) → Dup (downTo n) → ⊥
 once-downTo zero = once-nil
