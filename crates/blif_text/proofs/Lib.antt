@@ -1,3 +1,5 @@
+pub mod Splitting
+pub mod Saying
 pub mod Scan
 pub mod Loops
 pub mod LineLaws
