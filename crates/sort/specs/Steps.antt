@@ -6,10 +6,12 @@ use mathlib.Core.Option.{Option, none, some}
 use Prim.Native.Nat.{ℕ, zero, suc, _+_, _-_, _*_, _≤_, _<_}
 use lib.Dec.{eqb, ltb}
 use lib.ListN.{length, getD, getElem?, take, drop, set}
-use Rattle.lists.specs.Lists.{occ, sumTo, range}
+use Rattle.lists.specs.Lists.{occ, sumTo, range, over}
 use Rattle.signal.specs.Signal.{gateNode}
 use Rattle.signal.specs.Cell.{nodeOf, gateNumber, gateCell, remapCell}
 use Rattle.gates.specs.Gate.{Gate}
+use Rattle.gates.specs.Forms.{kindOf}
+use Rattle.gates.specs.Decode.{kindComb}
 use Rattle.network.specs.Cells.{gateWidth, maxGates, maxPins, formAt, firstAt, countAt, runAt, gateAt, orBuf}
 use Rattle.sort.specs.Order.{Graph, uses, useCount, countsAfter, stackAfter, flopsTo, startTo, recorded}
 use Rattle.sort.specs.Sorted.{nodeGate, combAt, insAt}
@@ -53,3 +55,189 @@ pub record Good (G : Graph) (c st done rest : List ℕ) : Type 0 where
 -- pops that are left at most
 abbrev pub budget : Graph → List ℕ → List ℕ → ℕ
 budget G c st = length st + sumTo (G .size) (λ v. pos (getD c v 0))
+
+-- ---- what cells name
+
+-- the gate that a cell's signal names, where it names one
+unfoldable pub named : ℕ → List ℕ
+named c = nodeGate (nodeOf c) []
+
+-- the gates that a run of cells names, in order and with repeats
+abbrev pub gateIns : List ℕ → List ℕ
+gateIns [] = []
+gateIns (c ∷ cs) = named c ++ gateIns cs
+
+-- gate g's form number is that of a combinational gate
+unfoldable pub formComb : List ℕ → ℕ → Bool
+formComb gates g = kindComb (kindOf (formAt gates g))
+
+-- the gates of n records
+abbrev pub cellGates : List ℕ → List ℕ → ℕ → List Gate
+cellGates gates pins n = map (λ (g : ℕ). orBuf (gateAt gates pins g)) (range 0 n)
+
+-- which of n gates in cells are combinational
+unfoldable pub cellComb : List ℕ → List ℕ → ℕ → ℕ → Bool
+cellComb gates pins n g = combAt (getElem? (cellGates gates pins n) g)
+
+-- the gate inputs of n gates in cells
+unfoldable pub cellIns : List ℕ → List ℕ → ℕ → ℕ → List ℕ
+cellIns gates pins n g = insAt (getElem? (cellGates gates pins n) g)
+
+-- what the sort sees of n gates in cells
+abbrev pub cellGraph : List ℕ → List ℕ → ℕ → Graph
+cellGraph gates pins n = record { size = n; comb = cellComb gates pins n; ins = cellIns gates pins n }
+
+-- a gate's record and its run of pins are there
+pub record HasRun (gates pins : List ℕ) (g : ℕ) : Type 0 where
+  pub cells : g * gateWidth + 2 < length gates
+  pub within : firstAt gates g + countAt gates g ≤ length pins
+
+-- the cells hold n gates, whose records and runs can be read, whose inputs are gates, and which use no gate too often for a count
+pub record Cells (gates pins : List ℕ) (n : ℕ) : Type 0 where
+  pub few : n ≤ maxGates
+  pub runs : (g : ℕ) → g < n → HasRun gates pins g
+  pub combs : (g : ℕ) → g < n → formComb gates g ≡ cellComb gates pins n g
+  pub inputs : (g : ℕ) → g < n → gateIns (runAt gates pins g) ≡ cellIns gates pins n g
+  pub valid : ValidGraph (cellGraph gates pins n)
+  pub counted : (v : ℕ) → useCount (cellGraph gates pins n) v ≤ maxPins
+
+-- ---- use counts
+
+-- each count is raised by as often as its gate stands in ds
+pub record Raised (ds c c′ : List ℕ) : Type 0 where
+  pub each : (v : ℕ) → getD c′ v 0 ≡ getD c v 0 + occ v ds
+
+-- the gates ds have counts, which can be raised
+pub record Countable (ds c : List ℕ) : Type 0 where
+  pub index : (v : ℕ) → 0 < occ v ds → v < length c
+  pub small : (v : ℕ) → getD c v 0 + occ v ds ≤ maxPins
+
+-- each count is how often combinational gates use its gate
+pub record Counted (G : Graph) (c : List ℕ) : Type 0 where
+  pub each : (v : ℕ) → getD c v 0 ≡ useCount G v
+
+-- ---- the stack
+
+-- the first k cells, the last first
+abbrev pub down : ℕ → List ℕ → List ℕ
+down zero l = []
+down (suc k) l = getD l k 0 ∷ down k l
+
+-- what lowering the counts of the gates ds leaves of the counts and of the stack
+pub record Lowered (ds c st c′ st′ : List ℕ) : Type 0 where
+  pub counts : c′ ≡ countsAfter ds c
+  pub stack : st′ ≡ stackAfter ds c st
+
+-- the gate of a cell, if it names one, has a count that can fall, and there is room on the stack
+pub record Lowers (s : ℕ) (c : List ℕ) (top : ℕ) : Type 0 where
+  pub below : gateNode (nodeOf s) ≡ true → gateNumber s < maxGates
+  pub used : gateNode (nodeOf s) ≡ true → 0 < getD c (gateNumber s) 0
+  pub room : gateNode (nodeOf s) ≡ true → top < maxGates
+
+-- the counts and the stack are those of some walk that has still to lower what these pins name
+pub record Walks (c st pins : List ℕ) : Type 0 where
+  pub graph : Graph
+  pub done : List ℕ
+  pub few : graph .size ≤ maxGates
+  pub good : Good graph c st done (gateIns pins)
+
+-- the marks once the flip-flops below k are marked
+unfoldable pub flopMark : (ℕ → Bool) → ℕ → ℕ → ℕ
+flopMark comb k v = cond (ltb v k) (cond (comb v) 0 1) 0
+
+-- the flip-flops below k are marked, and stand at the front of the order o, of which k′ cells are written
+pub record Flopped (comb : ℕ → Bool) (k : ℕ) (o₀ m o : List ℕ) (k′ : ℕ) : Type 0 where
+  pub count : k′ ≡ length (flopsTo comb k)
+  pub few : k′ ≤ k
+  pub front : o ≡ flopsTo comb k ++ drop k′ o₀
+  pub marks : (v : ℕ) → getD m v 0 ≡ flopMark comb k v
+
+-- a gate is not marked
+abbrev pub unmarked : List ℕ → ℕ → Bool
+unmarked m v = eqb (getD m v 0) 0
+
+-- the stack st up to its top holds the gates below k that are neither marked nor used
+pub record Started (m c : List ℕ) (k : ℕ) (st : List ℕ) (top : ℕ) : Type 0 where
+  pub stack : down top st ≡ startTo (unmarked m) (λ v. getD c v 0) k
+  pub low : top ≤ k
+
+-- ---- visits
+
+-- a recorded gate and a flip-flop are marked
+pub record Marked (G : Graph) (done m : List ℕ) : Type 0 where
+  pub each : (v : ℕ) → v < G .size → getD m v 0 ≡ cond (G .comb v) (occ v done) 1
+
+-- counts, marks and stack have a cell for each gate that there may be, and the order one for each that there is
+pub record Long (n : ℕ) (c m st o : List ℕ) : Type 0 where
+  pub counts : length c ≡ maxGates
+  pub marks : length m ≡ maxGates
+  pub stack : length st ≡ maxGates
+  pub order : n ≤ length o
+
+-- the walk's cells: counts, marks, stack and its top, order and its first cell that is written
+pub record Ready (G : Graph) (c m st : List ℕ) (top : ℕ) (o : List ℕ) (at : ℕ) : Type 0 where
+  pub done : List ℕ
+  pub long : Long (G .size) c m st o
+  pub good : Good G c (down top st) done []
+  pub marked : Marked G done m
+  pub room : at + length done ≡ G .size
+
+-- what a visit of the gate v at the top of the stack leaves
+pub record Visited (G : Graph) (v : ℕ) (c m st : List ℕ) (top : ℕ) (o : List ℕ) (at : ℕ) (c′ m′ st′ : List ℕ) (top′ : ℕ) (o′ : List ℕ) (at′ : ℕ) : Type 0 where
+  pub lowered : Lowered (uses G v) c (down (top - 1) st) c′ (down top′ st′)
+  pub marks : m′ ≡ cond (G .comb v) (set m v 1) m
+  pub order : o′ ≡ cond (G .comb v) (set o (at - 1) v) o
+  pub place : at′ ≡ cond (G .comb v) (at - 1) at
+
+-- the walk can start: counts, marks and stack are those of the graph
+pub record Begins (G : Graph) (c m st : List ℕ) (top : ℕ) (o : List ℕ) : Type 0 where
+  pub long : Long (G .size) c m st o
+  pub counted : Counted G c
+  pub marked : Marked G [] m
+  pub first : down top st ≡ startTo (G .comb) (useCount G) (G .size)
+
+-- the recorded gates stand in the order from cell `at` on
+pub record Laid (G : Graph) (o₀ o : List ℕ) (at : ℕ) : Type 0 where
+  pub start : at + length (recorded G) ≡ G .size
+  pub cells : o ≡ take at o₀ ++ recorded G ++ drop (G .size) o₀
+
+-- the order that was found, if one was
+abbrev pub ordered : Bool → List ℕ → Option (List ℕ)
+ordered true l = some l
+ordered false l = none
+
+-- ---- renumbering
+
+-- the order's numbers are below 1,024, and none stands twice
+pub record Numbers (o : List ℕ) : Type 0 where
+  pub below : (i : ℕ) → i < length o → getD o i 0 < maxGates
+  pub distinct : (i j : ℕ) → i < length o → j < length o → getD o i 0 ≡ getD o j 0 → i ≡ j
+
+-- the translation table up to k: at each number of the order the signal of its place
+pub record Tabled (o : List ℕ) (k : ℕ) (t : List ℕ) : Type 0 where
+  pub long : length t ≡ maxGates
+  pub each : (i : ℕ) → i < k → getD t (getD o i 0) 0 ≡ gateCell i
+
+-- the records of the gates of an order, the first one's pins starting at cell `at`
+abbrev pub movedGates : List ℕ → List ℕ → ℕ → List ℕ → List ℕ
+movedGates gates pins at [] = []
+movedGates gates pins at (g ∷ o) = formAt gates g ∷ at ∷ length (runAt gates pins g) ∷ movedGates gates pins (at + length (runAt gates pins g)) o
+
+-- the runs of the gates of an order, one after the other, renumbered by a table
+abbrev pub movedPins : List ℕ → List ℕ → List ℕ → List ℕ → List ℕ
+movedPins gates pins t [] = []
+movedPins gates pins t (g ∷ o) = map (remapCell t) (runAt gates pins g) ++ movedPins gates pins t o
+
+-- the gates of the order can be read, and the new cells have room for their records and runs
+pub record Movable (gates pins t o ng np : List ℕ) : Type 0 where
+  pub few : length o ≤ maxGates
+  pub runs : (i : ℕ) → i < length o → HasRun gates pins (getD o i 0)
+  pub room : length o * gateWidth ≤ length ng
+  pub pinRoom : length (movedPins gates pins t o) ≤ length np
+  pub fewPins : length (movedPins gates pins t o) ≤ maxPins
+
+-- what moving the gates of an order leaves in the new cells, with the pins in use
+pub record Moved (gates pins t o ng np ng′ np′ : List ℕ) (r : ℕ) : Type 0 where
+  pub records : ng′ ≡ over (movedGates gates pins 0 o) ng
+  pub runs : np′ ≡ over (movedPins gates pins t o) np
+  pub end : r ≡ length (movedPins gates pins t o)

@@ -1,15 +1,264 @@
 // The sort of a network's gates, from cells into other cells (Quaigh's src/network/network.rs: topo_sort and remap).
-use network::Counts;
+use network::{Counts, GATE_CELLS};
+use signal::Signal;
 ghost use mathlib.Core.Path.{_≡_};
-ghost use lib.ListN.{length};
-ghost use Rattle.network.specs.Cells.{lent, netOf};
+ghost use mathlib.Core.List.{List, map};
+ghost use Prim.Native.Nat.{ℕ, _+_, _-_, _*_, _≤_, _<_};
+ghost use lib.ListN.{length, getD, take, replicate};
+ghost use Rattle.lists.specs.Lists.{over};
+ghost use Rattle.signal.specs.Cell.{remapCell};
+ghost use Rattle.network.specs.Cells.{gateWidth, maxGates, runAt, lent, netOf};
+ghost use Rattle.sort.specs.Order.{uses, sortOrder};
 ghost use Rattle.sort.specs.Sorted.{sorted};
 ghost use Rattle.sort.specs.Into.{outcome, sortInto, Sortable};
+ghost use Rattle.sort.specs.Steps.{named, gateIns, formComb, cellGraph, HasRun, Cells, Raised, Countable, Counted};
+ghost use Rattle.sort.specs.Steps.{down, Lowered, Lowers, Walks, Flopped, Started, Ready, Visited, Begins, Laid, ordered};
 
 // Sorted, with the pins in use; or a combinational loop.
 pub enum Sorted {
     Order(usize),
     Loop,
+}
+
+// The top of the stack, and the first cell of the order that is written.
+struct Place {
+    top: usize,
+    at: usize,
+}
+
+// Whether gate g is combinational.
+fn is_comb(gates: &[u32], g: usize) -> bool
+    requires { ⌜ g * gateWidth + 2 < length (now gates) ⌝ }
+    ensures { λ r. ⌜ r ≡ formComb (now (gates .entry)) g ⌝ }
+{
+    gates::kind_of(network::form_at(gates, g)).is_comb()
+}
+
+// The pins of gate g.
+fn gate_pins<'a, 'b>(gates: &'a [u32], pins: &'b [u32], g: usize) -> &'b [u32]
+    requires { ⌜ HasRun (now gates) (now pins) g ⌝ }
+    ensures { λ r. ⌜ now r ≡ runAt (now (gates .entry)) (now (pins .entry)) g ⌝ }
+{
+    let first = network::first_at(gates, g);
+    let end = first + network::count_at(gates, g);
+    &pins[first..end]
+}
+
+// Counts one pin.
+fn add_use(s: u32, counts: &mut [u32])
+    requires { ⌜ Countable (named s) (now counts) ⌝ }
+    ensures { λ r. ⌜ Raised (named s) (now (counts .entry)) (now (counts .exit)) ⌝ }
+{
+    let signal = Signal { a: s };
+    if signal.is_var() {
+        let g = signal.var() as usize;
+        counts[g] += 1;
+    }
+}
+
+// Counts the pins of one gate.
+fn add_uses(pins: &[u32], counts: &mut [u32])
+    requires { ⌜ Countable (gateIns (now pins)) (now counts) ⌝ }
+    ensures { λ r. ⌜ Raised (gateIns (now (pins .entry))) (now (counts .entry)) (now (counts .exit)) ⌝ }
+{
+    let mut i = 0;
+    while i < pins.len() {
+        add_use(pins[i], counts);
+        i += 1;
+    }
+}
+
+// Counts the uses that one gate makes: a flip-flop makes none.
+fn count_gate(gates: &[u32], pins: &[u32], n: usize, g: usize, counts: &mut [u32])
+    requires { ⌜ Cells (now gates) (now pins) n ⌝ }
+    requires { ⌜ g < n ⌝ }
+    requires { ⌜ Countable (uses (cellGraph (now gates) (now pins) n) g) (now counts) ⌝ }
+    ensures { λ r. ⌜ Raised (uses (cellGraph (now (gates .entry)) (now (pins .entry)) n) g) (now (counts .entry)) (now (counts .exit)) ⌝ }
+{
+    if !is_comb(gates, g) {
+        return;
+    }
+    let run = gate_pins(gates, pins, g);
+    add_uses(run, counts);
+}
+
+// Counts how often combinational gates use each gate.
+fn count_uses(gates: &[u32], pins: &[u32], n: usize, counts: &mut [u32])
+    requires { ⌜ Cells (now gates) (now pins) n ⌝ }
+    requires { ⌜ now counts ≡ replicate maxGates 0 ⌝ }
+    ensures { λ r. ⌜ Counted (cellGraph (now (gates .entry)) (now (pins .entry)) n) (now (counts .exit)) ⌝ }
+{
+    let mut g = 0;
+    while g < n {
+        count_gate(gates, pins, n, g, counts);
+        g += 1;
+    }
+}
+
+// Lowers the count of what one pin names, and pushes it at zero.
+fn lower_use(s: u32, counts: &mut [u32], stack: &mut [u32], top: usize) -> usize
+    requires { ⌜ (length (now counts) ≡ maxGates) × (length (now stack) ≡ maxGates) ⌝ }
+    requires { ⌜ Lowers s (now counts) top ⌝ }
+    ensures { λ r. ⌜ Lowered (named s) (now (counts .entry)) (down top (now (stack .entry))) (now (counts .exit)) (down r (now (stack .exit))) ⌝ }
+{
+    let signal = Signal { a: s };
+    if !signal.is_var() {
+        return top;
+    }
+    let d = signal.var() as usize;
+    counts[d] -= 1;
+    if counts[d] != 0 {
+        return top;
+    }
+    stack[top] = d as u32;
+    top + 1
+}
+
+// Lowers the counts of what a gate's pins name, in order.
+fn lower_uses(pins: &[u32], counts: &mut [u32], stack: &mut [u32], top: usize) -> usize
+    requires { ⌜ (length (now counts) ≡ maxGates) × (length (now stack) ≡ maxGates) ⌝ }
+    requires { ⌜ Walks (now counts) (down top (now stack)) (now pins) ⌝ }
+    ensures { λ r. ⌜ Lowered (gateIns (now (pins .entry))) (now (counts .entry)) (down top (now (stack .entry))) (now (counts .exit)) (down r (now (stack .exit))) ⌝ }
+{
+    let mut t = top;
+    let mut i = 0;
+    while i < pins.len() {
+        t = lower_use(pins[i], counts, stack, t);
+        i += 1;
+    }
+    t
+}
+
+// Marks gate g and puts it into the order, if it is a flip-flop.
+fn mark_flop(gates: &[u32], g: usize, marks: &mut [u8], order: &mut [u32], k: usize) -> usize
+    requires { ⌜ (g * gateWidth + 2 < length (now gates)) × (g < maxGates) × (length (now marks) ≡ maxGates) × (k ≤ g) × (g < length (now order)) ⌝ }
+    ensures { λ r. ⌜ ((o₀ : List ℕ) → Flopped (formComb (now (gates .entry))) g o₀ (now (marks .entry)) (now (order .entry)) k → Flopped (formComb (now (gates .entry))) (g + 1) o₀ (now (marks .exit)) (now (order .exit)) r) ⌝ }
+{
+    if is_comb(gates, g) {
+        return k;
+    }
+    marks[g] = 1;
+    order[k] = g as u32;
+    k + 1
+}
+
+// Marks the flip-flops, and puts them first into the order.
+fn mark_flops(gates: &[u32], n: usize, marks: &mut [u8], order: &mut [u32]) -> usize
+    requires { ⌜ (n ≤ maxGates) × (n * gateWidth ≤ length (now gates)) × (now marks ≡ replicate maxGates 0) × (n ≤ length (now order)) ⌝ }
+    ensures { λ r. ⌜ Flopped (formComb (now (gates .entry))) n (now (order .entry)) (now (marks .exit)) (now (order .exit)) r ⌝ }
+{
+    let mut k = 0;
+    let mut g = 0;
+    while g < n {
+        k = mark_flop(gates, g, marks, order, k);
+        g += 1;
+    }
+    k
+}
+
+// Pushes gate g, if it is neither marked nor used.
+fn start_gate(marks: &[u8], counts: &[u32], g: usize, stack: &mut [u32], top: usize) -> usize
+    requires { ⌜ (g < maxGates) × (length (now marks) ≡ maxGates) × (length (now counts) ≡ maxGates) × (length (now stack) ≡ maxGates) ⌝ }
+    requires { ⌜ Started (now marks) (now counts) g (now stack) top ⌝ }
+    ensures { λ r. ⌜ Started (now (marks .entry)) (now (counts .entry)) (g + 1) (now (stack .exit)) r ⌝ }
+{
+    if marks[g] != 0 {
+        return top;
+    }
+    if counts[g] != 0 {
+        return top;
+    }
+    stack[top] = g as u32;
+    top + 1
+}
+
+// The first stack: the gates that are neither marked nor used.
+fn start_stack(marks: &[u8], counts: &[u32], n: usize, stack: &mut [u32]) -> usize
+    requires { ⌜ (n ≤ maxGates) × (length (now marks) ≡ maxGates) × (length (now counts) ≡ maxGates) × (length (now stack) ≡ maxGates) ⌝ }
+    ensures { λ r. ⌜ Started (now (marks .entry)) (now (counts .entry)) n (now (stack .exit)) r ⌝ }
+{
+    let mut top = 0;
+    let mut g = 0;
+    while g < n {
+        top = start_gate(marks, counts, g, stack, top);
+        g += 1;
+    }
+    top
+}
+
+// Visits the gate at the top of the stack: records it, unless it is marked, and lowers the counts of what it uses.
+fn visit(
+    gates: &[u32],
+    pins: &[u32],
+    n: usize,
+    counts: &mut [u32],
+    marks: &mut [u8],
+    stack: &mut [u32],
+    order: &mut [u32],
+    w: Place,
+) -> Place
+    requires { ⌜ Cells (now gates) (now pins) n ⌝ }
+    requires { ⌜ (0 < w .top) × Ready (cellGraph (now gates) (now pins) n) (now counts) (now marks) (now stack) (w .top) (now order) (w .at) ⌝ }
+    ensures { λ r. ⌜ Visited (cellGraph (now (gates .entry)) (now (pins .entry)) n) (getD (now (stack .entry)) (w .top - 1) 0) (now (counts .entry)) (now (marks .entry)) (now (stack .entry)) (w .top) (now (order .entry)) (w .at) (now (counts .exit)) (now (marks .exit)) (now (stack .exit)) (r .top) (now (order .exit)) (r .at) ⌝ }
+{
+    let top = w.top - 1;
+    let v = stack[top] as usize;
+    if marks[v] != 0 {
+        return Place { top, at: w.at };
+    }
+    let at = w.at - 1;
+    marks[v] = 1;
+    order[at] = v as u32;
+    let run = gate_pins(gates, pins, v);
+    let t = lower_uses(run, counts, stack, top);
+    Place { top: t, at }
+}
+
+// Visits until the stack is empty. Answers where the recorded gates start in the order.
+fn visit_all(
+    gates: &[u32],
+    pins: &[u32],
+    n: usize,
+    counts: &mut [u32],
+    marks: &mut [u8],
+    stack: &mut [u32],
+    top: usize,
+    order: &mut [u32],
+) -> usize
+    requires { ⌜ Cells (now gates) (now pins) n ⌝ }
+    requires { ⌜ Begins (cellGraph (now gates) (now pins) n) (now counts) (now marks) (now stack) top (now order) ⌝ }
+    ensures { λ r. ⌜ Laid (cellGraph (now (gates .entry)) (now (pins .entry)) n) (now (order .entry)) (now (order .exit)) r ⌝ }
+{
+    let mut w = Place { top, at: n };
+    while w.top != 0 {
+        w = visit(gates, pins, n, counts, marks, stack, order, w);
+    }
+    w.at
+}
+
+// Puts the gates' numbers into the order: flip-flops, then the recorded gates backwards. Answers false at a loop.
+fn find_order(gates: &[u32], pins: &[u32], n: usize, order: &mut [u32]) -> bool
+    requires { ⌜ Cells (now gates) (now pins) n ⌝ }
+    requires { ⌜ (n * gateWidth ≤ length (now gates)) × (n ≤ length (now order)) ⌝ }
+    ensures { λ r. ⌜ ordered r (take n (now (order .exit))) ≡ sortOrder (cellGraph (now (gates .entry)) (now (pins .entry)) n) ⌝ }
+{
+    let mut counts = [0u32; 1024];
+    let mut marks = [0u8; 1024];
+    let mut stack = [0u32; 1024];
+    count_uses(gates, pins, n, &mut counts);
+    let k = mark_flops(gates, n, &mut marks, order);
+    let top = start_stack(&marks, &counts, n, &mut stack);
+    let at = visit_all(
+        gates,
+        pins,
+        n,
+        &mut counts,
+        &mut marks,
+        &mut stack,
+        top,
+        order,
+    );
+    at == k
 }
 
 // Sorts the network in gates, pins and outputs into the new cells, and renumbers the outputs.
