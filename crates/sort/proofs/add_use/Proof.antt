@@ -1,50 +1,57 @@
+-- `add_use` raises the count of the gate that a pin names. Assumes nothing.
+use Rattle.sort.proofs.Naming.{occ-own, named-none, raised-gate, raised-none}
+use Rattle.network.specs.Cells.{maxPins}
+use Rattle.signal.specs.Cell.{nodeOf}
+use Rattle.signal.specs.Signal.{gateNode}
+use lib.ListN.{length, getD}
+use native.Mathlib.Omega.{arith}
+use Prim.Native.Nat.{_+_, _≤_, _<_}
+use mathlib.Core.Path.{_≡_, sym, _∙_}
+use mathlib.Core.Bool.{true}
 use borrow.Author.Needs.{needs}
 use Rattle.sort.proofs.add_use.Statement.{statement}
 use Rattle.sort.proofs.add_use.Tie as tie
-use Rattle.sort.proofs.add_use.Reads as reads
-use Rattle.sort.proofs.add_use.Lts as lts
-use Rattle.signal.proofs.Signal.is_var.Reads as is-var-reads
-use Rattle.signal.proofs.Signal.var.Reads as var-reads
 
--- src/lib.rt:53:8
 is-var-requires : tie.Need-is-var-requires
 is-var-requires c κs = search needs
 
--- src/lib.rt:54:17
 var-requires : tie.Need-var-requires
 var-requires c κs = search needs
 
--- src/lib.rt:54:17
 cast-g : tie.Need-cast-g
 cast-g c = search needs
 
--- src/lib.rt:55:9
 mul-counts : tie.Need-mul-counts
 mul-counts c = search needs
 
--- src/lib.rt:55:9
+is : (c : tie.After-var) → gateNode (nodeOf (c .before .before .before .before .args .s)) ≡ true
+is c = sym (c .before .before .is-var .ensures) ∙ c .before .if1 .taken
+
+-- the gate's number is an index of the counts, and its count can be raised
+fits : (c : tie.After-var) → (c .var .result < length (c .before .before .before .before .args .counts .now))
+    × (getD (c .before .before .before .before .args .counts .now) (c .var .result) 0 + 1 ≤ maxPins)
+fits c =
+    let s = c .before .before .before .before in
+    let o = occ-own (s .args .s) (is c) (c .var .ensures) in
+    (s .pre .index (c .var .result) (omega (arith, o)), omega (arith, o, s .pre .small (c .var .result)))
+
 slice-read-counts : tie.Need-slice-read-counts
-slice-read-counts c = ?
+slice-read-counts c = fits (c .before) .0
 
--- src/lib.rt:55:9
 add-counts : tie.Need-add-counts
-add-counts c = ?
+add-counts c = omega (arith, fits (c .before))
 
--- src/lib.rt:55:9
 slice-write-counts : tie.Need-slice-write-counts
-slice-write-counts c = ?
+slice-write-counts c = fits (c .before) .0
 
--- src/lib.rt:48:1
 same-length : tie.Need-same-length
 same-length c = search needs
 
--- src/lib.rt:48:1
 returns : tie.Need-returns
-returns c = ?
+returns c = raised-gate _ (is (c .before)) (c .before .var .ensures) (fits (c .before) .0)
 
--- src/lib.rt:48:1
 returns-2 : tie.Need-returns-2
-returns-2 c = ?
+returns-2 c = raised-none (named-none _ (sym (c .before .is-var .ensures) ∙ c .if1 .left))
 
 pub add-use-spec : {M : Type 1} → statement M
 add-use-spec =

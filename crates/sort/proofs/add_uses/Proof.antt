@@ -1,50 +1,45 @@
+-- `add_uses` counts one pin after the other. Assumes nothing.
+use Rattle.sort.proofs.Naming.{Counting, counting-start, counting-asks, counting-next, counting-done}
+use lib.ListN.{length}
+use native.Mathlib.Omega.{arith}
+use Prim.Native.Nat.{_-_}
 use Rattle.sort.proofs.add_uses.Statement.{statement}
 use Rattle.sort.proofs.add_uses.Tie as tie
-use Rattle.sort.proofs.add_uses.Reads as reads
-use Rattle.sort.proofs.add_uses.Lts as lts
-use Rattle.sort.proofs.add_use.Reads as add-use-reads
 
 abbrev Inv-loop : tie.InvT-loop
-Inv-loop pins counts₀ i₀ counts i = ?
+Inv-loop pins counts₀ i₀ counts i = Counting pins counts₀ counts i
 
 abbrev μ-loop : tie.MeasureT-loop
-μ-loop pins counts₀ i₀ counts i = ?
+μ-loop pins counts₀ i₀ counts i = length pins - i
 
--- src/lib.rt:65:5
 loop-holds : tie.Need-loop-holds Inv-loop μ-loop
-loop-holds c = ?
+loop-holds c = counting-start (c .before .before .pre)
 
--- src/lib.rt:66:17
 mul-add-use : tie.Need-mul-add-use Inv-loop μ-loop
-mul-add-use c = ?
+mul-add-use c = omega arith
 
--- src/lib.rt:66:17
 shared-slice-read-add-use : tie.Need-shared-slice-read-add-use Inv-loop μ-loop
-shared-slice-read-add-use c = ?
+shared-slice-read-add-use c = omega arith
 
--- src/lib.rt:66:9
 add-use-requires : tie.Need-add-use-requires Inv-loop μ-loop
-add-use-requires c κs = ?
+add-use-requires c κs = counting-asks (c .before .before .loop-test .taken) (c .before .before .before .loop .inv)
 
--- src/lib.rt:67:9
 add-i : tie.Need-add-i Inv-loop μ-loop
-add-i c = ?
+add-i c = omega arith
 
--- src/lib.rt:65:5
 loop-less : tie.Need-loop-less Inv-loop μ-loop
-loop-less c = ?
+loop-less c = omega arith
 
--- src/lib.rt:65:5
 loop-again : tie.Need-loop-again Inv-loop μ-loop
-loop-again c = ?
+loop-again c =
+    let a = c .before .before in
+    counting-next (a .before .before .before .loop-test .taken) (a .before .before .before .before .loop .inv) (a .add-use .kept .1 .0) (a .add-use .ensures)
 
--- src/lib.rt:60:1
 same-length : tie.Need-same-length Inv-loop μ-loop
-same-length c = ?
+same-length c = c .before .loop .inv .long
 
--- src/lib.rt:60:1
 returns : tie.Need-returns Inv-loop μ-loop
-returns c = ?
+returns c = counting-done (c .loop-test .left) (c .before .loop .inv)
 
 pub add-uses-spec : {M : Type 1} → statement M
 add-uses-spec =

@@ -1,42 +1,41 @@
+-- A gate's run is cut out of the pins. Assumes nothing.
+use lib.ListN.{take, drop}
+use native.Mathlib.Omega.{arith}
+use Prim.Native.Nat.{ℕ, _+_, _-_}
+use mathlib.Core.Path.{_≡_, ap, ap₂, _∙_}
 use borrow.Author.Needs.{needs}
 use Rattle.sort.proofs.gate_pins.Statement.{statement}
 use Rattle.sort.proofs.gate_pins.Tie as tie
-use Rattle.sort.proofs.gate_pins.Reads as reads
-use Rattle.sort.proofs.gate_pins.Lts as lts
-use Rattle.network.proofs.count_at.Reads as count-at-reads
-use Rattle.network.proofs.first_at.Reads as first-at-reads
 
--- src/lib.rt:42:9
 first-at-requires : tie.Need-first-at-requires
 first-at-requires c κs = search needs
 
--- src/lib.rt:43:23
 count-at-requires : tie.Need-count-at-requires
 count-at-requires c κs = search needs
 
--- src/lib.rt:43:15
 add-end : tie.Need-add-end
 add-end c = search needs
 
--- src/lib.rt:44:5
 mul-result : tie.Need-mul-result
 mul-result c = search needs
 
--- src/lib.rt:44:5
 sub-result : tie.Need-sub-result
 sub-result c = search needs
 
--- src/lib.rt:44:5
 part-result-start : tie.Need-part-result-start
 part-result-start c = search needs
 
--- src/lib.rt:44:5
 part-result-end : tie.Need-part-result-end
 part-result-end c = search needs
 
--- src/lib.rt:38:1
 returns : tie.Need-returns
-returns c = ?
+returns c =
+    let ps = c .before .before .before .before .before .args .pins .now in
+    let f = c .before .before .first-at .result in
+    let k = c .before .count-at .result in
+    let e : f + k - f ≡ k = omega arith in
+    ap (λ (m : ℕ). take m (drop f ps)) e
+    ∙ ap₂ (λ (m i : ℕ). take m (drop i ps)) (c .before .count-at .ensures .cell) (c .before .before .first-at .ensures .cell)
 
 pub gate-pins-spec : {M : Type 1} → statement M
 gate-pins-spec =

@@ -1,86 +1,92 @@
+-- `lower_use` lowers one count, and pushes its gate at zero. Assumes nothing.
+use Rattle.sort.proofs.Stack.{lowered-none, lowered-stay, lowered-push, down-push}
+use Rattle.network.specs.Cells.{maxGates}
+use Rattle.signal.specs.Cell.{nodeOf}
+use Rattle.signal.specs.Signal.{gateNode}
+use borrow.Author.Tests.{not-true, not-false}
+use lib.ListN.{length, getD, length-set}
+use native.Mathlib.Omega.{arith}
+use Prim.Native.Nat.{_<_}
+use mathlib.Core.Path.{_≡_, sym, _∙_}
+use mathlib.Core.Bool.{true}
 use borrow.Author.Needs.{needs}
 use Rattle.sort.proofs.lower_use.Statement.{statement}
 use Rattle.sort.proofs.lower_use.Tie as tie
-use Rattle.sort.proofs.lower_use.Reads as reads
-use Rattle.sort.proofs.lower_use.Lts as lts
-use Rattle.signal.proofs.Signal.is_var.Reads as is-var-reads
-use Rattle.signal.proofs.Signal.var.Reads as var-reads
 
--- src/lib.rt:105:9
 is-var-requires : tie.Need-is-var-requires
 is-var-requires c κs = search needs
 
--- src/lib.rt:106:9
 returns : tie.Need-returns
-returns c = ?
+returns c = lowered-none _ (sym (c .before .is-var .ensures) ∙ not-true _ (c .if1 .taken))
 
--- src/lib.rt:108:13
 var-requires : tie.Need-var-requires
 var-requires c κs = search needs
 
--- src/lib.rt:108:13
 cast-d : tie.Need-cast-d
 cast-d c = search needs
 
--- src/lib.rt:109:5
 mul-counts : tie.Need-mul-counts
 mul-counts c = search needs
 
--- src/lib.rt:109:5
+is : (c : tie.After-var) → gateNode (nodeOf (c .before .before .before .before .before .args .s)) ≡ true
+is c = sym (c .before .before .is-var .ensures) ∙ not-false _ (c .before .if1 .left)
+
+-- the gate's number is an index, its count can fall, and there is room on the stack
+fits : (c : tie.After-var) → (c .var .result < maxGates)
+    × (0 < getD (c .before .before .before .before .before .args .counts .now) (c .var .result) 0)
+    × (c .before .before .before .before .before .args .top < maxGates)
+fits c =
+    let p = c .before .before .before .before .before .pre .1 in
+    let e = c .var .ensures in
+    (rw e (p .below (is c)), rw e (p .used (is c)), p .room (is c))
+
 slice-read-counts : tie.Need-slice-read-counts
-slice-read-counts c = ?
+slice-read-counts c = omega (arith, fits (c .before))
 
--- src/lib.rt:109:5
 sub-counts : tie.Need-sub-counts
-sub-counts c = ?
+sub-counts c = fits (c .before) .1
 
--- src/lib.rt:109:5
 slice-write-counts : tie.Need-slice-write-counts
-slice-write-counts c = ?
+slice-write-counts c = omega (arith, fits (c .before))
 
--- src/lib.rt:110:8
 mul-if2 : tie.Need-mul-if2
 mul-if2 c = search needs
 
--- src/lib.rt:110:8
 slice-read-if2 : tie.Need-slice-read-if2
-slice-read-if2 c = ?
+slice-read-if2 c = simp length-set (omega (arith, fits (c .before .before)))
 
--- src/lib.rt:111:9
 same-length : tie.Need-same-length
 same-length c = search needs
 
--- src/lib.rt:111:9
 returns-2 : tie.Need-returns-2
-returns-2 c = ?
+returns-2 c =
+    let p = c .before .before .before in
+    lowered-stay _ (is p) (p .var .ensures) (omega (arith, fits p)) (c .if2 .taken)
 
--- src/lib.rt:113:18
 cast-stack : tie.Need-cast-stack
 cast-stack c = search needs
 
--- src/lib.rt:113:5
 mul-stack : tie.Need-mul-stack
-mul-stack c = ?
+mul-stack c = omega (arith, fits (c .before .before .before))
 
--- src/lib.rt:113:5
 slice-write-stack : tie.Need-slice-write-stack
-slice-write-stack c = ?
+slice-write-stack c = omega (arith, fits (c .before .before .before))
 
--- src/lib.rt:114:5
 add-result : tie.Need-add-result
-add-result c = ?
+add-result c = omega (arith, fits (c .before .before .before))
 
--- src/lib.rt:99:1
 same-length-2 : tie.Need-same-length-2
 same-length-2 c = search needs
 
--- src/lib.rt:99:1
 same-length-3 : tie.Need-same-length-3
 same-length-3 c = search needs
 
--- src/lib.rt:99:1
 returns-3 : tie.Need-returns-3
-returns-3 c = ?
+returns-3 c =
+    let p = c .before .before .before in
+    let s = p .before .before .before .before .before in
+    lowered-push _ (is p) (p .var .ensures) (omega (arith, fits p)) (c .if2 .left)
+    (down-push (s .args .stack .now) (s .args .top) (p .var .result) (omega (arith, fits p)))
 
 pub lower-use-spec : {M : Type 1} → statement M
 lower-use-spec =

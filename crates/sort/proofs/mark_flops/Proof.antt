@@ -1,46 +1,72 @@
+-- `mark_flops` marks one flip-flop after the other. Assumes nothing.
+use Rattle.sort.proofs.Starting.{flopped-none}
+use Rattle.sort.specs.Steps.{formComb, Flopped}
+use Rattle.network.specs.Cells.{maxGates}
+use lib.ListN.{length, length-replicate}
+use native.Mathlib.Omega.{arith}
+use Prim.Native.Nat.{ℕ, _-_, _≤_}
+use mathlib.Core.List.{List}
+use mathlib.Core.Path.{_≡_, refl, sym, ap, _∙_}
 use Rattle.sort.proofs.mark_flops.Statement.{statement}
 use Rattle.sort.proofs.mark_flops.Tie as tie
-use Rattle.sort.proofs.mark_flops.Reads as reads
-use Rattle.sort.proofs.mark_flops.Lts as lts
-use Rattle.sort.proofs.mark_flop.Reads as mark-flop-reads
+
+-- the flip-flops below g are marked
+record Marking (gates : List ℕ) (n : ℕ) (o₀ m o : List ℕ) (k g : ℕ) : Type 0 where
+  within : g ≤ n
+  long : length m ≡ maxGates
+  same : length o ≡ length o₀
+  flopped : Flopped (formComb gates) g o₀ m o k
 
 abbrev Inv-loop : tie.InvT-loop
-Inv-loop gates n marks₀ order₀ k₀ g₀ marks order k g = ?
+Inv-loop gates n marks₀ order₀ k₀ g₀ marks order k g = Marking gates n order₀ marks order k g
 
 abbrev μ-loop : tie.MeasureT-loop
-μ-loop gates n marks₀ order₀ k₀ g₀ marks order k g = ?
+μ-loop gates n marks₀ order₀ k₀ g₀ marks order k g = n - g
 
--- src/lib.rt:152:5
 loop-holds : tie.Need-loop-holds Inv-loop μ-loop
-loop-holds c = ?
+loop-holds c =
+    let p = c .before .before .before .pre in
+    record {
+      within = omega arith;
+      long = ap length (p .2) ∙ length-replicate {A = ℕ} maxGates 0;
+      same = refl;
+      flopped = flopped-none _ (p .2);
+    }
 
--- src/lib.rt:153:9
 mark-flop-requires : tie.Need-mark-flop-requires Inv-loop μ-loop
-mark-flop-requires c κs = ?
+mark-flop-requires c κs =
+    let i = c .before .before .before .loop .inv in
+    let p = c .before .before .before .before .before .before .before .pre in
+    let l = c .before .before .loop-test .taken in
+    (omega (arith, l, p .1), omega (arith, l, p .0), i .long, i .flopped .few, omega (arith, l, p .3, i .same))
 
--- src/lib.rt:154:9
 add-g : tie.Need-add-g Inv-loop μ-loop
-add-g c = ?
+add-g c = omega arith
 
--- src/lib.rt:152:5
 loop-less : tie.Need-loop-less Inv-loop μ-loop
-loop-less c = ?
+loop-less c = omega arith
 
--- src/lib.rt:152:5
 loop-again : tie.Need-loop-again Inv-loop μ-loop
-loop-again c = ?
+loop-again c =
+    let a = c .before .before .before .before in
+    let i = a .before .before .before .before .loop .inv in
+    record {
+      within = omega arith;
+      long = a .mark-flop .kept .1 .1 .0 ∙ i .long;
+      same = a .mark-flop .kept .1 .1 .1 .0 ∙ i .same;
+      flopped = a .mark-flop .ensures _ (i .flopped);
+    }
 
--- src/lib.rt:146:1
 same-length : tie.Need-same-length Inv-loop μ-loop
-same-length c = ?
+same-length c = c .before .loop .inv .long ∙ sym (ap length (c .before .before .before .before .before .pre .2) ∙ length-replicate {A = ℕ} maxGates 0)
 
--- src/lib.rt:146:1
 same-length-2 : tie.Need-same-length-2 Inv-loop μ-loop
-same-length-2 c = ?
+same-length-2 c = c .before .loop .inv .same
 
--- src/lib.rt:146:1
 returns : tie.Need-returns Inv-loop μ-loop
-returns c = ?
+returns c =
+    let e : c .before .loop .g ≡ c .before .before .before .before .before .args .n = omega (arith, c .before .loop .inv .within, c .loop-test .left) in
+    rw e at (c .before .loop .inv .flopped)
 
 pub mark-flops-spec : {M : Type 1} → statement M
 mark-flops-spec =

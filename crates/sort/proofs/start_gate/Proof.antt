@@ -1,52 +1,42 @@
+-- `start_gate` pushes one gate, if it is neither marked nor used. Assumes nothing.
+use Rattle.sort.proofs.Starting.{started-marked, started-used, started-push}
+use native.Mathlib.Omega.{arith}
 use borrow.Author.Needs.{needs}
 use Rattle.sort.proofs.start_gate.Statement.{statement}
 use Rattle.sort.proofs.start_gate.Tie as tie
-use Rattle.sort.proofs.start_gate.Reads as reads
-use Rattle.sort.proofs.start_gate.Lts as lts
 
--- src/lib.rt:165:8
 shared-slice-read-if1 : tie.Need-shared-slice-read-if1
 shared-slice-read-if1 c = search needs
 
--- src/lib.rt:166:9
 returns : tie.Need-returns
-returns c = ?
+returns c = started-marked (c .if1 .taken) (c .before .before .pre .1)
 
--- src/lib.rt:168:8
 mul-if2 : tie.Need-mul-if2
 mul-if2 c = search needs
 
--- src/lib.rt:168:8
 shared-slice-read-if2 : tie.Need-shared-slice-read-if2
 shared-slice-read-if2 c = search needs
 
--- src/lib.rt:169:9
 returns-2 : tie.Need-returns-2
-returns-2 c = ?
+returns-2 c = started-used (c .before .before .if1 .left) (c .if2 .taken) (c .before .before .before .before .pre .1)
 
--- src/lib.rt:171:18
 cast-stack : tie.Need-cast-stack
 cast-stack c = search needs
 
--- src/lib.rt:171:5
 mul-stack : tie.Need-mul-stack
 mul-stack c = search needs
 
--- src/lib.rt:171:5
 slice-write-stack : tie.Need-slice-write-stack
 slice-write-stack c = search needs
 
--- src/lib.rt:172:5
 add-result : tie.Need-add-result
 add-result c = search needs
 
--- src/lib.rt:160:1
 same-length : tie.Need-same-length
 same-length c = search needs
 
--- src/lib.rt:160:1
 returns-3 : tie.Need-returns-3
-returns-3 c = ?
+returns-3 c = started-push (c .before .before .if1 .left) (c .if2 .left) (omega arith) (c .before .before .before .before .pre .1)
 
 pub start-gate-spec : {M : Type 1} → statement M
 start-gate-spec =
