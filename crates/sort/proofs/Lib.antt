@@ -10,3 +10,5 @@ pub mod Uses
 pub mod Starting
 pub mod Visiting
 pub mod Finding
+pub mod Laying
+pub mod Moving

@@ -228,6 +228,25 @@ abbrev pub movedPins : List ℕ → List ℕ → List ℕ → List ℕ → List 
 movedPins gates pins t [] = []
 movedPins gates pins t (g ∷ o) = map (remapCell t) (runAt gates pins g) ++ movedPins gates pins t o
 
+-- the list t laid over o from cell k on, cut where o ends
+abbrev pub overAt : ℕ → List ℕ → List ℕ → List ℕ
+overAt zero t o = over t o
+overAt (suc k) t [] = []
+overAt (suc k) t (y ∷ o) = y ∷ overAt k t o
+
+-- gate i's record and a run of so many pins from cell `at` on have room in the new cells
+pub record Fits (i at count : ℕ) (ng np : List ℕ) : Type 0 where
+  pub low : i < maxGates
+  pub record-room : i * gateWidth + 2 < length ng
+  pub run-room : at + count ≤ length np
+  pub few : at + count ≤ maxPins
+
+-- what moving gate g to gate i leaves in the new cells, with the cell after its pins
+pub record GateMoved (gates pins t : List ℕ) (g i at : ℕ) (ng np ng′ np′ : List ℕ) (r : ℕ) : Type 0 where
+  pub records : ng′ ≡ overAt (i * gateWidth) (formAt gates g ∷ at ∷ length (runAt gates pins g) ∷ []) ng
+  pub runs : np′ ≡ overAt at (map (remapCell t) (runAt gates pins g)) np
+  pub end : r ≡ at + length (runAt gates pins g)
+
 -- the gates of the order can be read, and the new cells have room for their records and runs
 pub record Movable (gates pins t o ng np : List ℕ) : Type 0 where
   pub few : length o ≤ maxGates

@@ -2,17 +2,18 @@
 use network::{Counts, GATE_CELLS};
 use signal::Signal;
 ghost use mathlib.Core.Path.{_≡_};
-ghost use mathlib.Core.List.{List, map};
+ghost use mathlib.Core.List.{List, [], _∷_, map};
 ghost use Prim.Native.Nat.{ℕ, _+_, _-_, _*_, _≤_, _<_};
 ghost use lib.ListN.{length, getD, take, replicate};
 ghost use Rattle.lists.specs.Lists.{over};
 ghost use Rattle.signal.specs.Cell.{remapCell};
-ghost use Rattle.network.specs.Cells.{gateWidth, maxGates, runAt, lent, netOf};
+ghost use Rattle.network.specs.Cells.{gateWidth, maxGates, maxPins, runAt, lent, netOf};
 ghost use Rattle.sort.specs.Order.{uses, sortOrder};
 ghost use Rattle.sort.specs.Sorted.{sorted};
 ghost use Rattle.sort.specs.Into.{outcome, sortInto, Sortable};
 ghost use Rattle.sort.specs.Steps.{named, gateIns, formComb, cellGraph, HasRun, Cells, Raised, Countable, Counted};
 ghost use Rattle.sort.specs.Steps.{down, Lowered, Lowers, Walks, Flopped, Started, Ready, Visited, Begins, Laid, ordered};
+ghost use Rattle.sort.specs.Steps.{overAt, Numbers, Tabled, Fits, GateMoved, Movable, Moved};
 
 // Sorted, with the pins in use; or a combinational loop.
 pub enum Sorted {
@@ -261,6 +262,98 @@ fn find_order(gates: &[u32], pins: &[u32], n: usize, order: &mut [u32]) -> bool
     at == k
 }
 
+// Fills the translation table: at each gate's number the signal of its place in the order.
+fn number_gates(order: &[u32], table: &mut [u32])
+    requires { ⌜ (length (now order) ≤ maxGates) × (length (now table) ≡ maxGates) ⌝ }
+    requires { ⌜ Numbers (now order) ⌝ }
+    ensures { λ r. ⌜ Tabled (now (order .entry)) (length (now (order .entry))) (now (table .exit)) ⌝ }
+{
+    let mut i = 0;
+    while i < order.len() {
+        let g = order[i] as usize;
+        table[g] = Signal::from_var(i as u32).raw();
+        i += 1;
+    }
+}
+
+// Copies a run of pins, renumbered, to the new pins from cell at on.
+fn move_pins(run: &[u32], table: &[u32], to: &mut [u32], at: usize)
+    requires { ⌜ at + length (now run) ≤ length (now to) ⌝ }
+    ensures { λ r. ⌜ now (to .exit) ≡ overAt at (map (remapCell (now (table .entry))) (now (run .entry))) (now (to .entry)) ⌝ }
+{
+    let mut i = 0;
+    while i < run.len() {
+        to[at + i] = Signal { a: run[i] }.remap_order(table).raw();
+        i += 1;
+    }
+}
+
+// Writes gate i's record into the new gates.
+fn put_record(to: &mut [u32], i: usize, form: u32, first: usize, count: usize)
+    requires { ⌜ (i * gateWidth + 2 < length (now to)) × (i < maxGates) × (first ≤ maxPins) × (count ≤ maxPins) ⌝ }
+    ensures { λ r. ⌜ now (to .exit) ≡ overAt (i * gateWidth) (form ∷ first ∷ count ∷ []) (now (to .entry)) ⌝ }
+{
+    to[i * GATE_CELLS] = form;
+    to[i * GATE_CELLS + 1] = first as u32;
+    to[i * GATE_CELLS + 2] = count as u32;
+}
+
+// Copies gate g to gate i of the new cells, with its pins from cell at on. Answers the cell after its pins.
+fn move_gate(
+    gates: &[u32],
+    pins: &[u32],
+    table: &[u32],
+    g: usize,
+    i: usize,
+    new_gates: &mut [u32],
+    new_pins: &mut [u32],
+    at: usize,
+) -> usize
+    requires { ⌜ HasRun (now gates) (now pins) g ⌝ }
+    requires { ⌜ Fits i at (length (runAt (now gates) (now pins) g)) (now «new_gates») (now «new_pins») ⌝ }
+    ensures { λ r. ⌜ GateMoved (now (gates .entry)) (now (pins .entry)) (now (table .entry)) g i at (now («new_gates» .entry)) (now («new_pins» .entry)) (now («new_gates» .exit)) (now («new_pins» .exit)) r ⌝ }
+{
+    let run = gate_pins(gates, pins, g);
+    let count = run.len();
+    put_record(new_gates, i, network::form_at(gates, g), at, count);
+    move_pins(run, table, new_pins, at);
+    at + count
+}
+
+// Copies all gates in the new order, their pins laid in gate order. Answers how many pins there are.
+fn move_gates(
+    gates: &[u32],
+    pins: &[u32],
+    table: &[u32],
+    order: &[u32],
+    new_gates: &mut [u32],
+    new_pins: &mut [u32],
+) -> usize
+    requires { ⌜ Movable (now gates) (now pins) (now table) (now order) (now «new_gates») (now «new_pins») ⌝ }
+    ensures { λ r. ⌜ Moved (now (gates .entry)) (now (pins .entry)) (now (table .entry)) (now (order .entry)) (now («new_gates» .entry)) (now («new_pins» .entry)) (now («new_gates» .exit)) (now («new_pins» .exit)) r ⌝ }
+{
+    let mut at = 0;
+    let mut i = 0;
+    while i < order.len() {
+        let g = order[i] as usize;
+        at = move_gate(gates, pins, table, g, i, new_gates, new_pins, at);
+        i += 1;
+    }
+    at
+}
+
+// Renumbers the first n outputs.
+fn move_outputs(table: &[u32], outputs: &mut [u32], n: usize)
+    requires { ⌜ n ≤ length (now outputs) ⌝ }
+    ensures { λ r. ⌜ now (outputs .exit) ≡ over (map (remapCell (now (table .entry))) (take n (now (outputs .entry)))) (now (outputs .entry)) ⌝ }
+{
+    let mut i = 0;
+    while i < n {
+        outputs[i] = Signal { a: outputs[i] }.remap_order(table).raw();
+        i += 1;
+    }
+}
+
 // Sorts the network in gates, pins and outputs into the new cells, and renumbers the outputs.
 pub fn topo_sort(
     counts: Counts,
@@ -273,5 +366,14 @@ pub fn topo_sort(
     requires { ⌜ Sortable (lent counts (now gates) (now pins) (now outputs)) (length (now «new_gates»)) (length (now «new_pins»)) ⌝ }
     ensures { λ r. ⌜ outcome r (now («new_gates» .exit)) (now («new_pins» .exit)) (now (outputs .exit)) ≡ sortInto (sorted (netOf (lent counts (now (gates .entry)) (now (pins .entry)) (now (outputs .entry))))) (now («new_gates» .entry)) (now («new_pins» .entry)) (now (outputs .entry)) ⌝ }
 {
-    Sorted::Loop
+    let n = counts.gates;
+    let mut order = [0u32; 1024];
+    if !find_order(gates, pins, n, &mut order) {
+        return Sorted::Loop;
+    }
+    let mut table = [0u32; 1024];
+    number_gates(&order[..n], &mut table);
+    let used = move_gates(gates, pins, &table, &order[..n], new_gates, new_pins);
+    move_outputs(&table, outputs, counts.outputs);
+    Sorted::Order(used)
 }
