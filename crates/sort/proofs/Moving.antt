@@ -11,7 +11,7 @@ use Rattle.lists.specs.Lists.{over}
 use Rattle.lists.proofs.Counting.{last-or}
 use Rattle.signal.specs.Cell.{gateCell, remapCell}
 use Rattle.network.specs.Cells.{gateWidth, maxGates, maxPins, formAt, runAt}
-use Rattle.sort.specs.Steps.{HasRun, overAt, Numbers, Tabled, movedGates, movedPins, Fits, GateMoved, Movable, Moved}
+use Rattle.sort.specs.Steps.{HasRun, overAt, Numbers, Tabled, movedGates, movedPins, pinsIn, Fits, GateMoved, Movable, Moved}
 use Rattle.sort.proofs.Naming.{drop-next}
 use Rattle.sort.proofs.Laying.{length-overAt, overAt-nil, over-first, over-append}
 
@@ -91,21 +91,18 @@ pub record Moving (gates pins t o ng₀ np₀ ng np : List ℕ) (at i : ℕ) : T
   pub same-pins : length np ≡ length np₀
   pub records : overAt (i * gateWidth) (movedGates gates pins at (drop i o)) ng ≡ over (movedGates gates pins 0 o) ng₀
   pub runs : overAt at (movedPins gates pins t (drop i o)) np ≡ over (movedPins gates pins t o) np₀
-  pub end : at + length (movedPins gates pins t (drop i o)) ≡ length (movedPins gates pins t o)
+  pub end : at + pinsIn gates pins (drop i o) ≡ pinsIn gates pins o
 
 pub moving-start : {gates pins t o ng np : List ℕ} → Moving gates pins t o ng np ng np 0 0
 moving-start = record { within = omega arith; same-gates = refl; same-pins = refl; records = refl; runs = refl; end = omega arith }
 
-module _ {gates pins t o ng₀ np₀ ng np : List ℕ} {at i : ℕ} (m : Movable gates pins t o ng₀ np₀) (l : i < length o) (h : Moving gates pins t o ng₀ np₀ ng np at i) where
+module _ {gates pins t o ng₀ np₀ ng np : List ℕ} {at i : ℕ} (m : Movable gates pins o ng₀ np₀) (l : i < length o) (h : Moving gates pins t o ng₀ np₀ ng np at i) where
   abbrev run : List ℕ
   run = runAt gates pins (getD o i 0)
 
   -- the pins that are left: this gate's run, and the others
-  pins-left : length (movedPins gates pins t (drop i o)) ≡ length run + length (movedPins gates pins t (drop (i + 1) o))
-  pins-left =
-      ap (λ (s : List ℕ). length (movedPins gates pins t s)) (drop-next o i l)
-      ∙ length-append (map (remapCell t) run) (movedPins gates pins t (drop (i + 1) o))
-      ∙ ap (λ (k : ℕ). k + length (movedPins gates pins t (drop (i + 1) o))) (length-map run (remapCell t))
+  pins-left : pinsIn gates pins (drop i o) ≡ length run + pinsIn gates pins (drop (i + 1) o)
+  pins-left = ap (pinsIn gates pins) (drop-next o i l)
 
   pub moving-fits : Fits i at (length run) ng np
   moving-fits =
@@ -146,7 +143,7 @@ moving-done {gates} {pins} {t} {o} {ng₀} {np₀} {ng} {np} {at} {i} l h =
     record {
       records = sym (overAt-nil (i * gateWidth) ng) ∙ ap (λ (s : List ℕ). overAt (i * gateWidth) (movedGates gates pins at s) ng) (sym e) ∙ h .records;
       runs = sym (overAt-nil at np) ∙ ap (λ (s : List ℕ). overAt at (movedPins gates pins t s) np) (sym e) ∙ h .runs;
-      end = omega (arith, h .end, ap (λ (s : List ℕ). length (movedPins gates pins t s)) e);
+      end = omega (arith, h .end, ap (pinsIn gates pins) e);
     }
 
 -- ---- outputs

@@ -247,16 +247,28 @@ pub record GateMoved (gates pins t : List ℕ) (g i at : ℕ) (ng np ng′ np′
   pub runs : np′ ≡ overAt at (map (remapCell t) (runAt gates pins g)) np
   pub end : r ≡ at + length (runAt gates pins g)
 
+-- how many pins the gates of an order have
+abbrev pub pinsIn : List ℕ → List ℕ → List ℕ → ℕ
+pinsIn gates pins [] = 0
+pinsIn gates pins (g ∷ o) = length (runAt gates pins g) + pinsIn gates pins o
+
 -- the gates of the order can be read, and the new cells have room for their records and runs
-pub record Movable (gates pins t o ng np : List ℕ) : Type 0 where
+pub record Movable (gates pins o ng np : List ℕ) : Type 0 where
   pub few : length o ≤ maxGates
   pub runs : (i : ℕ) → i < length o → HasRun gates pins (getD o i 0)
   pub room : length o * gateWidth ≤ length ng
-  pub pinRoom : length (movedPins gates pins t o) ≤ length np
-  pub fewPins : length (movedPins gates pins t o) ≤ maxPins
+  pub pinRoom : pinsIn gates pins o ≤ length np
+  pub fewPins : pinsIn gates pins o ≤ maxPins
 
 -- what moving the gates of an order leaves in the new cells, with the pins in use
 pub record Moved (gates pins t o ng np ng′ np′ : List ℕ) (r : ℕ) : Type 0 where
   pub records : ng′ ≡ over (movedGates gates pins 0 o) ng
   pub runs : np′ ≡ over (movedPins gates pins t o) np
-  pub end : r ≡ length (movedPins gates pins t o)
+  pub end : r ≡ pinsIn gates pins o
+
+-- what renumbering leaves: gates and pins moved and n outputs renumbered by the table of the order
+pub record Renewed (gates pins o : List ℕ) (n : ℕ) (os ng np os′ ng′ np′ : List ℕ) (r : ℕ) : Type 0 where
+  pub table : List ℕ
+  pub tabled : Tabled o (length o) table
+  pub moved : Moved gates pins table o ng np ng′ np′ r
+  pub outputs : os′ ≡ over (map (remapCell table) (take n os)) os

@@ -13,7 +13,7 @@ ghost use Rattle.sort.specs.Sorted.{sorted};
 ghost use Rattle.sort.specs.Into.{outcome, sortInto, Sortable};
 ghost use Rattle.sort.specs.Steps.{named, gateIns, formComb, cellGraph, HasRun, Cells, Raised, Countable, Counted};
 ghost use Rattle.sort.specs.Steps.{down, Lowered, Lowers, Walks, Flopped, Started, Ready, Visited, Begins, Laid, ordered};
-ghost use Rattle.sort.specs.Steps.{overAt, Numbers, Tabled, Fits, GateMoved, Movable, Moved};
+ghost use Rattle.sort.specs.Steps.{overAt, Numbers, Tabled, Fits, GateMoved, Movable, Moved, Renewed};
 
 // Sorted, with the pins in use; or a combinational loop.
 pub enum Sorted {
@@ -329,7 +329,7 @@ fn move_gates(
     new_gates: &mut [u32],
     new_pins: &mut [u32],
 ) -> usize
-    requires { ⌜ Movable (now gates) (now pins) (now table) (now order) (now «new_gates») (now «new_pins») ⌝ }
+    requires { ⌜ Movable (now gates) (now pins) (now order) (now «new_gates») (now «new_pins») ⌝ }
     ensures { λ r. ⌜ Moved (now (gates .entry)) (now (pins .entry)) (now (table .entry)) (now (order .entry)) (now («new_gates» .entry)) (now («new_pins» .entry)) (now («new_gates» .exit)) (now («new_pins» .exit)) r ⌝ }
 {
     let mut at = 0;
@@ -354,6 +354,27 @@ fn move_outputs(table: &[u32], outputs: &mut [u32], n: usize)
     }
 }
 
+// Copies the gates in the new order and renumbers n outputs. Answers how many pins there are.
+fn renumber(
+    gates: &[u32],
+    pins: &[u32],
+    order: &[u32],
+    n: usize,
+    outputs: &mut [u32],
+    new_gates: &mut [u32],
+    new_pins: &mut [u32],
+) -> usize
+    requires { ⌜ Numbers (now order) ⌝ }
+    requires { ⌜ Movable (now gates) (now pins) (now order) (now «new_gates») (now «new_pins») ⌝ }
+    requires { ⌜ n ≤ length (now outputs) ⌝ }
+    ensures { λ r. ⌜ Renewed (now (gates .entry)) (now (pins .entry)) (now (order .entry)) n (now (outputs .entry)) (now («new_gates» .entry)) (now («new_pins» .entry)) (now (outputs .exit)) (now («new_gates» .exit)) (now («new_pins» .exit)) r ⌝ }
+{
+    let mut table = [0u32; 1024];
+    number_gates(order, &mut table);
+    move_outputs(&table, outputs, n);
+    move_gates(gates, pins, &table, order, new_gates, new_pins)
+}
+
 // Sorts the network in gates, pins and outputs into the new cells, and renumbers the outputs.
 pub fn topo_sort(
     counts: Counts,
@@ -371,9 +392,7 @@ pub fn topo_sort(
     if !find_order(gates, pins, n, &mut order) {
         return Sorted::Loop;
     }
-    let mut table = [0u32; 1024];
-    number_gates(&order[..n], &mut table);
-    let used = move_gates(gates, pins, &table, &order[..n], new_gates, new_pins);
-    move_outputs(&table, outputs, counts.outputs);
+    let outs = counts.outputs;
+    let used = renumber(gates, pins, &order[..n], outs, outputs, new_gates, new_pins);
     Sorted::Order(used)
 }

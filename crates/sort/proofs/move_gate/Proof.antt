@@ -1,44 +1,43 @@
+-- `move_gate` copies one gate. Assumes nothing.
+use lib.ListN.{length}
+use native.Mathlib.Omega.{arith}
+use mathlib.Core.Path.{_≡_, refl, sym, ap, _∙_}
 use borrow.Author.Needs.{needs}
 use Rattle.sort.proofs.move_gate.Statement.{statement}
 use Rattle.sort.proofs.move_gate.Tie as tie
-use Rattle.sort.proofs.move_gate.Reads as reads
-use Rattle.sort.proofs.move_gate.Lts as lts
-use Rattle.network.proofs.form_at.Reads as form-at-reads
-use Rattle.sort.proofs.gate_pins.Reads as gate-pins-reads
-use Rattle.sort.proofs.move_pins.Reads as move-pins-reads
-use Rattle.sort.proofs.put_record.Reads as put-record-reads
 
--- src/lib.rt:316:9
 gate-pins-requires : tie.Need-gate-pins-requires
 gate-pins-requires c κs = search needs
 
--- src/lib.rt:318:30
 form-at-requires : tie.Need-form-at-requires
 form-at-requires c κs = search needs
 
--- src/lib.rt:318:5
 put-record-requires : tie.Need-put-record-requires
-put-record-requires c κs = ?
+put-record-requires c κs =
+    let f = c .before .before .before .before .before .before .before .before .pre .1 in
+    let k = ap length (c .before .before .gate-pins .ensures) in
+    (f .record-room, f .low, omega (arith, f .few), omega (arith, k, f .few))
 
--- src/lib.rt:319:5
 move-pins-requires : tie.Need-move-pins-requires
-move-pins-requires c κs = ?
+move-pins-requires c κs =
+    let f = c .before .before .before .before .before .before .before .before .before .before .before .before .pre .1 in
+    omega (arith, ap length (c .before .before .before .before .before .before .gate-pins .ensures), f .run-room)
 
--- src/lib.rt:320:5
 add-result : tie.Need-add-result
 add-result c = search needs
 
--- src/lib.rt:302:1
 same-length : tie.Need-same-length
 same-length c = search needs
 
--- src/lib.rt:302:1
 same-length-2 : tie.Need-same-length-2
 same-length-2 c = search needs
 
--- src/lib.rt:302:1
 returns : tie.Need-returns
-returns c = ?
+returns c =
+    let e = c .before .before .before .before .before .before .before .before .before .gate-pins .ensures in
+    let form = c .before .before .before .before .before .before .before .form-at .ensures in
+    let put = c .before .before .before .before .before .before .put-record .ensures in
+    record { records = rw (form, e) at put; runs = rw e at (c .before .before .move-pins .ensures); end = rw e refl }
 
 pub move-gate-spec : {M : Type 1} → statement M
 move-gate-spec =

@@ -1,58 +1,56 @@
+-- `move_gates` copies one gate after the other. Assumes nothing.
+use Rattle.sort.proofs.Moving.{Moving, moving-start, moving-fits, moving-next, moving-done}
+use lib.ListN.{length}
+use native.Mathlib.Omega.{arith}
+use Prim.Native.Nat.{_-_}
 use Rattle.sort.proofs.move_gates.Statement.{statement}
 use Rattle.sort.proofs.move_gates.Tie as tie
-use Rattle.sort.proofs.move_gates.Reads as reads
-use Rattle.sort.proofs.move_gates.Lts as lts
-use Rattle.sort.proofs.move_gate.Reads as move-gate-reads
 
 abbrev Inv-loop : tie.InvT-loop
-Inv-loop gates pins table order new-gates₀ new-pins₀ at₀ i₀ new-gates new-pins at i = ?
+Inv-loop gates pins table order new-gates₀ new-pins₀ at₀ i₀ new-gates new-pins at i = Moving gates pins table order new-gates₀ new-pins₀ new-gates new-pins at i
 
 abbrev μ-loop : tie.MeasureT-loop
-μ-loop gates pins table order new-gates₀ new-pins₀ at₀ i₀ new-gates new-pins at i = ?
+μ-loop gates pins table order new-gates₀ new-pins₀ at₀ i₀ new-gates new-pins at i = length order - i
 
--- src/lib.rt:337:5
 loop-holds : tie.Need-loop-holds Inv-loop μ-loop
-loop-holds c = ?
+loop-holds c = moving-start
 
--- src/lib.rt:338:17
 mul-g : tie.Need-mul-g Inv-loop μ-loop
-mul-g c = ?
+mul-g c = omega arith
 
--- src/lib.rt:338:17
 shared-slice-read-g : tie.Need-shared-slice-read-g Inv-loop μ-loop
-shared-slice-read-g c = ?
+shared-slice-read-g c = omega arith
 
--- src/lib.rt:338:17
 cast-g : tie.Need-cast-g Inv-loop μ-loop
-cast-g c = ?
+cast-g c = omega (arith, c .shared-slice-known5 .given (c .before .before .loop .i))
 
--- src/lib.rt:339:9
 move-gate-requires : tie.Need-move-gate-requires Inv-loop μ-loop
-move-gate-requires c κs = ?
+move-gate-requires c κs =
+    let s = c .before .before .before .before .before .before .before .before .before .before .before in
+    let l = c .before .before .before in
+    (s .pre .runs _ (l .loop-test .taken), moving-fits (s .pre) (l .loop-test .taken) (l .before .loop .inv))
 
--- src/lib.rt:340:9
 add-i : tie.Need-add-i Inv-loop μ-loop
-add-i c = ?
+add-i c = omega arith
 
--- src/lib.rt:337:5
 loop-less : tie.Need-loop-less Inv-loop μ-loop
-loop-less c = ?
+loop-less c = omega arith
 
--- src/lib.rt:337:5
 loop-again : tie.Need-loop-again Inv-loop μ-loop
-loop-again c = ?
+loop-again c =
+    let a = c .before .before .before .before in
+    let l = a .before .before .before .before in
+    let s = l .before .before .before .before .before .before .before .before in
+    moving-next (s .pre) (l .loop-test .taken) (l .before .loop .inv) (a .move-gate .ensures)
 
--- src/lib.rt:324:1
 same-length : tie.Need-same-length Inv-loop μ-loop
-same-length c = ?
+same-length c = c .before .loop .inv .same-gates
 
--- src/lib.rt:324:1
 same-length-2 : tie.Need-same-length-2 Inv-loop μ-loop
-same-length-2 c = ?
+same-length-2 c = c .before .loop .inv .same-pins
 
--- src/lib.rt:324:1
 returns : tie.Need-returns Inv-loop μ-loop
-returns c = ?
+returns c = moving-done (c .loop-test .left) (c .before .loop .inv)
 
 pub move-gates-spec : {M : Type 1} → statement M
 move-gates-spec =
