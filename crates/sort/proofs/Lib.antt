@@ -12,3 +12,5 @@ pub mod Visiting
 pub mod Finding
 pub mod Laying
 pub mod Moving
+pub mod Reading
+pub mod Ending

@@ -33,7 +33,7 @@ nums-point d (s ∷ ss) m = go (s .node) refl m (nums-point d ss)
     go (Input i) e w ih = let r = ih w in (r .0, List·Memᴰ·tail (r .1), r .2)
     go (Gated g) e w ih =
         ⊎-elim (λ (q : d ≡ g). (s, List·Memᴰ·head refl, e ∙ ap Gated (sym q)))
-          (λ (v : List·Memᴰ d (gateNums ss)). let r = ih v in (r .0, List·Memᴰ·tail (r .1), r .2)) (List·Memᴰ·cases-cons w)
+        (λ (v : List·Memᴰ d (gateNums ss)). let r = ih v in (r .0, List·Memᴰ·tail (r .1), r .2)) (List·Memᴰ·cases-cons w)
 
 pub point-nums : (d : ℕ) (ss : List Signal) (s : Signal) → List·Memᴰ s ss → s .node ≡ Gated d → List·Memᴰ d (gateNums ss)
 point-nums d _ s (List·Memᴰ·head {x = t} {xs = ss} e) q =

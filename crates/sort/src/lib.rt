@@ -1,5 +1,6 @@
 // The sort of a network's gates, from cells into other cells (Quaigh's src/network/network.rs: topo_sort and remap).
-use network::{Counts, GATE_CELLS};
+use network::Counts;
+use network::GATE_CELLS;
 use signal::Signal;
 ghost use mathlib.Core.Path.{_≡_};
 ghost use mathlib.Core.List.{List, [], _∷_, map};

@@ -1,50 +1,64 @@
+-- `topo_sort` finds the order and renumbers by it. Assumes nothing.
+use Rattle.sort.proofs.Ending.{found-some, found-none, ends-loop, ends-sorted, order-numbers, order-movable}
+use Rattle.sort.proofs.Reading.{sortable-cells, gates-room}
+use Rattle.sort.specs.Steps.{ordered}
+use Rattle.network.specs.Cells.{maxGates}
+use lib.Seq.{length-take-le}
+use lib.ListN.{length, take, length-replicate}
+use borrow.Author.Tests.{not-true, not-false}
+use native.Mathlib.Omega.{arith}
+use Prim.Native.Nat.{ℕ}
+use mathlib.Core.List.{List}
+use mathlib.Core.Bool.{Bool, true, false}
+use mathlib.Core.Path.{sym, ap, _∙_}
 use borrow.Author.Needs.{needs}
 use Rattle.sort.proofs.topo_sort.Statement.{statement}
 use Rattle.sort.proofs.topo_sort.Tie as tie
-use Rattle.sort.proofs.topo_sort.Reads as reads
-use Rattle.sort.proofs.topo_sort.Lts as lts
-use Rattle.sort.proofs.find_order.Reads as find-order-reads
-use Rattle.sort.proofs.renumber.Reads as renumber-reads
 
--- src/lib.rt:392:36
 slice-aggregate-find-order : tie.Need-slice-aggregate-find-order
 slice-aggregate-find-order c = search needs
 
--- src/lib.rt:392:9
 find-order-requires : tie.Need-find-order-requires
-find-order-requires c κs = ?
+find-order-requires c κs =
+    let h = sortable-cells _ _ _ _ (c .before .before .before .before .before .before .pre) in
+    (h, (gates-room h, omega (arith, h .few, length-replicate {A = ℕ} maxGates 0)))
 
--- src/lib.rt:393:9
 returns : tie.Need-returns
-returns c = ?
+returns c =
+    let f = c .before .before .find-order in
+    ends-loop _ _ _ _ _ _ (found-none (f .result) _ (not-true _ (c .if1 .taken)) (f .ensures)) (c .before .before .before .before .before .before .before .before .before .pre)
 
--- src/lib.rt:396:38
 array-share-prefix-order : tie.Need-array-share-prefix-order
 array-share-prefix-order c = search needs
 
--- src/lib.rt:396:38
 slice-aggregate-renumber : tie.Need-slice-aggregate-renumber
-slice-aggregate-renumber c = ?
+slice-aggregate-renumber c =
+    let p = c .before .before .before .before .before .before .before .before .before .before .pre in
+    let f = c .before .before .before .find-order in
+    sym (length-take-le _ _ (omega (arith, p .few, f .kept .1 .1 .1 .0, length-replicate {A = ℕ} maxGates 0)))
 
--- src/lib.rt:396:9
 renumber-requires : tie.Need-renumber-requires
-renumber-requires c κs = ?
+renumber-requires c κs =
+    let p = c .before .before .before .before .before .before .before .before .before .before .before .before .before .pre in
+    let f = c .before .before .before .before .before .before .find-order in
+    let o = found-some (f .result) (not-false _ (c .before .before .before .before .if1 .left)) (f .ensures) in
+    (order-numbers _ _ _ _ p _ o, (order-movable _ _ _ _ p _ o _ _ (p .room) (p .pinRoom), p .outputs))
 
--- src/lib.rt:379:1
 same-length : tie.Need-same-length
 same-length c = search needs
 
--- src/lib.rt:379:1
 same-length-2 : tie.Need-same-length-2
 same-length-2 c = search needs
 
--- src/lib.rt:379:1
 same-length-3 : tie.Need-same-length-3
 same-length-3 c = search needs
 
--- src/lib.rt:379:1
 returns-2 : tie.Need-returns-2
-returns-2 c = ?
+returns-2 c =
+    let s = c .before .before .before .before .before .before .before .before .before .before .before .before .before .before .before .before .before .before .before .before in
+    let f = c .before .before .before .before .before .before .before .before .before .before .before .before .before .find-order in
+    let o = found-some (f .result) (not-false _ (c .before .before .before .before .before .before .before .before .before .before .before .if1 .left)) (f .ensures) in
+    ends-sorted _ _ _ _ (s .pre) _ o (λ i. omega (arith, c .before .before .before .before .before .before .before .before .before .before .before .before .before .before .before .before .before .before .shared-slice-known2 .given i)) (λ i. omega (arith, c .before .before .before .before .before .before .before .before .before .before .before .before .before .before .before .before .before .slice-known .given i)) (c .before .before .before .before .before .before .renumber .ensures)
 
 pub topo-sort-spec : {M : Type 1} → statement M
 topo-sort-spec =
