@@ -3,12 +3,12 @@ use mathlib.Core.Path.{_≡_, refl, sym, ap, ap₂, _∙_, subst}
 use mathlib.Core.Bool.{Bool, true, false}
 use mathlib.Core.List.{List, [], _∷_, _++_, map, List·Memᴰ, List·Memᴰ·head, List·Memᴰ·tail, Memᴰ·map}
 use mathlib.Core.Option.{Option, none, some}
-use Prim.Native.Nat.{ℕ, zero, suc, _+_, _-_, _*_, _^_, _≤_, _<_}
+use Prim.Native.Nat.{ℕ, _+_, _-_, _*_, _^_, _≤_, _<_}
 use native.Mathlib.Omega.{arith}
 use lib.ListN.{length, getD, getElem?, take, drop, length-map, length-append, length-take}
-use lib.Seq.{getD-take, getD-drop, length-take-le}
+use lib.Seq.{getD-take, getD-drop}
 use Rattle.lists.specs.Lists.{occ, over}
-use Rattle.lists.proofs.Counting.{getD-occ, occ-mem, mem-occ}
+use Rattle.lists.proofs.Counting.{getD-occ, mem-occ}
 use Rattle.lists.proofs.Places.{place-lt, mem-place, getD-place, map-on, map-map}
 use Rattle.signal.specs.Signal.{Node, Const, Input, Gated, Signal, plain, remap}
 use Rattle.signal.specs.Cell.{sigCell, nodeOf, sigOf, gateCell, remapCell}
@@ -17,37 +17,37 @@ use Rattle.signal.proofs.Remap.{Renames, remap-cell}
 use Rattle.gates.specs.Gate.{Buf, Gate, Comb, Dff, pins}
 use Rattle.gates.specs.Forms.{formCell}
 use Rattle.network.specs.declared.Counts.{Counts}
-use Rattle.network.specs.Net.{Net, GateIs, ValidNode, Valid}
-use Rattle.network.specs.Cells.{gateWidth, maxGates, maxPins, formAt, firstAt, countAt, runAt, lent, netOf, gateCells, pinCells}
+use Rattle.network.specs.Net.{Net, GateIs, ValidNode}
+use Rattle.network.specs.Cells.{gateWidth, formAt, firstAt, countAt, runAt, lent, netOf, gateCells, pinCells}
 use Rattle.network.specs.Renumber.{remapGate, placeOf, gateOr, permuted}
 use Rattle.network.proofs.Permuting.{place-of}
 use Rattle.network.proofs.Renumbering.{pins-remap}
 use Rattle.sort.specs.declared.Sorted.the-variants.{Order, Loop}
-use Rattle.sort.specs.Order.{Graph, sortOrder}
+use Rattle.sort.specs.Order.{sortOrder}
 use Rattle.sort.specs.Sorted.{graph, sorted}
-use Rattle.sort.specs.Into.{Outcome, outcome, sortInto, Sortable}
-use Rattle.sort.specs.Steps.{ordered, cellGates, cellGraph, Cells, HasRun, Numbers, Tabled, movedGates, movedPins, pinsIn, Movable, Moved, Renewed}
+use Rattle.sort.specs.Into.{outcome, sortInto, Sortable}
+use Rattle.sort.specs.Steps.{ordered, cellGraph, Numbers, Tabled, movedGates, movedPins, pinsIn, Movable, Renewed}
 use Rattle.sort.proofs.Ordering.{place, sort-length}
 use Rattle.sort.proofs.Sorting.{graph-valid, order-sorted, none-sorted, order-has, order-orders}
 use Rattle.sort.proofs.Keeps.{place-at, once, kept-pins}
-use Rattle.sort.proofs.Reading.{gate-is, run-pins, cell-gate, net-gates, net-outputs, net-size, graph-cells, sortable-cells}
+use Rattle.sort.proofs.Reading.{gate-is, cell-gate, net-gates, net-outputs, net-size, graph-cells, sortable-cells}
 
 -- a list of cells, each a 32-bit number
-abbrev pub Words : List ℕ → Type 0
-Words l = (i : ℕ) → getD l i 0 < 2 ^ 32
+abbrev pub WordCells : List ℕ → Type 0
+WordCells l = (i : ℕ) → getD l i 0 < 2 ^ 32
 
 -- a part of 32-bit cells has such cells
-word-in : (l : List ℕ) → Words l → (c : ℕ) → List·Memᴰ c l → c < 2 ^ 32
+word-in : (l : List ℕ) → WordCells l → (c : ℕ) → List·Memᴰ c l → c < 2 ^ 32
 word-in l w c m = let p = mem-place l c m in subst (λ (x : ℕ). x < 2 ^ 32) (getD-place 0 l (p .0) c (p .1)) (w (p .0))
 
-word-take : (k : ℕ) (l : List ℕ) → Words l → (c : ℕ) → List·Memᴰ c (take k l) → c < 2 ^ 32
+word-take : (k : ℕ) (l : List ℕ) → WordCells l → (c : ℕ) → List·Memᴰ c (take k l) → c < 2 ^ 32
 word-take k l w c m =
     let p = mem-place (take k l) c m in
     let h : p .0 < length (take k l) = place-lt (take k l) (p .0) c (p .1) in
     let u : p .0 < k = omega (arith, h, length-take k l) in
     subst (λ (x : ℕ). x < 2 ^ 32) (sym (getD-take k l (p .0) 0 u) ∙ getD-place 0 (take k l) (p .0) c (p .1)) (w (p .0))
 
-word-drop : (j : ℕ) (l : List ℕ) → Words l → Words (drop j l)
+word-drop : (j : ℕ) (l : List ℕ) → WordCells l → WordCells (drop j l)
 word-drop j l w i = subst (λ (x : ℕ). x < 2 ^ 32) (sym (getD-drop j l i 0)) (w (j + i))
 
 form-remap : (π : ℕ → ℕ) (x : Gate) → formCell (remapGate π x) ≡ formCell x
@@ -188,7 +188,7 @@ module _ (n : Counts) (gs ps os : List ℕ) {a b : ℕ} (s : Sortable (lent n gs
         ∙ sym (map-map (λ (y : Signal). sigCell (remap π y)) sigOf cs)
         ∙ sym (map-map sigCell (remap π) (map sigOf cs))
 
-    module _ (wp : Words ps) where
+    module _ (wp : WordCells ps) where
       run-renamed : (g : ℕ) (u : g < n .gates) → map (remapCell t) (runAt gs ps g) ≡ map sigCell (pins (new g))
       run-renamed g u =
           cells-renamed (runAt gs ps g) (word-take (countAt gs g) (drop (firstAt gs g) ps) (word-drop (firstAt gs g) ps wp)) (pin-valid g u) ∙ ap (map sigCell) (sym (new-pins g u))
@@ -208,7 +208,7 @@ module _ (n : Counts) (gs ps os : List ℕ) {a b : ℕ} (s : Sortable (lent n gs
         ap₂ (λ (y z : ℕ). y ∷ at ∷ z ∷ movedGates gs ps (at + z) k) f c
         ∙ ap (λ (r : List ℕ). formCell (new g) ∷ at ∷ length (pins (new g)) ∷ r) (records-are (at + length (pins (new g))) k (λ v m. h v (List·Memᴰ·tail m)))
 
-    outs-renamed : Words os → map (remapCell t) (take (n .outputs) os) ≡ map sigCell (permuted l net .outputs)
+    outs-renamed : WordCells os → map (remapCell t) (take (n .outputs) os) ≡ map sigCell (permuted l net .outputs)
     outs-renamed w =
         cells-renamed (take (n .outputs) os) (word-take (n .outputs) os w)
         (λ c m. s .valid .outsValid (sigOf c) (subst (List·Memᴰ (sigOf c)) (sym (net-outputs n gs ps os)) (Memᴰ·map sigOf m)))
@@ -216,7 +216,7 @@ module _ (n : Counts) (gs ps os : List ℕ) {a b : ℕ} (s : Sortable (lent n gs
 
   -- ---- all cells
 
-  pub ends-sorted : {ng np os′ ng′ np′ : List ℕ} {r : ℕ} → Words ps → Words os → Renewed gs ps l (n .outputs) os ng np os′ ng′ np′ r
+  pub ends-sorted : {ng np os′ ng′ np′ : List ℕ} {r : ℕ} → WordCells ps → WordCells os → Renewed gs ps l (n .outputs) os ng np os′ ng′ np′ r
       → outcome (Order r) ng′ np′ os′ ≡ sortInto (sorted net) ng np os
   unfolding sortInto
   ends-sorted {ng} {np} {os′} {ng′} {np′} {r} wp wo d =

@@ -1,18 +1,16 @@
 -- The order that the walk leaves in its cells is the sort's. Assumes nothing.
-use mathlib.Core.Path.{_≡_, refl, sym, ap, _∙_}
-use mathlib.Core.Bool.{Bool, true, false}
-use mathlib.Core.List.{List, [], _∷_, _++_}
-use mathlib.Core.Option.{Option, none, some}
-use mathlib.Core.Logic.{⊎-elim}
-use Prim.Native.Nat.{ℕ, _+_, _-_, _≤_, _<_}
+use mathlib.Core.Path.{_≡_, sym, ap, _∙_}
+use mathlib.Core.List.{List, _++_, append-assoc}
+use mathlib.Core.Option.{none, some}
+use Prim.Native.Nat.{ℕ, _+_}
 use native.Mathlib.Omega.{arith}
 use native.Mathlib.Decide.{ℕ-discrete}
 use lib.Dec.{eqb}
-use borrow.Author.Tests.{eq-eqb, ne-eqb}
 use lib.ListN.{length, getD, take, drop, length-append}
-use lib.Seq.{take-at, take-append-le}
+use lib.Seq.{take-at}
+use borrow.Author.Tests.{eq-eqb, ne-eqb}
 use Rattle.sort.specs.Order.{Graph, recorded, order, flopsTo, startTo, useCount, sortOrder}
-use Rattle.sort.specs.Steps.{ValidGraph, down, Flopped, Started, Counted, unmarked, Laid, ordered}
+use Rattle.sort.specs.Steps.{ValidGraph, down, Flopped, Started, Counted, unmarked, Recorded, ordered}
 use Rattle.sort.proofs.Ordering.{order-short, sort-full, sort-short}
 use Rattle.sort.proofs.Starting.{start-same, flopped-unmarked}
 
@@ -27,7 +25,7 @@ module _ (G : Graph) (valid : ValidGraph G) where
   unfolding order
   parts = length-append (flopsTo (G .comb) (G .size)) (recorded G)
 
-  module _ {o₀ m o₁ o₂ : List ℕ} {k at : ℕ} (f : Flopped (G .comb) (G .size) o₀ m o₁ k) (l : Laid G o₁ o₂ at) where
+  module _ {o₀ m o₁ o₂ : List ℕ} {k at : ℕ} (f : Flopped (G .comb) (G .size) o₀ m o₁ k) (l : Recorded G o₁ o₂ at) where
     -- where the recorded gates start behind the flip-flops, all gates stand in the order
     found-order : at ≡ k → take (G .size) o₂ ≡ order G
     unfolding order
@@ -35,7 +33,7 @@ module _ (G : Graph) (valid : ValidGraph G) where
         let fl = flopsTo (G .comb) (G .size) in
         let t : take at o₁ ≡ fl = rw (f .front) (take-at fl (drop k o₀) at (sym (q ∙ f .count))) in
         let n : length (fl ++ recorded G) ≡ G .size = omega (arith, length-append fl (recorded G), l .start, f .count) in
-        let c : o₂ ≡ (fl ++ recorded G) ++ drop (G .size) o₁ = l .cells ∙ rw (t, mathlib.Core.List.append-assoc fl (recorded G) (drop (G .size) o₁)) in
+        let c : o₂ ≡ (fl ++ recorded G) ++ drop (G .size) o₁ = l .cells ∙ rw (t, append-assoc fl (recorded G) (drop (G .size) o₁)) in
         ap (take (G .size)) c ∙ take-at (fl ++ recorded G) (drop (G .size) o₁) (G .size) n
 
     pub found-all : at ≡ k → some (take (G .size) o₂) ≡ sortOrder G

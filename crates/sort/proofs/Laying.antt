@@ -1,10 +1,9 @@
 -- A list laid over another from a cell on, and the stores that lay it. Assumes nothing.
 use mathlib.Core.Path.{_≡_, refl, sym, ap, _∙_}
 use mathlib.Core.List.{List, [], _∷_, _++_}
-use Prim.Native.Nat.{ℕ, zero, suc, _+_, _≤_, _<_}
+use Prim.Native.Nat.{ℕ, zero, suc, _+_}
 use native.Mathlib.Omega.{arith}
 use lib.ListN.{length, set}
-use Rattle.lists.specs.Lists.{over}
 use Rattle.lists.proofs.Over.{length-over}
 use Rattle.sort.specs.Steps.{overAt}
 

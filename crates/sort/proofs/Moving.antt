@@ -1,17 +1,17 @@
 -- The translation table, and gates, pins and outputs moved by it. Assumes nothing.
 use mathlib.Core.Path.{_≡_, refl, sym, ap, _∙_}
-use mathlib.Core.List.{List, [], _∷_, _++_, map}
+use mathlib.Core.List.{List, [], _∷_, map}
 use mathlib.Core.Logic.{⊎-elim}
-use Prim.Native.Nat.{ℕ, zero, suc, _+_, _-_, _*_, _≤_, _<_}
+use Prim.Native.Nat.{ℕ, suc, _+_, _*_, _≤_, _<_}
 use native.Mathlib.Omega.{arith}
 use native.Mathlib.Numerals.{add-one}
-use lib.ListN.{length, getD, take, drop, set, length-set, length-map, length-append, drop-of-length-le}
+use lib.ListN.{length, getD, take, drop, set, length-set, length-map, drop-of-length-le}
 use lib.Seq.{getD-set-same, getD-set-other, getD-take, length-take-le}
 use Rattle.lists.specs.Lists.{over}
 use Rattle.lists.proofs.Counting.{last-or}
 use Rattle.signal.specs.Cell.{gateCell, remapCell}
-use Rattle.network.specs.Cells.{gateWidth, maxGates, maxPins, formAt, runAt}
-use Rattle.sort.specs.Steps.{HasRun, overAt, Numbers, Tabled, movedGates, movedPins, pinsIn, Fits, GateMoved, Movable, Moved}
+use Rattle.network.specs.Cells.{gateWidth, maxGates, formAt, runAt}
+use Rattle.sort.specs.Steps.{overAt, Numbers, Tabled, movedGates, movedPins, pinsIn, RoomFor, GateMoved, Movable, Moved}
 use Rattle.sort.proofs.Naming.{drop-next}
 use Rattle.sort.proofs.Laying.{length-overAt, overAt-nil, over-first, over-append}
 
@@ -104,7 +104,7 @@ module _ {gates pins t o ng₀ np₀ ng np : List ℕ} {at i : ℕ} (m : Movable
   pins-left : pinsIn gates pins (drop i o) ≡ length run + pinsIn gates pins (drop (i + 1) o)
   pins-left = ap (pinsIn gates pins) (drop-next o i l)
 
-  pub moving-fits : Fits i at (length run) ng np
+  pub moving-fits : RoomFor i at (length run) ng np
   moving-fits =
       record {
         low = omega (arith, m .few);

@@ -1,26 +1,24 @@
 -- The network that the cells hold, gate by gate. Assumes nothing.
-use mathlib.Core.Path.{_≡_, refl, sym, ap, ap₂, _∙_, subst}
-use mathlib.Core.Bool.{Bool, true, false, _&&_, cond}
-use mathlib.Core.List.{List, [], _∷_, map}
+use mathlib.Core.Path.{_≡_, refl, sym, ap, _∙_, subst}
+use mathlib.Core.Bool.{Bool, true, _&&_, cond}
+use mathlib.Core.List.{List, map}
 use mathlib.Core.Option.{Option, none, some}
 use Prim.Native.Nat.{ℕ, zero, suc, _+_, _*_, _≤_, _<_}
 use native.Mathlib.Omega.{arith}
 use native.Mathlib.Nat.{zero-add}
 use lib.Dec.{leb, ltb}
+use lib.ListN.{length, getElem?, take, length-map}
 use borrow.Author.Tests.{ltb-true, leb-true}
-use lib.ListN.{length, getD, getElem?, take, drop, length-map, length-drop}
-use lib.Seq.{length-take-le}
-use Rattle.lists.specs.Lists.{occ, range}
+use Rattle.lists.specs.Lists.{range}
 use Rattle.lists.proofs.Tests.{by-test, and-left, and-right}
 use Rattle.lists.proofs.Range.{length-range, map-range}
 use Rattle.signal.specs.Cell.{sigOf}
-use Rattle.gates.specs.Gate.{Form, And2, Xor2, And3, Xor3, Maj3, Mux3, AndN, OrN, NandN, NorN, XorN, XnorN, Buf, Gate, Comb, Dff, pins, isComb}
+use Rattle.gates.specs.Gate.{And2, Xor2, And3, Xor3, Maj3, Mux3, AndN, OrN, NandN, NorN, XorN, XnorN, Buf, Gate, Comb, Dff, pins, isComb}
 use Rattle.gates.specs.Forms.{formCell, kindOf, gateFrom}
 use Rattle.gates.specs.Decode.{kindComb}
 use Rattle.gates.proofs.Forms.{From, gate-from}
 use Rattle.network.specs.declared.Counts.{Counts}
-use Rattle.network.specs.Net.{Net, Valid}
-use Rattle.network.specs.Cells.{gateWidth, maxPins, formAt, firstAt, countAt, runAt, gateAt, orBuf, lent, netOf, pinCells}
+use Rattle.network.specs.Cells.{gateWidth, formAt, firstAt, countAt, runAt, gateAt, orBuf, lent, netOf, pinCells}
 use Rattle.sort.specs.Order.{Graph, useCount}
 use Rattle.sort.specs.Sorted.{gateNums, combAt, insAt, graph}
 use Rattle.sort.specs.Into.{Sortable}

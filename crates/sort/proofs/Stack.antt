@@ -1,6 +1,6 @@
 -- The stack in cells, and what lowering counts leaves of it. Assumes nothing.
 use mathlib.Core.Path.{_≡_, refl, sym, ap, _∙_}
-use mathlib.Core.Bool.{Bool, true, false}
+use mathlib.Core.Bool.{true, false}
 use mathlib.Core.List.{List, [], _∷_, _++_}
 use mathlib.Core.Logic.{⊎-elim}
 use Prim.Native.Nat.{ℕ, zero, suc, _+_, _-_, _≤_, _<_}
@@ -8,8 +8,8 @@ use native.Mathlib.Omega.{arith}
 use native.Mathlib.Numerals.{add-one}
 use lib.ListN.{length, getD, drop, set, drop-of-length-le}
 use lib.Seq.{getD-set-same, getD-set-other}
-use Rattle.lists.specs.Lists.{hit, occ, sumTo}
-use Rattle.lists.proofs.Counting.{hit-or, hit-same, sum-occ, sum-le}
+use Rattle.lists.specs.Lists.{occ}
+use Rattle.lists.proofs.Counting.{hit-or, sum-occ, sum-le}
 use Rattle.signal.specs.Signal.{gateNode}
 use Rattle.signal.specs.Cell.{nodeOf, gateNumber}
 use Rattle.network.specs.Cells.{maxGates}

@@ -3,19 +3,19 @@ use mathlib.Core.Path.{_≡_, refl, sym, ap, _∙_}
 use mathlib.Core.Bool.{Bool, true, false, cond}
 use mathlib.Core.List.{List, [], _∷_, _++_, append-assoc}
 use mathlib.Core.Logic.{⊎-elim}
-use Prim.Native.Nat.{ℕ, zero, suc, _+_, _-_, _*_, _≤_, _<_}
+use Prim.Native.Nat.{ℕ, zero, suc, _+_, _≤_, _<_}
 use native.Mathlib.Omega.{arith}
 use native.Mathlib.Numerals.{add-one}
 use native.Mathlib.Decide.{decLt}
-use lib.Dec.{eqb, ltb}
-use borrow.Author.Tests.{eq-eqb, ne-eqb, lt-ltb, le-ltb}
-use lib.ListN.{length, getD, take, drop, set, replicate, length-append, length-drop, length-set}
+use lib.Dec.{eqb}
+use lib.ListN.{length, getD, drop, set, replicate, length-append, length-drop}
 use lib.Seq.{set-at, drop-cons, getD-set-same, getD-set-other}
+use borrow.Author.Tests.{eq-eqb, ne-eqb, lt-ltb, le-ltb}
 use Rattle.lists.proofs.Counting.{hit-or}
 use Rattle.lists.proofs.Tests.{le-or-lt}
 use Rattle.network.specs.Cells.{maxGates}
 use Rattle.sort.specs.Order.{Graph, pushed, flopsTo, startTo}
-use Rattle.sort.specs.Steps.{down, flopMark, Flopped, unmarked, Started, Marked}
+use Rattle.sort.specs.Steps.{flopMark, Flopped, unmarked, Started, Marked}
 use Rattle.sort.proofs.Stack.{down-push}
 use Rattle.sort.proofs.Uses.{getD-zeros}
 

@@ -1,17 +1,17 @@
 -- The use counts, gate by gate. Assumes nothing.
 use mathlib.Core.Path.{_≡_, refl, sym, ap, _∙_}
-use mathlib.Core.Bool.{Bool, true, false}
-use mathlib.Core.List.{List, [], _∷_}
+use mathlib.Core.Bool.{true, false}
+use mathlib.Core.List.{List, []}
 use mathlib.Core.Logic.{⊎-elim}
 use Prim.Native.Nat.{ℕ, zero, suc, _+_, _≤_, _<_}
 use native.Mathlib.Omega.{arith}
 use native.Mathlib.Numerals.{add-one}
 use lib.ListN.{length, getD, replicate, length-replicate}
 use Rattle.lists.specs.Lists.{occ, sumTo}
-use Rattle.lists.proofs.Counting.{last-or, zero-or}
-use Rattle.network.specs.Cells.{maxGates, maxPins, runAt}
+use Rattle.lists.proofs.Counting.{last-or}
+use Rattle.network.specs.Cells.{maxGates, runAt}
 use Rattle.sort.specs.Order.{Graph, uses, useCount}
-use Rattle.sort.specs.Steps.{ValidGraph, named, gateIns, formComb, cellGraph, HasRun, Cells, Raised, Countable, Counted}
+use Rattle.sort.specs.Steps.{gateIns, formComb, cellGraph, Cells, Raised, Countable, Counted}
 use Rattle.sort.proofs.Walk.{uses-comb, uses-flop, uses-ins}
 
 pub getD-zeros : (k v : ℕ) → getD {A = ℕ} (replicate k 0) v 0 ≡ 0

@@ -7,11 +7,11 @@ use Prim.Native.Nat.{ℕ, zero, suc, _+_, _-_, _≤_, _<_}
 use native.Mathlib.Omega.{arith}
 use lib.ListN.{length, getD, take, drop, set, length-set, take-append-drop}
 use lib.Seq.{drop-cons, getD-set-same, getD-set-other, drop-set-lt, take-set-le, take-take}
-use Rattle.lists.specs.Lists.{occ, hit, listTo}
+use Rattle.lists.specs.Lists.{occ, listTo}
 use Rattle.lists.proofs.Counting.{hit-or, sum-occ, sum-le, length-listTo, getD-listTo}
 use Rattle.network.specs.Cells.{maxGates}
-use Rattle.sort.specs.Order.{Graph, uses, pushed, lowered, kept, countsAfter, stackAfter, walk, recorded, useCount, startTo}
-use Rattle.sort.specs.Steps.{ValidGraph, Good, budget, gateIns, down, Lowered, Walks, Counted, Marked, Long, Ready, Visited, Begins, Laid}
+use Rattle.sort.specs.Order.{Graph, uses, pushed, lowered, kept, countsAfter, stackAfter, walk, recorded, useCount}
+use Rattle.sort.specs.Steps.{ValidGraph, Good, budget, gateIns, down, Lowered, Walks, Marked, Ready, Visited, Begins, Recorded}
 use Rattle.sort.proofs.Walk.{good-lower, next-below, good-pop, good-all, budget-all, top-low, top-fresh, uses-comb, uses-flop}
 use Rattle.sort.proofs.WalkEnds.{good-start, budget-start}
 use Rattle.sort.proofs.Stack.{length-down}
@@ -279,7 +279,7 @@ walking-start G valid o c m st top b few =
       leads = walk-same G valid (G .size) c c′ (down top st) [] g h ∙ ap (λ (s : List ℕ). walk G (G .size) c′ s []) e;
     }
 
-pub walking-end : {G : Graph} {o₀ c m st : List ℕ} {top : ℕ} {o : List ℕ} {at : ℕ} → top ≡ 0 → Walking G o₀ c m st top o at → Laid G o₀ o at
+pub walking-end : {G : Graph} {o₀ c m st : List ℕ} {top : ℕ} {o : List ℕ} {at : ℕ} → top ≡ 0 → Walking G o₀ c m st top o at → Recorded G o₀ o at
 walking-end {G} {o₀} {c} {m} {st} {top} {o} {at} z w =
     let d : w .ready .done ≡ recorded G = sym (walk-empty G (w .left) c (w .ready .done)) ∙ (rw z at (w .leads)) in
     record {

@@ -197,7 +197,7 @@ pub record Begins (G : Graph) (c m st : List ℕ) (top : ℕ) (o : List ℕ) : T
   pub first : down top st ≡ startTo (G .comb) (useCount G) (G .size)
 
 -- the recorded gates stand in the order from cell `at` on
-pub record Laid (G : Graph) (o₀ o : List ℕ) (at : ℕ) : Type 0 where
+pub record Recorded (G : Graph) (o₀ o : List ℕ) (at : ℕ) : Type 0 where
   pub start : at + length (recorded G) ≡ G .size
   pub cells : o ≡ take at o₀ ++ recorded G ++ drop (G .size) o₀
 
@@ -235,7 +235,7 @@ overAt (suc k) t [] = []
 overAt (suc k) t (y ∷ o) = y ∷ overAt k t o
 
 -- gate i's record and a run of so many pins from cell `at` on have room in the new cells
-pub record Fits (i at count : ℕ) (ng np : List ℕ) : Type 0 where
+pub record RoomFor (i at count : ℕ) (ng np : List ℕ) : Type 0 where
   pub low : i < maxGates
   pub record-room : i * gateWidth + 2 < length ng
   pub run-room : at + count ≤ length np

@@ -13,8 +13,8 @@ ghost use Rattle.sort.specs.Order.{uses, sortOrder};
 ghost use Rattle.sort.specs.Sorted.{sorted};
 ghost use Rattle.sort.specs.Into.{outcome, sortInto, Sortable};
 ghost use Rattle.sort.specs.Steps.{named, gateIns, formComb, cellGraph, HasRun, Cells, Raised, Countable, Counted};
-ghost use Rattle.sort.specs.Steps.{down, Lowered, Lowers, Walks, Flopped, Started, Ready, Visited, Begins, Laid, ordered};
-ghost use Rattle.sort.specs.Steps.{overAt, Numbers, Tabled, Fits, GateMoved, Movable, Moved, Renewed};
+ghost use Rattle.sort.specs.Steps.{down, Lowered, Lowers, Walks, Flopped, Started, Ready, Visited, Begins, Recorded, ordered};
+ghost use Rattle.sort.specs.Steps.{overAt, Numbers, Tabled, RoomFor, GateMoved, Movable, Moved, Renewed};
 
 // Sorted, with the pins in use; or a combinational loop.
 pub enum Sorted {
@@ -229,7 +229,7 @@ fn visit_all(
 ) -> usize
     requires { ⌜ Cells (now gates) (now pins) n ⌝ }
     requires { ⌜ Begins (cellGraph (now gates) (now pins) n) (now counts) (now marks) (now stack) top (now order) ⌝ }
-    ensures { λ r. ⌜ Laid (cellGraph (now (gates .entry)) (now (pins .entry)) n) (now (order .entry)) (now (order .exit)) r ⌝ }
+    ensures { λ r. ⌜ Recorded (cellGraph (now (gates .entry)) (now (pins .entry)) n) (now (order .entry)) (now (order .exit)) r ⌝ }
 {
     let mut w = Place { top, at: n };
     while w.top != 0 {
@@ -311,7 +311,7 @@ fn move_gate(
     at: usize,
 ) -> usize
     requires { ⌜ HasRun (now gates) (now pins) g ⌝ }
-    requires { ⌜ Fits i at (length (runAt (now gates) (now pins) g)) (now «new_gates») (now «new_pins») ⌝ }
+    requires { ⌜ RoomFor i at (length (runAt (now gates) (now pins) g)) (now «new_gates») (now «new_pins») ⌝ }
     ensures { λ r. ⌜ GateMoved (now (gates .entry)) (now (pins .entry)) (now (table .entry)) g i at (now («new_gates» .entry)) (now («new_pins» .entry)) (now («new_gates» .exit)) (now («new_pins» .exit)) r ⌝ }
 {
     let run = gate_pins(gates, pins, g);
@@ -376,7 +376,7 @@ fn renumber(
     move_gates(gates, pins, &table, order, new_gates, new_pins)
 }
 
-// Sorts the network in gates, pins and outputs into the new cells, and renumbers the outputs.
+// Sorts the network in gates, pins and outputs into the new cells, and renumbers the outputs. At a loop nothing is written.
 pub fn topo_sort(
     counts: Counts,
     gates: &[u32],

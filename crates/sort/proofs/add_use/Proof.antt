@@ -1,14 +1,14 @@
 -- `add_use` raises the count of the gate that a pin names. Assumes nothing.
-use Rattle.sort.proofs.Naming.{occ-own, named-none, raised-gate, raised-none}
-use Rattle.network.specs.Cells.{maxPins}
-use Rattle.signal.specs.Cell.{nodeOf}
-use Rattle.signal.specs.Signal.{gateNode}
-use lib.ListN.{length, getD}
-use native.Mathlib.Omega.{arith}
-use Prim.Native.Nat.{_+_, _≤_, _<_}
 use mathlib.Core.Path.{_≡_, sym, _∙_}
 use mathlib.Core.Bool.{true}
+use Prim.Native.Nat.{_+_, _≤_, _<_}
+use native.Mathlib.Omega.{arith}
+use lib.ListN.{length, getD}
 use borrow.Author.Needs.{needs}
+use Rattle.signal.specs.Cell.{nodeOf}
+use Rattle.signal.specs.Signal.{gateNode}
+use Rattle.network.specs.Cells.{maxPins}
+use Rattle.sort.proofs.Naming.{occ-own, named-none, raised-gate, raised-none}
 use Rattle.sort.proofs.add_use.Statement.{statement}
 use Rattle.sort.proofs.add_use.Tie as tie
 

@@ -1,8 +1,8 @@
 -- `add_uses` counts one pin after the other. Assumes nothing.
-use Rattle.sort.proofs.Naming.{Counting, counting-start, counting-asks, counting-next, counting-done}
-use lib.ListN.{length}
-use native.Mathlib.Omega.{arith}
 use Prim.Native.Nat.{_-_}
+use native.Mathlib.Omega.{arith}
+use lib.ListN.{length}
+use Rattle.sort.proofs.Naming.{Counting, counting-start, counting-asks, counting-next, counting-done}
 use Rattle.sort.proofs.add_uses.Statement.{statement}
 use Rattle.sort.proofs.add_uses.Tie as tie
 

@@ -1,10 +1,10 @@
 -- `count_gate` counts the pins of a combinational gate. Assumes nothing.
+use mathlib.Core.Path.{sym, ap, _∙_}
+use borrow.Author.Tests.{not-true, not-false}
+use borrow.Author.Needs.{needs}
+use Rattle.sort.specs.Steps.{gateIns}
 use Rattle.sort.proofs.Uses.{flop-uses, comb-uses}
 use Rattle.sort.proofs.Naming.{raised-none, raised-as, countable-as}
-use Rattle.sort.specs.Steps.{gateIns}
-use borrow.Author.Tests.{not-true, not-false}
-use mathlib.Core.Path.{sym, ap, _∙_}
-use borrow.Author.Needs.{needs}
 use Rattle.sort.proofs.count_gate.Statement.{statement}
 use Rattle.sort.proofs.count_gate.Tie as tie
 

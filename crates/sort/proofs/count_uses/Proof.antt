@@ -1,11 +1,11 @@
 -- `count_uses` counts one gate after the other. Assumes nothing.
-use Rattle.sort.proofs.Uses.{CountedTo, counted-start, counted-asks, counted-next, counted-done}
-use Rattle.sort.specs.Steps.{cellGraph}
-use Rattle.network.specs.Cells.{maxGates}
-use lib.ListN.{length, length-replicate}
-use native.Mathlib.Omega.{arith}
-use Prim.Native.Nat.{ℕ, _-_}
 use mathlib.Core.Path.{sym, ap, _∙_}
+use Prim.Native.Nat.{ℕ, _-_}
+use native.Mathlib.Omega.{arith}
+use lib.ListN.{length, length-replicate}
+use Rattle.network.specs.Cells.{maxGates}
+use Rattle.sort.specs.Steps.{cellGraph}
+use Rattle.sort.proofs.Uses.{CountedTo, counted-start, counted-asks, counted-next, counted-done}
 use Rattle.sort.proofs.count_uses.Statement.{statement}
 use Rattle.sort.proofs.count_uses.Tie as tie
 

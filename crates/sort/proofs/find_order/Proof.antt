@@ -1,13 +1,13 @@
 -- `find_order` puts the stages together. Assumes nothing.
+use mathlib.Core.Path.{_∙_}
+use Prim.Native.Nat.{ℕ}
+use native.Mathlib.Omega.{arith}
+use lib.ListN.{length-replicate}
+use borrow.Author.Needs.{needs}
+use Rattle.network.specs.Cells.{maxGates}
+use Rattle.sort.specs.Steps.{cellGraph}
 use Rattle.sort.proofs.Finding.{started-graph, found-is}
 use Rattle.sort.proofs.Starting.{flopped-same, flopped-marked}
-use Rattle.sort.specs.Steps.{cellGraph}
-use Rattle.network.specs.Cells.{maxGates}
-use lib.ListN.{length-replicate}
-use native.Mathlib.Omega.{arith}
-use Prim.Native.Nat.{ℕ}
-use mathlib.Core.Path.{sym, _∙_}
-use borrow.Author.Needs.{needs}
 use Rattle.sort.proofs.find_order.Statement.{statement}
 use Rattle.sort.proofs.find_order.Tie as tie
 

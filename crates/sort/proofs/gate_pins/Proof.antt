@@ -1,8 +1,8 @@
 -- A gate's run is cut out of the pins. Assumes nothing.
-use lib.ListN.{take, drop}
-use native.Mathlib.Omega.{arith}
-use Prim.Native.Nat.{ℕ, _+_, _-_}
 use mathlib.Core.Path.{_≡_, ap, ap₂, _∙_}
+use Prim.Native.Nat.{ℕ, _+_, _-_}
+use native.Mathlib.Omega.{arith}
+use lib.ListN.{take, drop}
 use borrow.Author.Needs.{needs}
 use Rattle.sort.proofs.gate_pins.Statement.{statement}
 use Rattle.sort.proofs.gate_pins.Tie as tie

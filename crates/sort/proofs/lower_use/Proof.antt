@@ -1,15 +1,15 @@
 -- `lower_use` lowers one count, and pushes its gate at zero. Assumes nothing.
-use Rattle.sort.proofs.Stack.{lowered-none, lowered-stay, lowered-push, down-push}
-use Rattle.network.specs.Cells.{maxGates}
-use Rattle.signal.specs.Cell.{nodeOf}
-use Rattle.signal.specs.Signal.{gateNode}
-use borrow.Author.Tests.{not-true, not-false}
-use lib.ListN.{length, getD, length-set}
-use native.Mathlib.Omega.{arith}
-use Prim.Native.Nat.{_<_}
 use mathlib.Core.Path.{_≡_, sym, _∙_}
 use mathlib.Core.Bool.{true}
+use Prim.Native.Nat.{_<_}
+use native.Mathlib.Omega.{arith}
+use lib.ListN.{getD, length-set}
+use borrow.Author.Tests.{not-true, not-false}
 use borrow.Author.Needs.{needs}
+use Rattle.signal.specs.Cell.{nodeOf}
+use Rattle.signal.specs.Signal.{gateNode}
+use Rattle.network.specs.Cells.{maxGates}
+use Rattle.sort.proofs.Stack.{lowered-none, lowered-stay, lowered-push, down-push}
 use Rattle.sort.proofs.lower_use.Statement.{statement}
 use Rattle.sort.proofs.lower_use.Tie as tie
 

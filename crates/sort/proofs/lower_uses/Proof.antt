@@ -1,9 +1,9 @@
 -- `lower_uses` lowers one pin after the other. Assumes nothing.
-use Rattle.sort.proofs.Stack.{Lowering, lowering-start, lowering-asks, lowering-next, lowering-done}
-use lib.ListN.{length}
-use native.Mathlib.Omega.{arith}
-use Prim.Native.Nat.{_-_}
 use mathlib.Core.Path.{sym, _∙_}
+use Prim.Native.Nat.{_-_}
+use native.Mathlib.Omega.{arith}
+use lib.ListN.{length}
+use Rattle.sort.proofs.Stack.{Lowering, lowering-start, lowering-asks, lowering-next, lowering-done}
 use Rattle.sort.proofs.lower_uses.Statement.{statement}
 use Rattle.sort.proofs.lower_uses.Tie as tie
 

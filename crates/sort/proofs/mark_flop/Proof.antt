@@ -1,8 +1,8 @@
 -- `mark_flop` marks one gate, if it is a flip-flop. Assumes nothing.
-use Rattle.sort.proofs.Starting.{flopped-skip, flopped-mark}
-use native.Mathlib.Omega.{arith}
 use mathlib.Core.Path.{sym, _∙_}
+use native.Mathlib.Omega.{arith}
 use borrow.Author.Needs.{needs}
+use Rattle.sort.proofs.Starting.{flopped-skip, flopped-mark}
 use Rattle.sort.proofs.mark_flop.Statement.{statement}
 use Rattle.sort.proofs.mark_flop.Tie as tie
 

@@ -1,12 +1,12 @@
 -- `mark_flops` marks one flip-flop after the other. Assumes nothing.
-use Rattle.sort.proofs.Starting.{flopped-none}
-use Rattle.sort.specs.Steps.{formComb, Flopped}
-use Rattle.network.specs.Cells.{maxGates}
-use lib.ListN.{length, length-replicate}
-use native.Mathlib.Omega.{arith}
-use Prim.Native.Nat.{ℕ, _-_, _≤_}
 use mathlib.Core.List.{List}
 use mathlib.Core.Path.{_≡_, refl, sym, ap, _∙_}
+use Prim.Native.Nat.{ℕ, _-_, _≤_}
+use native.Mathlib.Omega.{arith}
+use lib.ListN.{length, length-replicate}
+use Rattle.network.specs.Cells.{maxGates}
+use Rattle.sort.specs.Steps.{formComb, Flopped}
+use Rattle.sort.proofs.Starting.{flopped-none}
 use Rattle.sort.proofs.mark_flops.Statement.{statement}
 use Rattle.sort.proofs.mark_flops.Tie as tie
 

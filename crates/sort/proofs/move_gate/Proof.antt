@@ -1,7 +1,7 @@
 -- `move_gate` copies one gate. Assumes nothing.
-use lib.ListN.{length}
+use mathlib.Core.Path.{refl, ap}
 use native.Mathlib.Omega.{arith}
-use mathlib.Core.Path.{_≡_, refl, sym, ap, _∙_}
+use lib.ListN.{length}
 use borrow.Author.Needs.{needs}
 use Rattle.sort.proofs.move_gate.Statement.{statement}
 use Rattle.sort.proofs.move_gate.Tie as tie

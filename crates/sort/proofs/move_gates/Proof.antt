@@ -1,8 +1,8 @@
 -- `move_gates` copies one gate after the other. Assumes nothing.
-use Rattle.sort.proofs.Moving.{Moving, moving-start, moving-fits, moving-next, moving-done}
-use lib.ListN.{length}
-use native.Mathlib.Omega.{arith}
 use Prim.Native.Nat.{_-_}
+use native.Mathlib.Omega.{arith}
+use lib.ListN.{length}
+use Rattle.sort.proofs.Moving.{Moving, moving-start, moving-fits, moving-next, moving-done}
 use Rattle.sort.proofs.move_gates.Statement.{statement}
 use Rattle.sort.proofs.move_gates.Tie as tie
 

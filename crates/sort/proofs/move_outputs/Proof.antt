@@ -1,11 +1,10 @@
 -- `move_outputs` renumbers one output after the other. Assumes nothing.
-use Rattle.sort.proofs.Moving.{Renaming, renaming-start, renaming-next, renaming-done}
-use Rattle.signal.specs.Cell.{remapCell}
-use borrow.Author.Needs.{needs}
-use lib.ListN.{length}
-use native.Mathlib.Omega.{arith}
-use Prim.Native.Nat.{_-_}
 use mathlib.Core.Path.{_∙_}
+use Prim.Native.Nat.{_-_}
+use native.Mathlib.Omega.{arith}
+use borrow.Author.Needs.{needs}
+use Rattle.signal.specs.Cell.{remapCell}
+use Rattle.sort.proofs.Moving.{Renaming, renaming-start, renaming-next, renaming-done}
 use Rattle.sort.proofs.move_outputs.Statement.{statement}
 use Rattle.sort.proofs.move_outputs.Tie as tie
 

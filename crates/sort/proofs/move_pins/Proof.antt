@@ -1,11 +1,11 @@
 -- `move_pins` copies one pin after the other. Assumes nothing.
-use Rattle.sort.proofs.Moving.{Copying, copying-start, copying-next, copying-done}
-use Rattle.signal.specs.Cell.{remapCell}
-use borrow.Author.Needs.{needs}
-use lib.ListN.{length}
-use native.Mathlib.Omega.{arith}
-use Prim.Native.Nat.{_-_}
 use mathlib.Core.Path.{_∙_}
+use Prim.Native.Nat.{_-_}
+use native.Mathlib.Omega.{arith}
+use lib.ListN.{length}
+use borrow.Author.Needs.{needs}
+use Rattle.signal.specs.Cell.{remapCell}
+use Rattle.sort.proofs.Moving.{Copying, copying-start, copying-next, copying-done}
 use Rattle.sort.proofs.move_pins.Statement.{statement}
 use Rattle.sort.proofs.move_pins.Tie as tie
 

@@ -1,11 +1,11 @@
 -- `number_gates` writes one signal after the other. Assumes nothing.
-use Rattle.sort.proofs.Moving.{Tabling, tabling-start, tabling-next, tabling-done}
-use Rattle.network.specs.Cells.{maxGates}
-use borrow.Author.Needs.{needs}
-use lib.ListN.{length, getD}
-use native.Mathlib.Omega.{arith}
-use Prim.Native.Nat.{_-_, _<_}
 use mathlib.Core.Path.{refl, sym, _∙_}
+use Prim.Native.Nat.{_-_, _<_}
+use native.Mathlib.Omega.{arith}
+use lib.ListN.{length, getD}
+use borrow.Author.Needs.{needs}
+use Rattle.network.specs.Cells.{maxGates}
+use Rattle.sort.proofs.Moving.{Tabling, tabling-start, tabling-next, tabling-done}
 use Rattle.sort.proofs.number_gates.Statement.{statement}
 use Rattle.sort.proofs.number_gates.Tie as tie
 

@@ -1,9 +1,9 @@
 -- `put_record` stores the three cells of a record. Assumes nothing.
-use Rattle.sort.proofs.Laying.{over-three}
-use lib.ListN.{length-set}
-use native.Mathlib.Omega.{arith}
 use Prim.Native.Nat.{_*_}
+use native.Mathlib.Omega.{arith}
+use lib.ListN.{length-set}
 use borrow.Author.Needs.{needs}
+use Rattle.sort.proofs.Laying.{over-three}
 use Rattle.sort.proofs.put_record.Statement.{statement}
 use Rattle.sort.proofs.put_record.Tie as tie
 

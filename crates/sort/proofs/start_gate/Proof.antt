@@ -1,7 +1,7 @@
 -- `start_gate` pushes one gate, if it is neither marked nor used. Assumes nothing.
-use Rattle.sort.proofs.Starting.{started-marked, started-used, started-push}
 use native.Mathlib.Omega.{arith}
 use borrow.Author.Needs.{needs}
+use Rattle.sort.proofs.Starting.{started-marked, started-used, started-push}
 use Rattle.sort.proofs.start_gate.Statement.{statement}
 use Rattle.sort.proofs.start_gate.Tie as tie
 

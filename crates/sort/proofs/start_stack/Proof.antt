@@ -1,12 +1,12 @@
 -- `start_stack` pushes one gate after the other. Assumes nothing.
-use Rattle.sort.proofs.Starting.{started-none}
-use Rattle.sort.specs.Steps.{Started}
-use Rattle.network.specs.Cells.{maxGates}
-use lib.ListN.{length}
-use native.Mathlib.Omega.{arith}
-use Prim.Native.Nat.{ℕ, _-_, _≤_}
 use mathlib.Core.List.{List}
 use mathlib.Core.Path.{_≡_, sym, _∙_}
+use Prim.Native.Nat.{ℕ, _-_, _≤_}
+use native.Mathlib.Omega.{arith}
+use lib.ListN.{length}
+use Rattle.network.specs.Cells.{maxGates}
+use Rattle.sort.specs.Steps.{Started}
+use Rattle.sort.proofs.Starting.{started-none}
 use Rattle.sort.proofs.start_stack.Statement.{statement}
 use Rattle.sort.proofs.start_stack.Tie as tie
 

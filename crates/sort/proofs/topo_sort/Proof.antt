@@ -1,17 +1,14 @@
 -- `topo_sort` finds the order and renumbers by it. Assumes nothing.
+use mathlib.Core.Path.{sym}
+use Prim.Native.Nat.{ℕ}
+use native.Mathlib.Omega.{arith}
+use lib.Seq.{length-take-le}
+use lib.ListN.{length-replicate}
+use borrow.Author.Tests.{not-true, not-false}
+use borrow.Author.Needs.{needs}
+use Rattle.network.specs.Cells.{maxGates}
 use Rattle.sort.proofs.Ending.{found-some, found-none, ends-loop, ends-sorted, order-numbers, order-movable}
 use Rattle.sort.proofs.Reading.{sortable-cells, gates-room}
-use Rattle.sort.specs.Steps.{ordered}
-use Rattle.network.specs.Cells.{maxGates}
-use lib.Seq.{length-take-le}
-use lib.ListN.{length, take, length-replicate}
-use borrow.Author.Tests.{not-true, not-false}
-use native.Mathlib.Omega.{arith}
-use Prim.Native.Nat.{ℕ}
-use mathlib.Core.List.{List}
-use mathlib.Core.Bool.{Bool, true, false}
-use mathlib.Core.Path.{sym, ap, _∙_}
-use borrow.Author.Needs.{needs}
 use Rattle.sort.proofs.topo_sort.Statement.{statement}
 use Rattle.sort.proofs.topo_sort.Tie as tie
 

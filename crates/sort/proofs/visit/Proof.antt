@@ -1,13 +1,13 @@
 -- `visit` records the gate at the top of the stack and lowers what it uses. Assumes nothing.
-use Rattle.sort.proofs.Visiting.{top-few, v-below, at-pos, visited-skip, visit-walks, visited-comb}
-use Rattle.sort.specs.Steps.{cellGraph, gateIns}
-use Rattle.network.specs.Cells.{maxGates}
-use lib.ListN.{length, getD}
-use native.Mathlib.Omega.{arith}
-use Prim.Native.Nat.{ℕ, _-_, _≤_, _<_}
 use mathlib.Core.Path.{sym, ap, _∙_}
-use denote.Ref.{now}
+use Prim.Native.Nat.{_-_, _≤_, _<_}
+use native.Mathlib.Omega.{arith}
+use lib.ListN.{getD}
 use borrow.Author.Needs.{needs}
+use denote.Ref.{now}
+use Rattle.network.specs.Cells.{maxGates}
+use Rattle.sort.specs.Steps.{cellGraph, gateIns}
+use Rattle.sort.proofs.Visiting.{top-few, v-below, at-pos, visited-skip, visit-walks, visited-comb}
 use Rattle.sort.proofs.visit.Statement.{statement}
 use Rattle.sort.proofs.visit.Tie as tie
 
