@@ -5,3 +5,4 @@ pub mod Renumbering
 pub mod Permuting
 pub mod Records
 pub mod Summary
+pub mod Laying
