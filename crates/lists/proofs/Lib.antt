@@ -5,3 +5,5 @@ pub mod Places
 pub mod Range
 pub mod Twice
 pub mod Find
+pub mod Counting
+pub mod Over

@@ -15,10 +15,10 @@ use Rattle.gates.specs.Gate.{Buf}
 use Rattle.lists.proofs.Places.{place-lt, place-mem, lt-place, getD-place, map-at}
 use Rattle.lists.proofs.Find.{find-some, find-none}
 
-gate-at : (net : Net) (g : ℕ) → g < length (net .gates) → GateIs net g (gateOr net g)
+pub gate-at : (net : Net) (g : ℕ) → g < length (net .gates) → GateIs net g (gateOr net g)
 gate-at net g u = let t = lt-place (net .gates) g u in t .1 ∙ ap some (sym (getD-place (Comb Buf []) (net .gates) g (t .0) (t .1)))
 
-place-of : (l : List ℕ) (g : ℕ) → List·Memᴰ g l → getElem? l (placeOf l g) ≡ some g
+pub place-of : (l : List ℕ) (g : ℕ) → List·Memᴰ g l → getElem? l (placeOf l g) ≡ some g
 place-of l g m = go (find ℕ-discrete l g) refl
   where
     go : (r : Option ℕ) → find ℕ-discrete l g ≡ r → getElem? l (orZero (find ℕ-discrete l g)) ≡ some g

@@ -16,6 +16,11 @@ use Rattle.lists.proofs.Places.{map-on, map-map}
 use Rattle.network.proofs.OneChoice.{Ranked, ranked, Rises, rises-free, run-is, runs-unique}
 use Rattle.network.proofs.Runs.{Simulates, runs-along, nextOf-is}
 
+-- the inputs of a renumbered gate
+pub pins-remap : (π : ℕ → ℕ) (y : Gate) → pins (remapGate π y) ≡ map (remap π) (pins y)
+pins-remap π (Comb f ps) = refl
+pins-remap π (Dff s) = refl
+
 module _ (old new : Net) (π order : ℕ → ℕ) (ren : Renumbered old new π order) where
   abbrev pub HoldsAt : (ℕ → Bool) → (ℕ → Bool) → Type 0
   HoldsAt held held′ = (i : ℕ) (x : Gate) → GateIs new i x → held′ i ≡ held (order i)
@@ -81,16 +86,12 @@ module _ (old new : Net) (π order : ℕ → ℕ) (ren : Renumbered old new π o
         → (s : Signal) → List·Memᴰ s (map (remap π) ss) → ValidNode new (s .node)
     sigs-valid ss k v s m = let t = Memᴰ·of-map (remap π) ss m in subst (λ (u : Signal). ValidNode new (u .node)) (t .2) (kept-valid (t .0 .node) (k (t .0) (t .1)) (v (t .0) (t .1)))
 
-    pins-remap : (y : Gate) → pins (remapGate π y) ≡ map (remap π) (pins y)
-    pins-remap (Comb f ps) = refl
-    pins-remap (Dff s) = refl
-
     pub renumbered-valid : Valid new
     renumbered-valid = record {
       pinsValid = λ g x s p m.
           let f : From old (length (new .gates)) π order g x = ren .gatesFrom g x p in
           sigs-valid (pins (f .was)) (f .kept) (λ t w. valid .pinsValid (order g) (f .was) t (f .wasAt) w) s
-          (subst (List·Memᴰ s) (ap pins (f .renamed) ∙ pins-remap (f .was)) m);
+          (subst (List·Memᴰ s) (ap pins (f .renamed) ∙ pins-remap π (f .was)) m);
       outsValid = λ s m. sigs-valid (old .outputs) (ren .outputsKept) (λ t w. valid .outsValid t w) s (subst (List·Memᴰ s) (ren .sameOutputs) m);
     }
 

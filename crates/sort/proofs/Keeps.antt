@@ -1,0 +1,184 @@
+-- What the sort keeps, and that every gate input of a combinational gate gets a lower number. Assumes nothing.
+use mathlib.Core.Path.{_≡_, refl, sym, ap, _∙_, subst}
+use mathlib.Core.List.{List, [], _∷_, _++_, map, List·Memᴰ, Memᴰ·of-map}
+use mathlib.Core.Option.{Option, some}
+use mathlib.Core.Logic.{⊎-elim}
+use Prim.Native.Nat.{ℕ, zero, suc, _+_, _≤_, _<_}
+use native.Mathlib.Omega.{arith}
+use native.Mathlib.Nat.{le-of-lt}
+use native.Mathlib.Decide.{ℕ-discrete}
+use lib.ListN.{length, getD, getElem?, take, drop, length-map, length-append}
+use lib.Seq.{split-at, length-take-le}
+use Rattle.lists.specs.Lists.{hit, occ, sumTo, found, find}
+use Rattle.lists.proofs.Counting.{hit-same, hit-eq, hit-ne, hit-or, occ-append, zero-or, sum-mono, sumOver, sum-perm, mem-occ}
+use Rattle.lists.proofs.Places.{place-getD, place-lt}
+use Rattle.signal.specs.Signal.{Node, Const, Input, Gated, Signal, remapNode, remap}
+use Rattle.signal.specs.Cell.{sigCell}
+use Rattle.gates.specs.Gate.{Form, Buf, Gate, Comb, Dff, pins}
+use Rattle.gates.specs.Forms.{canHave, formed}
+use Rattle.network.specs.Net.{Net, GateIs, Valid, Formed}
+use Rattle.network.specs.Cells.{pinCells}
+use Rattle.network.specs.Renumber.{remapGate, orZero, placeOf, gateOr, permuted}
+use Rattle.network.proofs.Renumbering.{renumbered-valid, pins-remap}
+use Rattle.sort.specs.Order.{uses, useCount, sortOrder}
+use Rattle.sort.specs.Sorted.{nodeGate, gateNums, combAt, insAt, graph}
+use Rattle.sort.proofs.Walk.{uses-comb, uses-ins}
+use Rattle.sort.proofs.Ordering.{place, place-here, place-there, place-right, sort-permutes, sort-length, sort-inputs, order-once, some-full}
+use Rattle.sort.proofs.Sorting.{point-nums, graph-valid, order-has, order-renumbers}
+
+-- ---- the new number is the place in the order
+
+pub find-place : (v : ℕ) (l : List ℕ) → 0 < occ v l → find ℕ-discrete l v ≡ some (place v l)
+find-place v [] p = absurd (omega arith)
+find-place v (x ∷ l) p = go (ℕ-discrete x v) (find-place v l)
+  where
+    go : (d : Dec (x ≡ v)) → (0 < occ v l → find ℕ-discrete l v ≡ some (place v l)) → found d (find ℕ-discrete l v) ≡ some (place v (x ∷ l))
+    go (yes e) ih = ap some (sym (place-here v x l (hit-eq (sym e))))
+    go (no e) ih =
+        let z : hit v x ≡ 0 = hit-ne (λ q. e (sym q)) in
+        ap (found (no e)) (ih (omega (arith, z))) ∙ ap some (sym (place-there v x l z))
+
+pub new-place : (v : ℕ) (l : List ℕ) → 0 < occ v l → placeOf l v ≡ place v l
+new-place v l p = ap orZero (find-place v l p)
+
+-- the place of the i-th number is i
+pub place-at : (l : List ℕ) (i : ℕ) → i < length l → ((v : ℕ) → occ v l ≤ 1) → place (getD l i 0) l ≡ i
+place-at l i h once =
+    let x = getD l i 0 in
+    let e : l ≡ take i l ++ x ∷ drop (suc i) l = split-at l i 0 h in
+    let z : occ x (take i l) ≡ 0 = omega (arith, ap (occ x) e, occ-append x (take i l) (x ∷ drop (suc i) l), hit-same x, once x) in
+    ap (place x) e
+    ∙ place-right x (take i l) (x ∷ drop (suc i) l) z
+    ∙ (rw (place-here x x (drop (suc i) l) (hit-same x), length-take-le i l (le-of-lt h)) (omega arith))
+
+-- ---- counting pins
+
+-- the pins of gate g
+abbrev pub pinsAt : List Gate → ℕ → ℕ
+pinsAt gs g = length (pins (getD gs g (Comb Buf [])))
+
+sum-head : (k : ℕ) (f : ℕ → ℕ) → sumTo (suc k) f ≡ f 0 + sumTo k (λ i. f (suc i))
+sum-head zero f = omega arith
+sum-head (suc k) f = omega (arith, sum-head k f)
+
+pub length-pinCells : (gs : List Gate) → length (pinCells gs) ≡ sumTo (length gs) (pinsAt gs)
+unfolding pinCells
+length-pinCells [] = refl
+length-pinCells (x ∷ gs) =
+    omega (
+      arith,
+      length-append (map sigCell (pins x)) (pinCells gs),
+      length-map (pins x) sigCell,
+      length-pinCells gs,
+      sum-head (length gs) (pinsAt (x ∷ gs)),
+    )
+
+pub occ-nums : (v : ℕ) (ss : List Signal) → occ v (gateNums ss) ≤ length ss
+occ-nums v [] = omega arith
+occ-nums v (s ∷ ss) = go (s .node) (occ-nums v ss)
+  where
+    go : (n : Node) → occ v (gateNums ss) ≤ length ss → occ v (nodeGate n (gateNums ss)) ≤ suc (length ss)
+    go Const h = omega arith
+    go (Input i) h = omega arith
+    go (Gated g) h = ⊎-elim (λ w. omega (arith, w .1)) (λ w. omega (arith, w .1)) (hit-or v g)
+
+pub uses-fit : (net : Net) (v g : ℕ) → g < length (net .gates) → occ v (uses (graph net) g) ≤ pinsAt (net .gates) g
+uses-fit net v g h =
+    ⊎-elim
+    (λ z. omega (arith, z))
+    (λ p.
+    let e : uses (graph net) g ≡ insAt (getElem? (net .gates) g) = uses-comb (graph net) g (uses-ins (graph net) g v p .0) in
+    let q : insAt (getElem? (net .gates) g) ≡ gateNums (pins (gateOr net g)) = ap insAt (place-getD (Comb Buf []) (net .gates) g h) in
+    omega (arith, ap (occ v) (e ∙ q), occ-nums v (pins (gateOr net g))))
+    (zero-or (occ v (uses (graph net) g)))
+
+pub uses-within : (net : Net) (v : ℕ) → useCount (graph net) v ≤ length (pinCells (net .gates))
+unfolding useCount
+uses-within net v =
+    omega (
+      arith,
+      sum-mono (length (net .gates)) (λ g. occ v (uses (graph net) g)) (pinsAt (net .gates)) (λ g h. uses-fit net v g h),
+      length-pinCells (net .gates),
+    )
+
+-- ---- a renumbered gate
+
+node-from : (π : ℕ → ℕ) (n : Node) (d : ℕ) → remapNode π n ≡ Gated d → (v : ℕ) × (n ≡ Gated v) × (π v ≡ d)
+node-from π Const d e = absurd (let z : _≡_ {A = ℕ} 0 1 = cc in omega arith)
+node-from π (Input i) d e = absurd (let z : _≡_ {A = ℕ} 0 1 = cc in omega arith)
+node-from π (Gated g) d e = (g, refl, cc)
+
+comb-from : (π : ℕ → ℕ) (y : Gate) (f : Form) (ps : List Signal) → Comb f ps ≡ remapGate π y → (qs : List Signal) × (y ≡ Comb f qs) × (ps ≡ map (remap π) qs)
+comb-from π (Comb h qs) f ps e = (qs, (let q : h ≡ f = cc in ap (λ (x : Form). Comb x qs) q), cc)
+comb-from π (Dff s) f ps e = absurd (let z : _≡_ {A = ℕ} 0 1 = cc in omega arith)
+
+formed-remap : (π : ℕ → ℕ) (y : Gate) → formed (remapGate π y) ≡ formed y
+formed-remap π (Comb f ps) = ap (canHave f) (length-map ps (remap π))
+formed-remap π (Dff s) = refl
+
+pins-many : (π : ℕ → ℕ) (y : Gate) → length (pins (remapGate π y)) ≡ length (pins y)
+pins-many π y = ap length (pins-remap π y) ∙ length-map (pins y) (remap π)
+
+-- ---- the network in the order
+
+module _ (net : Net) (valid : Valid net) (l : List ℕ) (e : sortOrder (graph net) ≡ some l) where
+  pub once : (v : ℕ) → occ v l ≤ 1
+  once v = let f = some-full (graph net) (graph-valid net valid) l e in rw (f .0) at (order-once (graph net) (graph-valid net valid) v)
+
+  -- "every gate input of a combinational gate has a lower number"
+  pub lower : (i d : ℕ) (f : Form) (ps : List Signal) (s : Signal) → GateIs (permuted l net) i (Comb f ps) → List·Memᴰ s ps → s .node ≡ Gated d → d < i
+  lower i d f ps s is m q =
+      let G = graph net in
+      let gv = graph-valid net valid in
+      let fr = order-renumbers net valid l e .gatesFrom i (Comb f ps) is in
+      let c = comb-from (placeOf l) (fr .was) f ps (fr .renamed) in
+      let t = Memᴰ·of-map (remap (placeOf l)) (c .0) (subst (List·Memᴰ s) (c .2) m) in
+      let n = node-from (placeOf l) (t .0 .node) d (ap (λ (u : Signal). u .node) (t .2) ∙ q) in
+      let g = getD l i 0 in
+      let il : i < length l = subst (λ (k : ℕ). i < k) (length-map l (λ (o : ℕ). remapGate (placeOf l) (gateOr net o))) (place-lt (permuted l net .gates) i (Comb f ps) is) in
+      let gl : g < length (net .gates) = place-lt (net .gates) g (fr .was) (fr .wasAt) in
+      let was : getElem? (net .gates) g ≡ some (Comb f (c .0)) = fr .wasAt ∙ ap some (c .1) in
+      let o : 0 < occ (n .0) (insAt (getElem? (net .gates) g)) =
+      subst (λ (x : Option Gate). 0 < occ (n .0) (insAt x)) (sym was) (mem-occ (n .0) (gateNums (c .0)) (point-nums (n .0) (c .0) (t .0) (t .1) (n .1))) in
+      let b : n .0 < length (net .gates) = gv g (n .0) gl o in
+      let one : occ (n .0) l ≡ 1 = sort-permutes G gv l e (n .0) b in
+      omega (
+        arith,
+        n .2,
+        new-place (n .0) l (omega arith),
+        place-at l i il once,
+        sort-inputs G gv l e (n .0) g gl (ap combAt was) o,
+      )
+
+  pub kept-valid : Valid (permuted l net)
+  kept-valid = renumbered-valid net (permuted l net) (placeOf l) (λ (i : ℕ). getD l i 0) (order-renumbers net valid l e) valid
+
+  pub kept-formed : Formed net → Formed (permuted l net)
+  kept-formed h i x is =
+      let fr = order-renumbers net valid l e .gatesFrom i x is in
+      ap formed (fr .renamed) ∙ formed-remap (placeOf l) (fr .was) ∙ h (getD l i 0) (fr .was) (fr .wasAt)
+
+  pub kept-gates : length (permuted l net .gates) ≡ length (net .gates)
+  kept-gates = length-map l (λ (o : ℕ). remapGate (placeOf l) (gateOr net o)) ∙ sort-length (graph net) (graph-valid net valid) l e
+
+  pub kept-outputs : length (permuted l net .outputs) ≡ length (net .outputs)
+  kept-outputs = length-map (net .outputs) (remap (placeOf l))
+
+  cells-over : (π : ℕ → ℕ) (k : List ℕ) → length (pinCells (map (λ (o : ℕ). remapGate π (gateOr net o)) k)) ≡ sumOver (pinsAt (net .gates)) k
+  unfolding pinCells
+  cells-over π [] = refl
+  cells-over π (o ∷ k) =
+      let r = map (λ (p : ℕ). remapGate π (gateOr net p)) k in
+      omega (
+        arith,
+        length-append (map sigCell (pins (remapGate π (gateOr net o)))) (pinCells r),
+        length-map (pins (remapGate π (gateOr net o))) sigCell,
+        pins-many π (gateOr net o),
+        cells-over π k,
+      )
+
+  pub kept-pins : length (pinCells (permuted l net .gates)) ≡ length (pinCells (net .gates))
+  kept-pins =
+      cells-over (placeOf l) l
+      ∙ sum-perm (length (net .gates)) (pinsAt (net .gates)) l (order-has net valid l e) (sort-permutes (graph net) (graph-valid net valid) l e)
+      ∙ sym (length-pinCells (net .gates))

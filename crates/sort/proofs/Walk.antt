@@ -1,0 +1,219 @@
+-- What holds of the sort's walk at each step. Assumes nothing.
+use mathlib.Core.Bool.{Bool, true, false, true≢false}
+use mathlib.Core.Logic.{⊎-elim}
+use mathlib.Core.List.{List, [], _∷_}
+use mathlib.Core.Path.{_≡_, refl, sym, ap, _∙_}
+use Prim.Native.Nat.{ℕ, zero, suc, _+_, _-_, _≤_, _<_}
+use native.Mathlib.Omega.{arith}
+use lib.ListN.{length, getD, length-set}
+use lib.Seq.{getD-set-same, getD-set-other}
+use Rattle.lists.specs.Lists.{hit, occ}
+use Rattle.lists.proofs.Counting.{hit-ne, hit-or, hit-same, sum-point, part-le, zero-or}
+use Rattle.sort.specs.Order.{Graph, uses, lowered, pushed, countsAfter, stackAfter, kept, walk}
+use Rattle.sort.specs.Steps.{ValidGraph, pos, left, pend, Good, budget}
+
+-- ---- one input
+
+pub lowered-at : (c : List ℕ) (d v : ℕ) → d < length c → getD (lowered c d) v 0 ≡ getD c v 0 - hit v d
+lowered-at c d v l =
+    ⊎-elim
+    (λ w.
+    omega (
+      arith,
+      w .1,
+      ap (λ (x : ℕ). getD (lowered c d) x 0) (w .0),
+      ap (λ (x : ℕ). getD c x 0) (w .0),
+      getD-set-same c d (getD c d 0 - 1) 0 l,
+    ))
+    (λ w. omega (arith, w .1, getD-set-other c d v (getD c d 0 - 1) 0 (w .0)))
+    (hit-or v d)
+
+module _ (G : Graph) (c st done : List ℕ) (d : ℕ) (rest : List ℕ) (g : Good G c st done (d ∷ rest)) where
+  -- d is a gate, its count is not zero, and it is neither on the stack nor recorded
+  pub next-below : d < G .size
+  next-below = g .ins d (omega (arith, hit-same d))
+
+  pub next-count : 0 < getD c d 0
+  next-count = omega (arith, g .cnt d next-below, hit-same d)
+
+  pub next-fresh : occ d st + occ d done ≡ 0
+  next-fresh = ⊎-elim (λ e. e) (λ p. absurd (omega (arith, g .low d p, next-count))) (zero-or (occ d st + occ d done))
+
+  at : (v : ℕ) → getD (lowered c d) v 0 ≡ getD c v 0 - hit v d
+  at v = lowered-at c d v (omega (arith, next-below, g .len))
+
+  same-as : {v : ℕ} → v ≡ d → (getD c v 0 ≡ getD c d 0) × (occ v st + occ v done ≡ 0)
+  same-as {v} e = (ap (λ (x : ℕ). getD c x 0) e, rw e next-fresh)
+
+  good-push : (m : ℕ) → getD c d 0 - 1 ≡ m → Good G (lowered c d) (pushed m d st) done rest
+  good-push zero e =
+      record {
+        len = rw length-set (g .len);
+        cnt = λ v l. omega (arith, at v, g .cnt v l);
+        once = λ v. ⊎-elim (λ w. omega (arith, w .1, same-as (w .0))) (λ w. omega (arith, w .1, g .once v)) (hit-or v d);
+        low = λ v p.
+            ⊎-elim
+            (λ w. (rw (w .0) next-below, omega (arith, w .1, same-as (w .0), at v, e)))
+            (λ w. let q = g .low v (omega (arith, w .1, p)) in (q .0, omega (arith, w .1, q .1, at v)))
+            (hit-or v d);
+        cov = λ v l b z.
+            ⊎-elim (λ w. omega (arith, w .1)) (λ w. omega (arith, g .cov v l b (omega (arith, w .1, at v, z)))) (hit-or v d);
+        cmb = g .cmb;
+        top = g .top;
+        ins = λ v p. g .ins v (omega arith);
+      }
+  good-push (suc m) e =
+      record {
+        len = rw length-set (g .len);
+        cnt = λ v l. omega (arith, at v, g .cnt v l);
+        once = g .once;
+        low = λ v p. let q = g .low v p in (q .0, omega (arith, q .1, at v));
+        cov = λ v l b z.
+            ⊎-elim
+            (λ w. absurd (omega (arith, w .1, same-as (w .0), at v, e, z)))
+            (λ w. g .cov v l b (omega (arith, w .1, at v, z)))
+            (hit-or v d);
+        cmb = g .cmb;
+        top = g .top;
+        ins = λ v p. g .ins v (omega arith);
+      }
+
+  pub good-lower : Good G (lowered c d) (pushed (getD c d 0 - 1) d st) done rest
+  good-lower = good-push (getD c d 0 - 1) refl
+
+  budget-push : (m : ℕ) → getD c d 0 - 1 ≡ m → budget G (lowered c d) (pushed m d st) ≡ budget G c st
+  budget-push zero e =
+      omega (
+        arith,
+        sum-point (G .size) (λ v. pos (getD c v 0)) (λ v. pos (getD (lowered c d) v 0)) d 1 next-below
+            (let a : getD (lowered c d) d 0 ≡ 0 = omega (arith, at d, e, hit-same d) in
+            let b : getD c d 0 ≡ 1 = omega (arith, e, next-count) in
+            rw (a, b))
+            (λ v z. ap pos (sym (getD-set-other c d v (getD c d 0 - 1) 0 z))),
+      )
+  budget-push (suc m) e =
+      omega (
+        arith,
+        sum-point (G .size) (λ v. pos (getD c v 0)) (λ v. pos (getD (lowered c d) v 0)) d 0 next-below
+            (let a : getD (lowered c d) d 0 ≡ suc m = omega (arith, at d, e, hit-same d) in
+            let b : getD c d 0 ≡ suc (suc m) = omega (arith, e, next-count) in
+            rw (a, b))
+            (λ v z. ap pos (sym (getD-set-other c d v (getD c d 0 - 1) 0 z))),
+      )
+
+  pub budget-lower : budget G (lowered c d) (pushed (getD c d 0 - 1) d st) ≡ budget G c st
+  budget-lower = budget-push (getD c d 0 - 1) refl
+
+-- ---- all inputs of a gate
+
+pub good-all : (G : Graph) (rest c st done : List ℕ) → Good G c st done rest → Good G (countsAfter rest c) (stackAfter rest c st) done []
+good-all G [] c st done g = g
+good-all G (d ∷ rest) c st done g = good-all G rest (lowered c d) (pushed (getD c d 0 - 1) d st) done (good-lower G c st done d rest g)
+
+pub budget-all : (G : Graph) (rest c st done : List ℕ) → Good G c st done rest → budget G (countsAfter rest c) (stackAfter rest c st) ≡ budget G c st
+budget-all G [] c st done g = refl
+budget-all G (d ∷ rest) c st done g =
+    budget-all G rest (lowered c d) (pushed (getD c d 0 - 1) d st) done (good-lower G c st done d rest g) ∙ budget-lower G c st done d rest g
+
+-- ---- a pop
+
+pub uses-comb : (G : Graph) (x : ℕ) → G .comb x ≡ true → uses G x ≡ G .ins x
+unfolding uses
+uses-comb G x e = rw e
+
+pub uses-flop : (G : Graph) (x : ℕ) → G .comb x ≡ false → uses G x ≡ []
+unfolding uses
+uses-flop G x e = rw e
+
+-- what a gate uses are its inputs
+pub uses-ins : (G : Graph) (x v : ℕ) → 0 < occ v (uses G x) → (G .comb x ≡ true) × (0 < occ v (G .ins x))
+uses-ins G x v p = go (G .comb x) refl
+  where
+    go : (b : Bool) → G .comb x ≡ b → (G .comb x ≡ true) × (0 < occ v (G .ins x))
+    go true e = (e, rw (uses-comb G x e) at p)
+    go false e = absurd (omega (arith, rw (uses-flop G x e) at p))
+
+left-none : (r k : ℕ) → r ≡ 0 → left r k ≡ k
+left-none r k e = rw e
+
+-- the uses that a gate made are gone once it is recorded
+pub pend-record : (G : Graph) (x : ℕ) (done : List ℕ) → x < G .size → occ x done ≡ 0 → (v : ℕ) → pend G (x ∷ done) v + occ v (uses G x) ≡ pend G done v
+pend-record G x done l e v =
+    sum-point (G .size) (λ g. left (occ g done) (occ v (uses G g))) (λ g. left (occ g (x ∷ done)) (occ v (uses G g))) x (occ v (uses G x)) l
+    (let a : occ x (x ∷ done) ≡ 1 = omega (arith, e, hit-same x) in
+    let b : left (occ x (x ∷ done)) (occ v (uses G x)) ≡ 0 = rw a in
+    omega (arith, b, left-none (occ x done) (occ v (uses G x)) e))
+    (λ g z.
+    let q : occ g done ≡ occ g (x ∷ done) = omega (arith, hit-ne z) in
+    ap (λ (r : ℕ). left r (occ v (uses G g))) q)
+
+module _ (G : Graph) (valid : ValidGraph G) (c st done : List ℕ) (x : ℕ) (g : Good G c (x ∷ st) done []) where
+  pub top-low : (x < G .size) × (getD c x 0 ≡ 0)
+  top-low = g .low x (omega (arith, hit-same x))
+
+  pub top-fresh : (occ x st ≡ 0) × (occ x done ≡ 0)
+  top-fresh = omega (arith, g .once x, hit-same x)
+
+  -- no gate that is not recorded uses x
+  top-users : (u : ℕ) → u < G .size → 0 < occ x (uses G u) → 0 < occ u done
+  top-users u l p =
+      ⊎-elim
+      (λ e.
+      absurd
+      (omega (
+        arith,
+        p,
+        left-none (occ u done) (occ x (uses G u)) e,
+        part-le (G .size) (λ y. left (occ y done) (occ x (uses G y))) u l,
+        g .cnt x (top-low .0),
+        top-low .1,
+      )))
+      (λ q. q)
+      (zero-or (occ u done))
+
+  good-kept : (b : Bool) → G .comb x ≡ b → Good G c st (kept b x done) (uses G x)
+  good-kept true e =
+      record {
+        len = g .len;
+        cnt = λ v l. omega (arith, g .cnt v l, pend-record G x done (top-low .0) (top-fresh .1) v);
+        once = λ v. omega (arith, g .once v);
+        low = λ v p. g .low v (omega arith);
+        cov = λ v l b z. omega (arith, g .cov v l b z);
+        cmb = λ v p. ⊎-elim (λ w. rw (w .0) e) (λ w. g .cmb v (omega (arith, w .1))) (hit-or v x);
+        top = (top-users, g .top);
+        ins = λ v p. valid x v (top-low .0) (uses-ins G x v p .1);
+      }
+  good-kept false e =
+      record {
+        len = g .len;
+        cnt = λ v l. omega (arith, g .cnt v l, ap (occ v) (uses-flop G x e));
+        once = λ v. omega (arith, g .once v);
+        low = λ v p. g .low v (omega arith);
+        cov = λ v l b z.
+            ⊎-elim
+            (λ w. let no : _≡_ {A = Bool} true false = sym b ∙ ap (G .comb) (w .0) ∙ e in absurd (true≢false no))
+            (λ w. omega (arith, w .1, g .cov v l b z))
+            (hit-or v x);
+        cmb = g .cmb;
+        top = g .top;
+        ins = λ v p. absurd (omega (arith, p, ap (occ v) (uses-flop G x e)));
+      }
+
+  pub good-pop : Good G c st (kept (G .comb x) x done) (uses G x)
+  good-pop = good-kept (G .comb x) refl
+
+-- ---- the whole walk
+
+pub record Ended (G : Graph) (done : List ℕ) : Type 0 where
+  pub counts : List ℕ
+  pub good : Good G counts [] done []
+
+pub walk-ends : (G : Graph) → ValidGraph G → (k : ℕ) (c st done : List ℕ) → Good G c st done [] → budget G c st ≤ k → Ended G (walk G k c st done)
+walk-ends G valid zero c [] done g l = record { counts = c; good = g }
+walk-ends G valid zero c (x ∷ st) done g l = absurd (omega arith)
+walk-ends G valid (suc k) c [] done g l = record { counts = c; good = g }
+walk-ends G valid (suc k) c (x ∷ st) done g l =
+    let p = good-pop G valid c st done x g in
+    walk-ends G valid k (countsAfter (uses G x) c) (stackAfter (uses G x) c st) (kept (G .comb x) x done)
+    (good-all G (uses G x) c st (kept (G .comb x) x done) p)
+    (omega (arith, l, budget-all G (uses G x) c st (kept (G .comb x) x done) p))
