@@ -12,8 +12,11 @@ pub data Form : Type 0 where
 
 -- what feeds a flip-flop: "Dff (data, enable, reset)"
 pub record FlipFlop : Type 0 where
+  -- "takes the data"
   pub dataIn : Signal
+  -- "an enable of one"
   pub enable : Signal
+  -- "a reset of one"
   pub reset : Signal
 
 -- a gate: a combinational form with its inputs in order, or a flip-flop

@@ -21,32 +21,32 @@ use Rattle.signal.proofs.Cells.{cells-again, signals-again}
 use Rattle.gates.specs.Gate.{Gate, pins}
 use Rattle.gates.specs.Forms.{formCell, formed, kindOf, kindTakes, gateFrom}
 use Rattle.gates.proofs.Forms.{From, gate-from, gate-made, gate-again, takes-formed}
-use Rattle.network.specs.Cells.{formAt, firstAt, countAt, runAt, gateAt, gateCells, pinCells, startAt, recordFits, orBuf}
+use Rattle.network.specs.Cells.{gateWidth, formAt, firstAt, countAt, runAt, gateAt, gateCells, pinCells, startAt, recordFits, orBuf}
 
 -- ---- one record
 
 -- the record of gate g stands at the front of what is left of the cells
-record-at : (cells : List ℕ) (g : ℕ) → g * 3 + 2 < length cells
-    → drop (g * 3) cells ≡ formAt cells g ∷ firstAt cells g ∷ countAt cells g ∷ drop (suc g * 3) cells
+record-at : (cells : List ℕ) (g : ℕ) → g * gateWidth + 2 < length cells
+    → drop (g * gateWidth) cells ≡ formAt cells g ∷ firstAt cells g ∷ countAt cells g ∷ drop (suc g * gateWidth) cells
 record-at cells g h =
-    let a : suc (g * 3) ≡ g * 3 + 1 = omega arith in
-    let b : suc (g * 3 + 1) ≡ g * 3 + 2 = omega arith in
-    let d : suc (g * 3 + 2) ≡ suc g * 3 = omega arith in
-    drop-cons cells (g * 3) 0 (omega arith)
+    let a : suc (g * gateWidth) ≡ g * gateWidth + 1 = omega arith in
+    let b : suc (g * gateWidth + 1) ≡ g * gateWidth + 2 = omega arith in
+    let d : suc (g * gateWidth + 2) ≡ suc g * gateWidth = omega arith in
+    drop-cons cells (g * gateWidth) 0 (omega arith)
     ∙ ap (λ (l : List ℕ). formAt cells g ∷ l)
     (ap (λ (i : ℕ). drop i cells) a
-    ∙ drop-cons cells (g * 3 + 1) 0 (omega arith)
+    ∙ drop-cons cells (g * gateWidth + 1) 0 (omega arith)
     ∙ ap (λ (l : List ℕ). firstAt cells g ∷ l)
     (ap (λ (i : ℕ). drop i cells) b
-    ∙ drop-cons cells (g * 3 + 2) 0 (omega arith)
+    ∙ drop-cons cells (g * gateWidth + 2) 0 (omega arith)
     ∙ ap (λ (i : ℕ). countAt cells g ∷ drop i cells) d))
 
 -- and so do the records of gate g and k more
-records-at : (cells : List ℕ) (g k : ℕ) → g * 3 + 2 < length cells
-    → take (suc k * 3) (drop (g * 3) cells) ≡ formAt cells g ∷ firstAt cells g ∷ countAt cells g ∷ take (k * 3) (drop (suc g * 3) cells)
+records-at : (cells : List ℕ) (g k : ℕ) → g * gateWidth + 2 < length cells
+    → take (suc k * gateWidth) (drop (g * gateWidth) cells) ≡ formAt cells g ∷ firstAt cells g ∷ countAt cells g ∷ take (k * gateWidth) (drop (suc g * gateWidth) cells)
 records-at cells g k h =
-    let e : suc k * 3 ≡ suc (suc (suc (k * 3))) = omega arith in
-    ap (λ (i : ℕ). take i (drop (g * 3) cells)) e ∙ ap (take (suc (suc (suc (k * 3))))) (record-at cells g h)
+    let e : suc k * gateWidth ≡ suc (suc (suc (k * gateWidth))) = omega arith in
+    ap (λ (i : ℕ). take i (drop (g * gateWidth) cells)) e ∙ ap (take (suc (suc (suc (k * gateWidth))))) (record-at cells g h)
 
 -- pin counts add up
 start-le : (cells : List ℕ) (g k : ℕ) → startAt cells g ≤ startAt cells (g + k)
@@ -64,7 +64,7 @@ start-mono cells g n h =
 
 -- n records fit, their runs fill p pins, and the pins are 32-bit numbers
 pub record Fitting (cells pinsL : List ℕ) (n p : ℕ) : Type 0 where
-  pub inside : n * 3 ≤ length cells
+  pub inside : n * gateWidth ≤ length cells
   pub pinsInside : p ≤ length pinsL
   pub fit : (g : ℕ) → g < n → recordFits cells g ≡ true
   pub total : startAt cells n ≡ p
@@ -105,7 +105,7 @@ module _ {cells pinsL : List ℕ} {n p : ℕ} (c : Fitting cells pinsL n p) wher
       gate-from (formAt cells g) (map sigOf (runAt cells pinsL g)) (made .0) (made .1) in
       record {
         gate = made .0;
-        is = rw (lt-ltb (g * 3 + 2) (length cells) (omega (arith, c .inside)), le-leb (firstAt cells g + countAt cells g) (length pinsL) end) (made .1);
+        is = rw (lt-ltb (g * gateWidth + 2) (length cells) (omega (arith, c .inside)), le-leb (firstAt cells g + countAt cells g) (length pinsL) end) (made .1);
         number = from .number;
         first = at;
         run = from .all-pins;
@@ -132,7 +132,7 @@ module _ {cells pinsL : List ℕ} {n p : ℕ} (c : Fitting cells pinsL n p) wher
       ∙ ap (λ (i : ℕ). take (countAt cells g) (drop i pinsL)) (r .first)
 
   -- the records from gate g on are the cells of their gates
-  pub gates-laid : (k g : ℕ) → g + k ≤ n → take (k * 3) (drop (g * 3) cells) ≡ gateCells (startAt cells g) (map (heldAt cells pinsL) (range g k))
+  pub gates-laid : (k g : ℕ) → g + k ≤ n → take (k * gateWidth) (drop (g * gateWidth) cells) ≡ gateCells (startAt cells g) (map (heldAt cells pinsL) (range g k))
   unfolding gateCells
   gates-laid zero g h = refl
   gates-laid (suc k) g h =
@@ -140,7 +140,7 @@ module _ {cells pinsL : List ℕ} {n p : ℕ} (c : Fitting cells pinsL n p) wher
       let r = read-at g l in
       let e : countAt cells g ≡ length (pins (heldAt cells pinsL g)) = sym (r .count) ∙ sym (ap (λ (x : Gate). length (pins x)) (held-is g l)) in
       let f : formAt cells g ≡ formCell (heldAt cells pinsL g) = sym (r .number) ∙ sym (ap formCell (held-is g l)) in
-      let ih : take (k * 3) (drop (suc g * 3) cells) ≡ gateCells (startAt cells g + countAt cells g) (map (heldAt cells pinsL) (range (suc g) k)) =
+      let ih : take (k * gateWidth) (drop (suc g * gateWidth) cells) ≡ gateCells (startAt cells g + countAt cells g) (map (heldAt cells pinsL) (range (suc g) k)) =
       gates-laid k (suc g) (omega arith) in
       records-at cells g k (omega (arith, c .inside))
       ∙ ap (λ (m : List ℕ). formAt cells g ∷ firstAt cells g ∷ countAt cells g ∷ m) ih
@@ -165,9 +165,9 @@ module _ {cells pinsL : List ℕ} {n p : ℕ} (c : Fitting cells pinsL n p) wher
 
 -- the gates' cells stand from gate g's place on, their pins where its run starts, and the gates are such as a network's are
 pub record Holds (cells pinsL : List ℕ) (g : ℕ) (gs : List Gate) : Type 0 where
-  pub cellsHeld : take (length gs * 3) (drop (g * 3) cells) ≡ gateCells (startAt cells g) gs
+  pub cellsHeld : take (length gs * gateWidth) (drop (g * gateWidth) cells) ≡ gateCells (startAt cells g) gs
   pub pinsHeld : take (length (pinCells gs)) (drop (startAt cells g) pinsL) ≡ pinCells gs
-  pub cellsInside : g * 3 + length gs * 3 ≤ length cells
+  pub cellsInside : g * gateWidth + length gs * gateWidth ≤ length cells
   pub pinsWithin : startAt cells g + length (pinCells gs) ≤ length pinsL
   pub allFormed : (x : Gate) → List·Memᴰ x gs → formed x ≡ true
   pub allSmall : (x : Gate) (s : Signal) → List·Memᴰ x gs → List·Memᴰ s (pins x) → Small (s .node)
@@ -181,7 +181,7 @@ record First (cells pinsL : List ℕ) (g : ℕ) (x : Gate) : Type 0 where
   fits : recordFits cells g ≡ true
 
 module _ {cells pinsL : List ℕ} {g : ℕ} {x : Gate} {xs : List Gate} (c : Holds cells pinsL g (x ∷ xs)) where
-  cells-split : formAt cells g ∷ firstAt cells g ∷ countAt cells g ∷ take (length xs * 3) (drop (suc g * 3) cells)
+  cells-split : formAt cells g ∷ firstAt cells g ∷ countAt cells g ∷ take (length xs * gateWidth) (drop (suc g * gateWidth) cells)
       ≡ formCell x ∷ startAt cells g ∷ length (pins x) ∷ gateCells (startAt cells g + length (pins x)) xs
   unfolding gateCells
   cells-split = sym (records-at cells g (length xs) (omega (arith, c .cellsInside))) ∙ c .cellsHeld
@@ -235,7 +235,7 @@ module _ {cells pinsL : List ℕ} {g : ℕ} {x : Gate} {xs : List Gate} (c : Hol
         start = s;
         size = k;
         gate =
-            rw (lt-ltb (g * 3 + 2) (length cells) (omega (arith, c .cellsInside)), le-leb (firstAt cells g + countAt cells g) (length pinsL) (omega (arith, c .pinsWithin, run-length)))
+            rw (lt-ltb (g * gateWidth + 2) (length cells) (omega (arith, c .cellsInside)), le-leb (firstAt cells g + countAt cells g) (length pinsL) (omega (arith, c .pinsWithin, run-length)))
             (ap₂ gateFrom f run ∙ gate-again x good);
         fits =
             and-both (kindTakes (kindOf (formAt cells g)) (countAt cells g)) (eqb (firstAt cells g) (startAt cells g))
@@ -248,7 +248,7 @@ module _ {cells pinsL : List ℕ} {g : ℕ} {x : Gate} {xs : List Gate} (c : Hol
       let q = cells-split in
       let k : countAt cells g ≡ length (pins x) = first-is .size in
       let e : startAt cells g + length (pins x) ≡ startAt cells g + countAt cells g = omega arith in
-      let r : take (length xs * 3) (drop (suc g * 3) cells) ≡ gateCells (startAt cells g + length (pins x)) xs = cc in
+      let r : take (length xs * gateWidth) (drop (suc g * gateWidth) cells) ≡ gateCells (startAt cells g + length (pins x)) xs = cc in
       record {
         cellsHeld = r ∙ ap (λ (i : ℕ). gateCells i xs) e;
         pinsHeld = ap (λ (i : ℕ). take (length (pinCells xs)) (drop i pinsL)) (sym e) ∙ later-pins;

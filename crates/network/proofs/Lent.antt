@@ -20,7 +20,7 @@ use Rattle.signal.proofs.Cells.{signal-again, cells-again, signals-again}
 use Rattle.gates.specs.Gate.{Gate, pins}
 use Rattle.gates.specs.Forms.{formed}
 use Rattle.network.specs.Net.{Net, GateIs, ValidNode, Valid, Formed}
-use Rattle.network.specs.Cells.{runAt, pinCells, Lent, sizesFit, startAt, recordFits, recordsFit, validNode, allValid, isNetwork, netOf, countsOf, Laid, Words}
+use Rattle.network.specs.Cells.{gateWidth, runAt, gateAt, pinCells, Lent, sizesFit, startAt, recordFits, recordsFit, validNode, allValid, isNetwork, netOf, countsOf, Laid, Words}
 use Rattle.network.specs.declared.Counts.{Counts}
 use Rattle.network.proofs.Records.{Sizes, sizes-give, sizes-from}
 use Rattle.network.proofs.LaidCells.{Fitting, heldAt, read-at, held-is, run-mem, gates-laid, pins-laid, Holds, Again, held-again, pin-mem}
@@ -106,7 +106,7 @@ module _ (l : Lent) (w : Words l) (t : Tests l) where
   net-laid =
       record {
         counted = λ i. record { inputs = l .counts .inputs; gates = sym gates-counted i; pins = sym pins-counted i; outputs = sym outs-counted i };
-        gatesLaid = ap (λ (k : ℕ). take (k * 3) (l .cells)) gates-counted ∙ gates-laid fitting (l .counts .gates) 0 (omega arith);
+        gatesLaid = ap (λ (k : ℕ). take (k * gateWidth) (l .cells)) gates-counted ∙ gates-laid fitting (l .counts .gates) 0 (omega arith);
         pinsLaid = ap (λ (k : ℕ). take k (l .pinsLent)) pins-counted ∙ sym pins-are;
         outsLaid = ap (λ (k : ℕ). take k (l .outsLent)) outs-counted
             ∙ sym (cells-again (take (l .counts .outputs) (l .outsLent))
@@ -154,6 +154,14 @@ module _ (l : Lent) (w : Words l) (t : Tests l) where
 -- lent cells that pass every test of refusal 20 are the cells of a network with valid signals and pin counts that its forms can have
 pub network-laid : (l : Lent) → Words l → isNetwork l ≡ true → Laid (netOf l) l × Valid (netOf l) × Formed (netOf l)
 network-laid l w e = let t : Tests l = tests-give l e in (net-laid l w t, net-valid l w t, net-formed l w t)
+
+-- each of its gates can be read
+pub network-readable : (l : Lent) → Words l → isNetwork l ≡ true → (g : ℕ) → g < l .counts .gates → (x : Gate) × (gateAt (l .cells) (l .pinsLent) g ≡ some x)
+network-readable l w e g h = let r = read-at (fitting l w (tests-give l e)) g h in (r .gate, r .is)
+
+-- its sizes are within the limits and within its slices
+pub network-sizes : (l : Lent) → isNetwork l ≡ true → Sizes (l .counts) (length (l .cells)) (length (l .pinsLent)) (length (l .outsLent))
+network-sizes l e = tests-give l e .sizes
 
 -- ---- from a network to cells
 

@@ -7,3 +7,4 @@ pub mod Records
 pub mod Summary
 pub mod LaidCells
 pub mod Lent
+pub mod Laying

@@ -60,19 +60,19 @@ module _ (n : Counts) (gs ps os : ℕ) where
   unfolding sizesFit
   over-outputs h = sym (simp (lt-leb (n .outputs) 256 h, and-false))
 
-  pub over-gate-cells : gs < n .gates * 3 → false ≡ sizesFit n gs ps os
+  pub over-gate-cells : gs < n .gates * gateWidth → false ≡ sizesFit n gs ps os
   unfolding sizesFit
-  over-gate-cells h = sym (simp (lt-leb (n .gates * 3) gs h, and-false))
+  over-gate-cells h = sym (simp (lt-leb (n .gates * gateWidth) gs h, and-false))
 
   pub over-pin-cells : ps < n .pins → false ≡ sizesFit n gs ps os
   unfolding sizesFit
   over-pin-cells h = sym (simp (lt-leb (n .pins) ps h, and-false))
 
-  pub within-sizes : n .inputs ≤ 256 → n .gates ≤ 1024 → n .pins ≤ 16384 → n .outputs ≤ 256 → n .gates * 3 ≤ gs → n .pins ≤ ps
+  pub within-sizes : n .inputs ≤ 256 → n .gates ≤ 1024 → n .pins ≤ 16384 → n .outputs ≤ 256 → n .gates * gateWidth ≤ gs → n .pins ≤ ps
       → leb (n .outputs) os ≡ sizesFit n gs ps os
   unfolding sizesFit
   within-sizes a b c d e f =
-      sym (simp (le-leb (n .inputs) 256 a, le-leb (n .gates) 1024 b, le-leb (n .pins) 16384 c, le-leb (n .outputs) 256 d, le-leb (n .gates * 3) gs e, le-leb (n .pins) ps f))
+      sym (simp (le-leb (n .inputs) 256 a, le-leb (n .gates) 1024 b, le-leb (n .pins) 16384 c, le-leb (n .outputs) 256 d, le-leb (n .gates * gateWidth) gs e, le-leb (n .pins) ps f))
 
 pub ruleset sizes = (over-inputs, over-gates, over-pins, over-outputs, over-gate-cells, over-pin-cells, within-sizes)
 
@@ -94,12 +94,12 @@ module _ (cells : List ℕ) (g : ℕ) where
 -- the records below g fit, and their runs end at `at`
 pub record Following (cells : List ℕ) (n at g : ℕ) : Type 0 where
   pub few : n ≤ 1024
-  pub inside : n * 3 ≤ length cells
+  pub inside : n * gateWidth ≤ length cells
   pub start : at ≡ startAt cells g
   pub bound : at ≤ g * 4294967295
   pub fit : TestedTo (recordFits cells) n g
 
-pub following-start : {cells : List ℕ} (n : ℕ) → n ≤ 1024 → n * 3 ≤ length cells → Following cells n 0 0
+pub following-start : {cells : List ℕ} (n : ℕ) → n ≤ 1024 → n * gateWidth ≤ length cells → Following cells n 0 0
 following-start n h k = record { few = h; inside = k; start = refl; bound = omega arith; fit = to-start }
 
 module _ {cells : List ℕ} {n at g : ℕ} (c : Following cells n at g) where
@@ -128,7 +128,7 @@ module _ {cells : List ℕ} {n at g : ℕ} (c : Following cells n at g) where
 module _ (cells pins : List ℕ) (g : ℕ) where
   pub no-record : length cells / 3 ≤ g → none ≡ gateAt cells pins g
   unfolding gateAt
-  no-record h = rw (le-ltb (g * 3 + 2) (length cells) (omega arith))
+  no-record h = rw (le-ltb (g * gateWidth + 2) (length cells) (omega arith))
 
   module _ {first count : ℕ} (f : CellIs (firstAt cells g) first) (c : CellIs (countAt cells g) count) where
     end-is : firstAt cells g + countAt cells g ≡ first + count
@@ -136,7 +136,7 @@ module _ (cells pins : List ℕ) (g : ℕ) where
 
     pub no-run : length pins < first + count → none ≡ gateAt cells pins g
     unfolding gateAt
-    no-run h = rw (lt-leb (firstAt cells g + countAt cells g) (length pins) (omega (arith, end-is)), and-false (ltb (g * 3 + 2) (length cells)))
+    no-run h = rw (lt-leb (firstAt cells g + countAt cells g) (length pins) (omega (arith, end-is)), and-false (ltb (g * gateWidth + 2) (length cells)))
 
     -- the run from the first pin to the end, as the code cuts it
     cut-run : take (first + count - first) (drop first pins) ≡ runAt cells pins g
@@ -156,7 +156,7 @@ module _ (cells pins : List ℕ) (g : ℕ) where
     gate-read h l p q e =
         ap (λ (x : Decoded). decodedIn x pins) (e ∙ (λ i. withPins ((q ∙ ap kindOf p) i) (f .cell i) (cut-run i)))
         ∙ decode-is pins (firstAt cells g) (runAt cells pins g) (run-at l) (formAt cells g)
-        ∙ sym (rw (lt-ltb (g * 3 + 2) (length cells) (omega arith), le-leb (firstAt cells g + countAt cells g) (length pins) (omega (arith, end-is))))
+        ∙ sym (rw (lt-ltb (g * gateWidth + 2) (length cells) (omega arith), le-leb (firstAt cells g + countAt cells g) (length pins) (omega (arith, end-is))))
 
 -- ---- all of refusal 20
 
@@ -166,7 +166,7 @@ pub record Sizes (n : Counts) (gs ps os : ℕ) : Type 0 where
   pub few-gates : n .gates ≤ 1024
   pub few-pins : n .pins ≤ 16384
   pub few-outputs : n .outputs ≤ 256
-  pub gates-lent : n .gates * 3 ≤ gs
+  pub gates-lent : n .gates * gateWidth ≤ gs
   pub pins-lent : n .pins ≤ ps
   pub outs-lent : n .outputs ≤ os
 
@@ -178,7 +178,7 @@ sizes-give {n} {gs} {ps} {os} e =
       few-gates = leb-true (n .gates) 1024 (search (and-left, and-right) depth 8);
       few-pins = leb-true (n .pins) 16384 (search (and-left, and-right) depth 8);
       few-outputs = leb-true (n .outputs) 256 (search (and-left, and-right) depth 8);
-      gates-lent = leb-true (n .gates * 3) gs (search (and-left, and-right) depth 8);
+      gates-lent = leb-true (n .gates * gateWidth) gs (search (and-left, and-right) depth 8);
       pins-lent = leb-true (n .pins) ps (search (and-left, and-right) depth 8);
       outs-lent = leb-true (n .outputs) os (search (and-left, and-right) depth 8);
     }

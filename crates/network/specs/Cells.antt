@@ -53,7 +53,9 @@ countAt cells g = getD cells (g * gateWidth + 2) 0
 
 -- r is the cell x, a 32-bit number
 pub record CellIs (x r : ℕ) : Type 0 where
+  -- the number is the cell
   pub cell : r ≡ x
+  -- and below 2^32
   pub low : r < 2 ^ 32
 
 -- gate g's run of pins
@@ -81,9 +83,13 @@ pinCells (x ∷ xs) = map sigCell (pins x) ++ pinCells xs
 
 -- the counts and the cells that are lent
 pub record Lent : Type 0 where
+  -- how many inputs, gates, pins and outputs are in use
   pub counts : Counts
+  -- the gates' records
   pub cells : List ℕ
+  -- the pins
   pub pinsLent : List ℕ
+  -- the outputs
   pub outsLent : List ℕ
 
 -- the same, from its parts
@@ -147,12 +153,18 @@ countsOf net =
 
 -- the cells in use are those of the network
 pub record Laid (net : Net) (l : Lent) : Type 0 where
+  -- the counts are the network's
   pub counted : l .counts ≡ countsOf net
+  -- the records in use
   pub gatesLaid : take (length (net .gates) * gateWidth) (l .cells) ≡ gateCells 0 (net .gates)
+  -- the pins in use
   pub pinsLaid : take (length (pinCells (net .gates))) (l .pinsLent) ≡ pinCells (net .gates)
+  -- the outputs in use
   pub outsLaid : take (length (net .outputs)) (l .outsLent) ≡ map sigCell (net .outputs)
 
 -- the lent cells are 32-bit numbers, as the slices hold them
 pub record Words (l : Lent) : Type 0 where
+  -- each pin cell
   pub pinWords : (i : ℕ) → getD (l .pinsLent) i 0 < 2 ^ 32
+  -- each output cell
   pub outWords : (i : ℕ) → getD (l .outsLent) i 0 < 2 ^ 32

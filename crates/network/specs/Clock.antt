@@ -38,9 +38,13 @@ nextBit σ h (Dff s) = stepBit σ h s
 
 -- one clock, from held bits and a row to "the outputs' bits in order" and the bits held next
 pub record Clock (net : Net) (held : ℕ → Bool) (row out : List Bool) (next : ℕ → Bool) : Type 0 where
+  -- the gates' bits at this clock
   pub bits : ℕ → Bool
+  -- which fit
   pub fits : Fits net row held bits
+  -- "The clock answers the outputs' bits in order"
   pub answers : out ≡ map (sigBit row bits) (net .outputs)
+  -- "all flip-flops step together"
   pub steps : (g : ℕ) (x : Gate) → GateIs net g x → next g ≡ nextBit (sigBit row bits) (held g) x
 
 -- a run of anything that ticks: "The next clock gets the next row and what this one left"

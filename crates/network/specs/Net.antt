@@ -11,8 +11,11 @@ use Rattle.gates.specs.Forms.{formed}
 
 -- a network: how many inputs, the gates by their numbers, the outputs in order
 pub record Net : Type 0 where
+  -- the number of inputs
   pub inputs : ℕ
+  -- gate g stands at place g
   pub gates : List Gate
+  -- the outputs in order
   pub outputs : List Signal
 
 -- gate g of the network is x
@@ -27,7 +30,9 @@ ValidNode net (Gated g) = g < length (net .gates)
 
 -- every input of a gate and every output is valid
 pub record Valid (net : Net) : Type 0 where
+  -- each input of each gate
   pub pinsValid : (g : ℕ) (x : Gate) (s : Signal) → GateIs net g x → List·Memᴰ s (pins x) → ValidNode net (s .node)
+  -- each output
   pub outsValid : (s : Signal) → List·Memᴰ s (net .outputs) → ValidNode net (s .node)
 
 -- every gate has as many inputs as its form can have
@@ -36,14 +41,23 @@ Formed net = (g : ℕ) (x : Gate) → GateIs net g x → formed x ≡ true
 
 -- combinational gate a is an input of combinational gate b
 pub record Feeds (net : Net) (a b : ℕ) : Type 0 where
+  -- a's form
   pub formA : Form
+  -- a's inputs
   pub pinsA : List Signal
+  -- gate a is that gate
   pub isA : GateIs net a (Comb formA pinsA)
+  -- b's form
   pub formB : Form
+  -- b's inputs
   pub pinsB : List Signal
+  -- gate b is that gate
   pub isB : GateIs net b (Comb formB pinsB)
+  -- the input of b
   pub by : Signal
+  -- which is one of b's
   pub among : List·Memᴰ by pinsB
+  -- and stands for a
   pub points : by .node ≡ Gated a
 
 -- a way of one or more steps, each gate "an input of the next"

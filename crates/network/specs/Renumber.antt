@@ -28,17 +28,25 @@ Kept n π order (Gated g) = (π g < n) × (order (π g) ≡ g)
 
 -- gate i of the new network is gate `order i` of the old one, its inputs renumbered
 pub record From (old : Net) (n : ℕ) (π order : ℕ → ℕ) (i : ℕ) (x : Gate) : Type 0 where
+  -- the old gate
   pub was : Gate
+  -- at its old number
   pub wasAt : GateIs old (order i) was
+  -- with its inputs renumbered
   pub renamed : x ≡ remapGate π was
+  -- each of which is kept
   pub kept : (s : Signal) → List·Memᴰ s (pins was) → Kept n π order (s .node)
 
 -- every gate of the new network is one of the old, renumbered, and what its gates and outputs use is there:
 -- `order` is the old number of a new gate, `π` the new number of an old one
 pub record Renumbered (old new : Net) (π order : ℕ → ℕ) : Type 0 where
+  -- the inputs stay
   pub sameInputs : new .inputs ≡ old .inputs
+  -- each new gate is an old one
   pub gatesFrom : (i : ℕ) (x : Gate) → GateIs new i x → From old (length (new .gates)) π order i x
+  -- the outputs are renumbered
   pub sameOutputs : new .outputs ≡ map (remap π) (old .outputs)
+  -- and what they use is kept
   pub outputsKept : (s : Signal) → List·Memᴰ s (old .outputs) → Kept (length (new .gates)) π order (s .node)
 
 -- ---- a new order as the list of old numbers
@@ -67,5 +75,7 @@ permuted l net =
 
 -- the list holds every gate's number, and no other
 pub record Orders (n : ℕ) (l : List ℕ) : Type 0 where
+  -- every gate's number
   pub every : (g : ℕ) → g < n → List·Memᴰ g l
+  -- no other number
   pub only : (g : ℕ) → List·Memᴰ g l → g < n

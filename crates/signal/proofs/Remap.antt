@@ -9,7 +9,7 @@ use borrow.Author.Tests.{lt-ltb, le-ltb}
 use Rattle.lists.proofs.Tests.{and-both, and-false}
 use Rattle.signal.specs.Signal.{Node, Const, Input, Gated, Signal, plain, flip, xorS, gateNode, remapNode, remap}
 use Rattle.signal.specs.Cell.{nodeCell, sigCell, nodeOf, sigOf, Small, gateNumber, remapCell}
-use Rattle.signal.proofs.Cells.{gate-number, signal-again}
+use Rattle.signal.proofs.Cells.{gate-number, signal-again, cell-again}
 
 module _ (t : List ℕ) (c : ℕ) where
   -- what is no gate stays
@@ -67,3 +67,23 @@ module _ (t : List ℕ) (π : ℕ → ℕ) where
           ∙ ap (λ (x : Signal). sigOf (sigCell (xorS x (sigOf c .inv)))) w
           ∙ signal-again s (k .1)
           ∙ (λ i. record { node = ap (remapNode π) (sym e) i; inv = flip-false (sigOf c .inv) i })
+
+  -- and the renumbered cell is the cell of the signal renumbered
+  pub remap-cell : (c : ℕ) → c < 2 ^ 32 → Renames (nodeOf c) → remapCell t c ≡ sigCell (remap π (sigOf c))
+  remap-cell c l r = go (nodeOf c) refl r
+    where
+      kept : gateNode (nodeOf c) ≡ false → remapCell t c ≡ sigCell (remap π (sigOf c))
+      kept h = sym (remap-other t c h) ∙ sym (cell-again c l) ∙ ap sigCell (remap-kept (sigOf c) h)
+
+      go : (n : Node) → nodeOf c ≡ n → Renames n → remapCell t c ≡ sigCell (remap π (sigOf c))
+      go Const e k = kept (ap gateNode e)
+      go (Input j) e k = kept (ap gateNode e)
+      go (Gated g) e k =
+          let q : Gated (gateNumber c) ≡ Gated g = sym (gate-number c (ap gateNode e)) ∙ e in
+          let n : gateNumber c ≡ g = cc in
+          let w : sigOf (getD t (gateNumber c) 0) ≡ plain (Gated (π g)) = ap (λ (v : ℕ). sigOf (getD t v 0)) n ∙ k .2 in
+          let s : xorS (plain (Gated (π g))) (sigOf c .inv) ≡ remap π (sigOf c) =
+          λ i. record { node = ap (remapNode π) (sym e) i; inv = flip-false (sigOf c .inv) i } in
+          sym (remap-gate t c (ap gateNode e) refl (subst (λ (v : ℕ). v < length t) (sym n) (k .0)) refl)
+          ∙ ap (λ (x : Signal). sigCell (xorS x (sigOf c .inv))) w
+          ∙ ap sigCell s

@@ -10,7 +10,9 @@ pub data Node : Type 0 where
 
 -- "bit 0 is the inversion"
 pub record Signal : Type 0 where
+  -- what the signal stands for before inversion
   pub node : Node
+  -- whether it is inverted
   pub inv : Bool
 
 -- the signal of a node, not inverted

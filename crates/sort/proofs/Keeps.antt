@@ -1,9 +1,8 @@
 -- What the sort keeps, and that every gate input of a combinational gate gets a lower number. Assumes nothing.
-use mathlib.Core.Path.{_≡_, refl, sym, ap, ap₂, _∙_, subst}
+use mathlib.Core.Path.{_≡_, refl, sym, ap, _∙_, subst}
 use mathlib.Core.List.{List, [], _∷_, _++_, map, List·Memᴰ, Memᴰ·of-map}
-use mathlib.Core.Bool.{Bool, true, false, cond}
-use mathlib.Core.Option.{Option, none, some}
-use mathlib.Core.Logic.{_⊎_, inl, inr, ⊎-elim}
+use mathlib.Core.Option.{Option, some}
+use mathlib.Core.Logic.{⊎-elim}
 use Prim.Native.Nat.{ℕ, zero, suc, _+_, _≤_, _<_}
 use native.Mathlib.Omega.{arith}
 use native.Mathlib.Nat.{le-of-lt}
@@ -11,22 +10,21 @@ use native.Mathlib.Decide.{ℕ-discrete}
 use lib.ListN.{length, getD, getElem?, take, drop, length-map, length-append}
 use lib.Seq.{split-at, length-take-le}
 use Rattle.lists.specs.Lists.{hit, occ, sumTo, found, find}
-use Rattle.lists.proofs.Counting.{hit-same, hit-eq, hit-ne, hit-or, occ-append, zero-or, sum-mono, sum-cong, sumOver, sum-perm, getD-occ}
+use Rattle.lists.proofs.Counting.{hit-same, hit-eq, hit-ne, hit-or, occ-append, zero-or, sum-mono, sumOver, sum-perm, mem-occ}
 use Rattle.lists.proofs.Places.{place-getD, place-lt}
 use Rattle.signal.specs.Signal.{Node, Const, Input, Gated, Signal, remapNode, remap}
+use Rattle.signal.specs.Cell.{sigCell}
 use Rattle.gates.specs.Gate.{Form, Buf, Gate, Comb, Dff, pins}
 use Rattle.gates.specs.Forms.{canHave, formed}
-use Rattle.signal.specs.Cell.{sigCell}
-use Rattle.network.specs.Net.{Net, GateIs, Valid, ValidNode, Formed}
+use Rattle.network.specs.Net.{Net, GateIs, Valid, Formed}
 use Rattle.network.specs.Cells.{pinCells}
-use Rattle.network.specs.Renumber.{remapGate, From, Renumbered, orZero, placeOf, gateOr, permuted}
+use Rattle.network.specs.Renumber.{remapGate, orZero, placeOf, gateOr, permuted}
 use Rattle.network.proofs.Renumbering.{renumbered-valid, pins-remap}
-use Rattle.sort.specs.Order.{Graph, uses, useCount, sortOrder}
-use Rattle.sort.specs.Sorted.{nodeGate, gateNums, combAt, insAt, graph, sorted}
-use Rattle.sort.specs.Steps.{ValidGraph}
+use Rattle.sort.specs.Order.{uses, useCount, sortOrder}
+use Rattle.sort.specs.Sorted.{nodeGate, gateNums, combAt, insAt, graph}
 use Rattle.sort.proofs.Walk.{uses-comb, uses-ins}
-use Rattle.sort.proofs.Ordering.{place, place-here, place-there, place-right, place-below, sort-permutes, sort-length, sort-inputs, order-once, some-full}
-use Rattle.sort.proofs.Sorting.{point-nums, graph-valid, sorted-order, order-has, order-renumbers}
+use Rattle.sort.proofs.Ordering.{place, place-here, place-there, place-right, sort-permutes, sort-length, sort-inputs, order-once, some-full}
+use Rattle.sort.proofs.Sorting.{point-nums, graph-valid, order-has, order-renumbers}
 
 -- ---- the new number is the place in the order
 
@@ -141,7 +139,7 @@ module _ (net : Net) (valid : Valid net) (l : List ℕ) (e : sortOrder (graph ne
       let gl : g < length (net .gates) = place-lt (net .gates) g (fr .was) (fr .wasAt) in
       let was : getElem? (net .gates) g ≡ some (Comb f (c .0)) = fr .wasAt ∙ ap some (c .1) in
       let o : 0 < occ (n .0) (insAt (getElem? (net .gates) g)) =
-      subst (λ (x : Option Gate). 0 < occ (n .0) (insAt x)) (sym was) (Rattle.lists.proofs.Counting.mem-occ (n .0) (gateNums (c .0)) (point-nums (n .0) (c .0) (t .0) (t .1) (n .1))) in
+      subst (λ (x : Option Gate). 0 < occ (n .0) (insAt x)) (sym was) (mem-occ (n .0) (gateNums (c .0)) (point-nums (n .0) (c .0) (t .0) (t .1) (n .1))) in
       let b : n .0 < length (net .gates) = gv g (n .0) gl o in
       let one : occ (n .0) l ≡ 1 = sort-permutes G gv l e (n .0) b in
       omega (

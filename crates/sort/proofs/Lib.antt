@@ -4,3 +4,14 @@ pub mod Ordering
 pub mod Sorting
 pub mod Keeps
 pub mod Summary
+pub mod Naming
+pub mod Stack
+pub mod Uses
+pub mod Starting
+pub mod Visiting
+pub mod Finding
+pub mod Laying
+pub mod Moving
+pub mod Reading
+pub mod Ending
+pub mod Lending

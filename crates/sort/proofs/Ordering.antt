@@ -1,17 +1,16 @@
 -- The order of the sort: each gate once, inputs first, and none exactly at a loop. Assumes nothing.
-use Prim.Native.Nat.{ℕ, zero, suc, _+_, _-_, _≤_, _<_}
-use native.Mathlib.Omega.{arith}
-use native.Mathlib.Nat.{eq-or-lt-of-le}
-use mathlib.Core.Bool.{Bool, true, false, cond, true≢false}
+use mathlib.Core.Bool.{Bool, true, false, true≢false}
 use mathlib.Core.Logic.{_↔_, _⊎_, inl, inr, ⊎-elim}
 use mathlib.Core.List.{List, [], _∷_, _++_}
-use mathlib.Core.Option.{Option, none, some}
+use mathlib.Core.Option.{none, some}
 use mathlib.Core.Path.{_≡_, refl, sym, ap, _∙_}
-use lib.Dec.{eqb}
-use borrow.Author.Tests.{eq-eqb, ne-eqb}
+use Prim.Native.Nat.{ℕ, zero, suc, _+_, _≤_, _<_}
+use native.Mathlib.Omega.{arith}
+use native.Mathlib.Nat.{eq-or-lt-of-le}
 use lib.ListN.{length, getD}
+use borrow.Author.Tests.{eq-eqb, ne-eqb}
 use Rattle.lists.specs.Lists.{hit, occ, sumTo}
-use Rattle.lists.proofs.Counting.{hit-or, hit-same, sum-le, sum-occ, all-one, some-zero, part-of, zero-or, occ-append}
+use Rattle.lists.proofs.Counting.{hit-or, sum-le, sum-occ, all-one, some-zero, part-of, zero-or, occ-append}
 use Rattle.sort.specs.Order.{Graph, uses, flopsTo, recorded, order, sortOrder, walk, countsAfter, stackAfter, kept}
 use Rattle.sort.specs.Steps.{ValidGraph, Before, Good, pend, left, budget}
 use Rattle.sort.proofs.Walk.{Ended, uses-comb, uses-ins, good-pop, good-all, budget-all}

@@ -1,18 +1,18 @@
 -- Without a loop the sort gives an order of all gates, which renumbers; at a loop it gives none. Assumes nothing.
 use mathlib.Core.Path.{_≡_, refl, sym, ap, _∙_, subst}
-use mathlib.Core.List.{List, [], _∷_, map, List·Memᴰ, List·Memᴰ·head, List·Memᴰ·tail, List·Memᴰ·not-nil, List·Memᴰ·cases-cons}
-use mathlib.Core.Bool.{Bool, true, false, false≢true}
+use mathlib.Core.List.{List, [], _∷_, List·Memᴰ, List·Memᴰ·head, List·Memᴰ·tail, List·Memᴰ·not-nil, List·Memᴰ·cases-cons}
+use mathlib.Core.Bool.{true, false≢true}
 use mathlib.Core.Option.{Option, none, some}
-use mathlib.Core.Logic.{_↔_, _⊎_, inl, inr, ⊎-elim}
-use Prim.Native.Nat.{ℕ, zero, suc, _+_, _≤_, _<_}
+use mathlib.Core.Logic.{_↔_, ⊎-elim}
+use Prim.Native.Nat.{ℕ, _<_}
 use native.Mathlib.Omega.{arith}
-use lib.ListN.{length, getD, getElem?, length-map}
-use Rattle.lists.specs.Lists.{hit, occ}
+use lib.ListN.{length, getD, getElem?}
+use Rattle.lists.specs.Lists.{occ}
 use Rattle.lists.proofs.Counting.{occ-mem, mem-occ}
-use Rattle.lists.proofs.Places.{lt-place, place-lt}
+use Rattle.lists.proofs.Places.{place-lt}
 use Rattle.signal.specs.Signal.{Node, Const, Input, Gated, Signal}
-use Rattle.gates.specs.Gate.{Form, Gate, Comb, Dff, pins, isComb}
-use Rattle.network.specs.Net.{Net, GateIs, Valid, ValidNode, Feeds, Way, last, Loop}
+use Rattle.gates.specs.Gate.{Form, Gate, Comb, Dff, pins}
+use Rattle.network.specs.Net.{Net, Valid, ValidNode, Feeds, Way, last, Loop}
 use Rattle.network.specs.Renumber.{permuted, placeOf, Orders, Renumbered}
 use Rattle.network.proofs.OneChoice.{way-snoc}
 use Rattle.network.proofs.Permuting.{permuted-renumbers}
@@ -20,7 +20,7 @@ use Rattle.sort.specs.Order.{sortOrder}
 use Rattle.sort.specs.Sorted.{nodeGate, gateNums, combAt, insAt, graph, sortedBy, sorted}
 use Rattle.sort.specs.Steps.{ValidGraph}
 use Rattle.sort.proofs.Ordering as ord
-use Rattle.sort.proofs.Ordering.{one, more, some-full, order-below, sort-permutes, sort-length, sort-none}
+use Rattle.sort.proofs.Ordering.{one, more, some-full, order-below, sort-permutes, sort-none}
 
 -- a gate among the signals' gates is what a signal points at
 nums-point : (d : ℕ) (ss : List Signal) → List·Memᴰ d (gateNums ss) → (s : Signal) × List·Memᴰ s ss × (s .node ≡ Gated d)

@@ -1,22 +1,25 @@
 -- The sort's theorems, as a reviewer would read them (document 01, src/network/network.rs). Assumes nothing.
-use mathlib.Core.Path.{_≡_, refl, sym, ap, subst}
+use mathlib.Core.Path.{_≡_, refl, sym, subst}
 use mathlib.Core.Bool.{Bool}
-use mathlib.Core.List.{List, List·Memᴰ}
-use mathlib.Core.Option.{Option, none, some}
+use mathlib.Core.List.{List, [], List·Memᴰ}
+use mathlib.Core.Option.{none, some}
 use mathlib.Core.Logic.{_↔_}
 use Prim.Native.Nat.{ℕ, _≤_, _<_}
+use native.Mathlib.Omega.{arith}
 use lib.ListN.{length, getD}
-use Rattle.lists.specs.Lists.{occ}
+use Rattle.lists.specs.Lists.{occ, listTo}
+use Rattle.lists.proofs.Counting.{length-listTo, getD-listTo}
 use Rattle.signal.specs.Signal.{Gated, Signal}
 use Rattle.gates.specs.Gate.{Form, Comb}
-use Rattle.network.specs.Net.{Net, GateIs, Valid, Formed, Loop}
+use Rattle.network.specs.Net.{Net, GateIs, Valid, Loop}
 use Rattle.network.specs.Cells.{pinCells}
 use Rattle.network.specs.Clock.{zeroBits}
 use Rattle.network.specs.Settle.{runFrom, run}
 use Rattle.network.specs.Renumber.{placeOf, permuted}
 use Rattle.network.proofs.Summary.{renumbered-runs}
-use Rattle.sort.specs.Order.{useCount, sortOrder}
-use Rattle.sort.specs.Sorted.{graph, sorted}
+use Rattle.sort.specs.Order.{useCount, startTo, walk, recorded, sortOrder}
+use Rattle.sort.specs.Sorted.{graph, sorted, Preserved}
+use Rattle.sort.proofs.WalkEnds.{good-start, budget-start}
 use Rattle.sort.proofs.Ordering as ord
 use Rattle.sort.proofs.Sorting.{graph-valid, sorted-order, none-loop, sorted-free, order-renumbers}
 use Rattle.sort.proofs.Keeps.{lower, uses-within, kept-valid, kept-formed, kept-gates, kept-outputs, kept-pins}
@@ -28,6 +31,19 @@ sort-permutes net valid l e = (
   λ g h. ord.sort-permutes (graph net) (graph-valid net valid) l e g h,
   ord.sort-length (graph net) (graph-valid net valid) l e,
 )
+
+-- "The last is popped and recorded", until the stack is empty: as many pops as there are gates are enough, and more change nothing
+pub pops-enough : (net : Net) → Valid net → (k : ℕ) → length (net .gates) ≤ k
+    → walk (graph net) k (listTo (length (net .gates)) (useCount (graph net))) (startTo (graph net .comb) (useCount (graph net)) (length (net .gates))) []
+    ≡ recorded (graph net)
+unfolding recorded
+pops-enough net valid k h =
+    let G = graph net in
+    let c = listTo (G .size) (useCount G) in
+    let same : (v : ℕ) → v < G .size → getD c v 0 ≡ useCount G v = λ v l. getD-listTo (G .size) (useCount G) v l in
+    let long : G .size ≤ length c = omega (arith, length-listTo (G .size) (useCount G)) in
+    let b = budget-start G c same long in
+    ord.walk-enough G (graph-valid net valid) k (G .size) c (startTo (G .comb) (useCount G) (G .size)) [] (good-start G c same long) (omega (arith, b)) b
 
 -- "After a sort, every gate input of a combinational gate has a lower number"
 pub inputs-lower : (net new : Net) → Valid net → sorted net ≡ some new → (i d : ℕ) (f : Form) (ps : List Signal) (s : Signal)
@@ -62,19 +78,11 @@ sorted-run net new valid e rows = sorted-runs net new valid e .2 zeroBits rows
 pub count-fits : (net : Net) (v : ℕ) → useCount (graph net) v ≤ length (pinCells (net .gates))
 count-fits net v = uses-within net v
 
--- what the sort keeps: "Pins here are the sorted gates' inputs, laid in gate order"
-pub record Kept (net new : Net) : Type 0 where
-  pub valid : Valid new
-  pub inputs : new .inputs ≡ net .inputs
-  pub gates : length (new .gates) ≡ length (net .gates)
-  pub outputs : length (new .outputs) ≡ length (net .outputs)
-  pub formed : Formed net → Formed new
-  pub pins : length (pinCells (new .gates)) ≡ length (pinCells (net .gates))
-
-pub sorted-keeps : (net new : Net) → Valid net → sorted net ≡ some new → Kept net new
+-- what the sort keeps
+pub sorted-keeps : (net new : Net) → Valid net → sorted net ≡ some new → Preserved net new
 sorted-keeps net new valid e =
     let o = sorted-order net valid new e in
-    subst (Kept net) (o .2)
+    subst (Preserved net) (o .2)
     (record {
       valid = kept-valid net valid (o .0) (o .1);
       inputs = refl;

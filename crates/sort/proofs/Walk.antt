@@ -1,16 +1,16 @@
 -- What holds of the sort's walk at each step. Assumes nothing.
+use mathlib.Core.Bool.{Bool, true, false, true≢false}
+use mathlib.Core.Logic.{⊎-elim}
+use mathlib.Core.List.{List, [], _∷_}
+use mathlib.Core.Path.{_≡_, refl, sym, ap, _∙_}
 use Prim.Native.Nat.{ℕ, zero, suc, _+_, _-_, _≤_, _<_}
 use native.Mathlib.Omega.{arith}
-use mathlib.Core.Bool.{Bool, true, false, true≢false}
-use mathlib.Core.Logic.{_⊎_, inl, inr, ⊎-elim}
-use mathlib.Core.List.{List, [], _∷_, _++_}
-use mathlib.Core.Path.{_≡_, refl, sym, ap, _∙_}
-use lib.ListN.{length, getD, set, length-set}
+use lib.ListN.{length, getD, length-set}
 use lib.Seq.{getD-set-same, getD-set-other}
-use Rattle.lists.specs.Lists.{hit, occ, sumTo}
+use Rattle.lists.specs.Lists.{hit, occ}
 use Rattle.lists.proofs.Counting.{hit-ne, hit-or, hit-same, sum-point, part-le, zero-or}
 use Rattle.sort.specs.Order.{Graph, uses, lowered, pushed, countsAfter, stackAfter, kept, walk}
-use Rattle.sort.specs.Steps.{ValidGraph, pos, left, pend, Before, Good, budget}
+use Rattle.sort.specs.Steps.{ValidGraph, pos, left, pend, Good, budget}
 
 -- ---- one input
 

@@ -9,8 +9,11 @@ use Rattle.lists.specs.Lists.{sumTo, listTo, occ}
 
 -- what the sort sees of a network: how many gates, which are combinational, and each gate's gate inputs, in order and with repeats
 pub record Graph : Type 0 where
+  -- how many gates
   pub size : ℕ
+  -- which are combinational
   pub comb : ℕ → Bool
+  -- each gate's gate inputs
   pub ins : ℕ → List ℕ
 
 -- the gates that gate g uses as a combinational gate: none where it is a flip-flop

@@ -1,5 +1,6 @@
 -- The network sorted: its gates in the order of the sort, renumbered (document 01, src/network/network.rs). Assumes nothing:
 -- these are definitions.
+use mathlib.Core.Path.{_≡_}
 use mathlib.Core.Bool.{Bool, true, false}
 use mathlib.Core.List.{List, [], _∷_}
 use mathlib.Core.Option.{Option, none, some}
@@ -7,7 +8,8 @@ use Prim.Native.Nat.{ℕ}
 use lib.ListN.{length, getElem?}
 use Rattle.signal.specs.Signal.{Node, Const, Input, Gated, Signal}
 use Rattle.gates.specs.Gate.{Gate, pins, isComb}
-use Rattle.network.specs.Net.{Net}
+use Rattle.network.specs.Net.{Net, Valid, Formed}
+use Rattle.network.specs.Cells.{pinCells}
 use Rattle.network.specs.Renumber.{permuted}
 use Rattle.sort.specs.Order.{Graph, sortOrder}
 
@@ -45,3 +47,18 @@ sortedBy (some l) net = some (permuted l net)
 -- the network sorted; none at a combinational loop
 unfoldable pub sorted : Net → Option Net
 sorted net = sortedBy (sortOrder (graph net)) net
+
+-- what the sort keeps of a network
+pub record Preserved (net new : Net) : Type 0 where
+  -- every signal is valid
+  pub valid : Valid new
+  -- as many inputs
+  pub inputs : new .inputs ≡ net .inputs
+  -- as many gates
+  pub gates : length (new .gates) ≡ length (net .gates)
+  -- as many outputs
+  pub outputs : length (new .outputs) ≡ length (net .outputs)
+  -- pin counts that the forms can have
+  pub formed : Formed net → Formed new
+  -- as many pins
+  pub pins : length (pinCells (new .gates)) ≡ length (pinCells (net .gates))

@@ -1,7 +1,429 @@
 // The sort of a network's gates, from cells into other cells (Quaigh's src/network/network.rs: topo_sort and remap).
+use network::Counts;
+use network::GATE_CELLS;
+use network::check_layout;
+use signal::Signal;
+ghost use mathlib.Core.Path.{_≡_};
+ghost use mathlib.Core.List.{List, [], _∷_, map};
+ghost use Prim.Native.Nat.{ℕ, _+_, _-_, _*_, _≤_, _<_};
+ghost use lib.ListN.{length, getD, take, replicate};
+ghost use Rattle.lists.specs.Lists.{over};
+ghost use Rattle.signal.specs.Cell.{remapCell};
+ghost use Rattle.network.specs.Cells.{gateWidth, maxGates, maxPins, runAt, lent, netOf};
+ghost use Rattle.sort.specs.Order.{uses, sortOrder};
+ghost use Rattle.sort.specs.Sorted.{sorted};
+ghost use Rattle.sort.specs.Into.{outcome, sortInto, Sortable, sortLent};
+ghost use Rattle.sort.specs.Steps.{named, gateIns, formComb, cellGraph, HasRun, Cells, Raised, Countable, Counted};
+ghost use Rattle.sort.specs.Steps.{down, Lowered, Lowers, Walks, Flopped, Started, Ready, Visited, Begins, Recorded, ordered};
+ghost use Rattle.sort.specs.Steps.{overAt, Numbers, Tabled, RoomFor, GateMoved, Movable, Moved, Renewed};
 
 // Sorted, with the pins in use; or a combinational loop.
 pub enum Sorted {
     Order(usize),
     Loop,
+}
+
+// What `sort_network` answers: the cells cannot be sorted, or what the sort answers.
+pub enum Attempt {
+    Refused,
+    Done(Sorted),
+}
+
+// The top of the stack, and the first cell of the order that is written.
+struct Place {
+    top: usize,
+    at: usize,
+}
+
+// Whether gate g is combinational.
+fn is_comb(gates: &[u32], g: usize) -> bool
+    requires { ⌜ g * gateWidth + 2 < length (now gates) ⌝ }
+    ensures { λ r. ⌜ r ≡ formComb (now (gates .entry)) g ⌝ }
+{
+    gates::kind_of(network::form_at(gates, g)).is_comb()
+}
+
+// The pins of gate g.
+fn gate_pins<'a, 'b>(gates: &'a [u32], pins: &'b [u32], g: usize) -> &'b [u32]
+    requires { ⌜ HasRun (now gates) (now pins) g ⌝ }
+    ensures { λ r. ⌜ now r ≡ runAt (now (gates .entry)) (now (pins .entry)) g ⌝ }
+{
+    let first = network::first_at(gates, g);
+    let end = first + network::count_at(gates, g);
+    &pins[first..end]
+}
+
+// Counts one pin.
+fn add_use(s: u32, counts: &mut [u32])
+    requires { ⌜ Countable (named s) (now counts) ⌝ }
+    ensures { λ r. ⌜ Raised (named s) (now (counts .entry)) (now (counts .exit)) ⌝ }
+{
+    let signal = Signal { a: s };
+    if signal.is_var() {
+        let g = signal.var() as usize;
+        counts[g] += 1;
+    }
+}
+
+// Counts the pins of one gate.
+fn add_uses(pins: &[u32], counts: &mut [u32])
+    requires { ⌜ Countable (gateIns (now pins)) (now counts) ⌝ }
+    ensures { λ r. ⌜ Raised (gateIns (now (pins .entry))) (now (counts .entry)) (now (counts .exit)) ⌝ }
+{
+    let mut i = 0;
+    while i < pins.len() {
+        add_use(pins[i], counts);
+        i += 1;
+    }
+}
+
+// Counts the uses that one gate makes: a flip-flop makes none.
+fn count_gate(gates: &[u32], pins: &[u32], n: usize, g: usize, counts: &mut [u32])
+    requires { ⌜ Cells (now gates) (now pins) n ⌝ }
+    requires { ⌜ g < n ⌝ }
+    requires { ⌜ Countable (uses (cellGraph (now gates) (now pins) n) g) (now counts) ⌝ }
+    ensures { λ r. ⌜ Raised (uses (cellGraph (now (gates .entry)) (now (pins .entry)) n) g) (now (counts .entry)) (now (counts .exit)) ⌝ }
+{
+    if !is_comb(gates, g) {
+        return;
+    }
+    let run = gate_pins(gates, pins, g);
+    add_uses(run, counts);
+}
+
+// Counts how often combinational gates use each gate.
+fn count_uses(gates: &[u32], pins: &[u32], n: usize, counts: &mut [u32])
+    requires { ⌜ Cells (now gates) (now pins) n ⌝ }
+    requires { ⌜ now counts ≡ replicate maxGates 0 ⌝ }
+    ensures { λ r. ⌜ Counted (cellGraph (now (gates .entry)) (now (pins .entry)) n) (now (counts .exit)) ⌝ }
+{
+    let mut g = 0;
+    while g < n {
+        count_gate(gates, pins, n, g, counts);
+        g += 1;
+    }
+}
+
+// Lowers the count of what one pin names, and pushes it at zero.
+fn lower_use(s: u32, counts: &mut [u32], stack: &mut [u32], top: usize) -> usize
+    requires { ⌜ (length (now counts) ≡ maxGates) × (length (now stack) ≡ maxGates) ⌝ }
+    requires { ⌜ Lowers s (now counts) top ⌝ }
+    ensures { λ r. ⌜ Lowered (named s) (now (counts .entry)) (down top (now (stack .entry))) (now (counts .exit)) (down r (now (stack .exit))) ⌝ }
+{
+    let signal = Signal { a: s };
+    if !signal.is_var() {
+        return top;
+    }
+    let d = signal.var() as usize;
+    counts[d] -= 1;
+    if counts[d] != 0 {
+        return top;
+    }
+    stack[top] = d as u32;
+    top + 1
+}
+
+// Lowers the counts of what a gate's pins name, in order.
+fn lower_uses(pins: &[u32], counts: &mut [u32], stack: &mut [u32], top: usize) -> usize
+    requires { ⌜ (length (now counts) ≡ maxGates) × (length (now stack) ≡ maxGates) ⌝ }
+    requires { ⌜ Walks (now counts) (down top (now stack)) (now pins) ⌝ }
+    ensures { λ r. ⌜ Lowered (gateIns (now (pins .entry))) (now (counts .entry)) (down top (now (stack .entry))) (now (counts .exit)) (down r (now (stack .exit))) ⌝ }
+{
+    let mut t = top;
+    let mut i = 0;
+    while i < pins.len() {
+        t = lower_use(pins[i], counts, stack, t);
+        i += 1;
+    }
+    t
+}
+
+// Marks gate g and puts it into the order, if it is a flip-flop.
+fn mark_flop(gates: &[u32], g: usize, marks: &mut [u8], order: &mut [u32], k: usize) -> usize
+    requires { ⌜ (g * gateWidth + 2 < length (now gates)) × (g < maxGates) × (length (now marks) ≡ maxGates) × (k ≤ g) × (g < length (now order)) ⌝ }
+    ensures { λ r. ⌜ ((o₀ : List ℕ) → Flopped (formComb (now (gates .entry))) g o₀ (now (marks .entry)) (now (order .entry)) k → Flopped (formComb (now (gates .entry))) (g + 1) o₀ (now (marks .exit)) (now (order .exit)) r) ⌝ }
+{
+    if is_comb(gates, g) {
+        return k;
+    }
+    marks[g] = 1;
+    order[k] = g as u32;
+    k + 1
+}
+
+// Marks the flip-flops, and puts them first into the order.
+fn mark_flops(gates: &[u32], n: usize, marks: &mut [u8], order: &mut [u32]) -> usize
+    requires { ⌜ (n ≤ maxGates) × (n * gateWidth ≤ length (now gates)) × (now marks ≡ replicate maxGates 0) × (n ≤ length (now order)) ⌝ }
+    ensures { λ r. ⌜ Flopped (formComb (now (gates .entry))) n (now (order .entry)) (now (marks .exit)) (now (order .exit)) r ⌝ }
+{
+    let mut k = 0;
+    let mut g = 0;
+    while g < n {
+        k = mark_flop(gates, g, marks, order, k);
+        g += 1;
+    }
+    k
+}
+
+// Pushes gate g, if it is neither marked nor used.
+fn start_gate(marks: &[u8], counts: &[u32], g: usize, stack: &mut [u32], top: usize) -> usize
+    requires { ⌜ (g < maxGates) × (length (now marks) ≡ maxGates) × (length (now counts) ≡ maxGates) × (length (now stack) ≡ maxGates) ⌝ }
+    requires { ⌜ Started (now marks) (now counts) g (now stack) top ⌝ }
+    ensures { λ r. ⌜ Started (now (marks .entry)) (now (counts .entry)) (g + 1) (now (stack .exit)) r ⌝ }
+{
+    if marks[g] != 0 {
+        return top;
+    }
+    if counts[g] != 0 {
+        return top;
+    }
+    stack[top] = g as u32;
+    top + 1
+}
+
+// The first stack: the gates that are neither marked nor used.
+fn start_stack(marks: &[u8], counts: &[u32], n: usize, stack: &mut [u32]) -> usize
+    requires { ⌜ (n ≤ maxGates) × (length (now marks) ≡ maxGates) × (length (now counts) ≡ maxGates) × (length (now stack) ≡ maxGates) ⌝ }
+    ensures { λ r. ⌜ Started (now (marks .entry)) (now (counts .entry)) n (now (stack .exit)) r ⌝ }
+{
+    let mut top = 0;
+    let mut g = 0;
+    while g < n {
+        top = start_gate(marks, counts, g, stack, top);
+        g += 1;
+    }
+    top
+}
+
+// Visits the gate at the top of the stack: records it, unless it is marked, and lowers the counts of what it uses.
+fn visit(
+    gates: &[u32],
+    pins: &[u32],
+    n: usize,
+    counts: &mut [u32],
+    marks: &mut [u8],
+    stack: &mut [u32],
+    order: &mut [u32],
+    w: Place,
+) -> Place
+    requires { ⌜ Cells (now gates) (now pins) n ⌝ }
+    requires { ⌜ (0 < w .top) × Ready (cellGraph (now gates) (now pins) n) (now counts) (now marks) (now stack) (w .top) (now order) (w .at) ⌝ }
+    ensures { λ r. ⌜ Visited (cellGraph (now (gates .entry)) (now (pins .entry)) n) (getD (now (stack .entry)) (w .top - 1) 0) (now (counts .entry)) (now (marks .entry)) (now (stack .entry)) (w .top) (now (order .entry)) (w .at) (now (counts .exit)) (now (marks .exit)) (now (stack .exit)) (r .top) (now (order .exit)) (r .at) ⌝ }
+{
+    let top = w.top - 1;
+    let v = stack[top] as usize;
+    if marks[v] != 0 {
+        return Place { top, at: w.at };
+    }
+    let at = w.at - 1;
+    marks[v] = 1;
+    order[at] = v as u32;
+    let run = gate_pins(gates, pins, v);
+    let t = lower_uses(run, counts, stack, top);
+    Place { top: t, at }
+}
+
+// Visits until the stack is empty. Answers where the recorded gates start in the order.
+fn visit_all(
+    gates: &[u32],
+    pins: &[u32],
+    n: usize,
+    counts: &mut [u32],
+    marks: &mut [u8],
+    stack: &mut [u32],
+    top: usize,
+    order: &mut [u32],
+) -> usize
+    requires { ⌜ Cells (now gates) (now pins) n ⌝ }
+    requires { ⌜ Begins (cellGraph (now gates) (now pins) n) (now counts) (now marks) (now stack) top (now order) ⌝ }
+    ensures { λ r. ⌜ Recorded (cellGraph (now (gates .entry)) (now (pins .entry)) n) (now (order .entry)) (now (order .exit)) r ⌝ }
+{
+    let mut w = Place { top, at: n };
+    while w.top != 0 {
+        w = visit(gates, pins, n, counts, marks, stack, order, w);
+    }
+    w.at
+}
+
+// Puts the gates' numbers into the order: flip-flops, then the recorded gates backwards. Answers false at a loop.
+fn find_order(gates: &[u32], pins: &[u32], n: usize, order: &mut [u32]) -> bool
+    requires { ⌜ Cells (now gates) (now pins) n ⌝ }
+    requires { ⌜ (n * gateWidth ≤ length (now gates)) × (n ≤ length (now order)) ⌝ }
+    ensures { λ r. ⌜ ordered r (take n (now (order .exit))) ≡ sortOrder (cellGraph (now (gates .entry)) (now (pins .entry)) n) ⌝ }
+{
+    let mut counts = [0u32; 1024];
+    let mut marks = [0u8; 1024];
+    let mut stack = [0u32; 1024];
+    count_uses(gates, pins, n, &mut counts);
+    let k = mark_flops(gates, n, &mut marks, order);
+    let top = start_stack(&marks, &counts, n, &mut stack);
+    let at = visit_all(
+        gates,
+        pins,
+        n,
+        &mut counts,
+        &mut marks,
+        &mut stack,
+        top,
+        order,
+    );
+    at == k
+}
+
+// Fills the translation table: at each gate's number the signal of its place in the order.
+fn number_gates(order: &[u32], table: &mut [u32])
+    requires { ⌜ (length (now order) ≤ maxGates) × (length (now table) ≡ maxGates) ⌝ }
+    requires { ⌜ Numbers (now order) ⌝ }
+    ensures { λ r. ⌜ Tabled (now (order .entry)) (length (now (order .entry))) (now (table .exit)) ⌝ }
+{
+    let mut i = 0;
+    while i < order.len() {
+        let g = order[i] as usize;
+        table[g] = Signal::from_var(i as u32).raw();
+        i += 1;
+    }
+}
+
+// Copies a run of pins, renumbered, to the new pins from cell at on.
+fn move_pins(run: &[u32], table: &[u32], to: &mut [u32], at: usize)
+    requires { ⌜ at + length (now run) ≤ length (now to) ⌝ }
+    ensures { λ r. ⌜ now (to .exit) ≡ overAt at (map (remapCell (now (table .entry))) (now (run .entry))) (now (to .entry)) ⌝ }
+{
+    let mut i = 0;
+    while i < run.len() {
+        to[at + i] = Signal { a: run[i] }.remap_order(table).raw();
+        i += 1;
+    }
+}
+
+// Writes gate i's record into the new gates.
+fn put_record(to: &mut [u32], i: usize, form: u32, first: usize, count: usize)
+    requires { ⌜ (i * gateWidth + 2 < length (now to)) × (i < maxGates) × (first ≤ maxPins) × (count ≤ maxPins) ⌝ }
+    ensures { λ r. ⌜ now (to .exit) ≡ overAt (i * gateWidth) (form ∷ first ∷ count ∷ []) (now (to .entry)) ⌝ }
+{
+    to[i * GATE_CELLS] = form;
+    to[i * GATE_CELLS + 1] = first as u32;
+    to[i * GATE_CELLS + 2] = count as u32;
+}
+
+// Copies gate g to gate i of the new cells, with its pins from cell at on. Answers the cell after its pins.
+fn move_gate(
+    gates: &[u32],
+    pins: &[u32],
+    table: &[u32],
+    g: usize,
+    i: usize,
+    new_gates: &mut [u32],
+    new_pins: &mut [u32],
+    at: usize,
+) -> usize
+    requires { ⌜ HasRun (now gates) (now pins) g ⌝ }
+    requires { ⌜ RoomFor i at (length (runAt (now gates) (now pins) g)) (now «new_gates») (now «new_pins») ⌝ }
+    ensures { λ r. ⌜ GateMoved (now (gates .entry)) (now (pins .entry)) (now (table .entry)) g i at (now («new_gates» .entry)) (now («new_pins» .entry)) (now («new_gates» .exit)) (now («new_pins» .exit)) r ⌝ }
+{
+    let run = gate_pins(gates, pins, g);
+    let count = run.len();
+    put_record(new_gates, i, network::form_at(gates, g), at, count);
+    move_pins(run, table, new_pins, at);
+    at + count
+}
+
+// Copies all gates in the new order, their pins laid in gate order. Answers how many pins there are.
+fn move_gates(
+    gates: &[u32],
+    pins: &[u32],
+    table: &[u32],
+    order: &[u32],
+    new_gates: &mut [u32],
+    new_pins: &mut [u32],
+) -> usize
+    requires { ⌜ Movable (now gates) (now pins) (now order) (now «new_gates») (now «new_pins») ⌝ }
+    ensures { λ r. ⌜ Moved (now (gates .entry)) (now (pins .entry)) (now (table .entry)) (now (order .entry)) (now («new_gates» .entry)) (now («new_pins» .entry)) (now («new_gates» .exit)) (now («new_pins» .exit)) r ⌝ }
+{
+    let mut at = 0;
+    let mut i = 0;
+    while i < order.len() {
+        let g = order[i] as usize;
+        at = move_gate(gates, pins, table, g, i, new_gates, new_pins, at);
+        i += 1;
+    }
+    at
+}
+
+// Renumbers the first n outputs.
+fn move_outputs(table: &[u32], outputs: &mut [u32], n: usize)
+    requires { ⌜ n ≤ length (now outputs) ⌝ }
+    ensures { λ r. ⌜ now (outputs .exit) ≡ over (map (remapCell (now (table .entry))) (take n (now (outputs .entry)))) (now (outputs .entry)) ⌝ }
+{
+    let mut i = 0;
+    while i < n {
+        outputs[i] = Signal { a: outputs[i] }.remap_order(table).raw();
+        i += 1;
+    }
+}
+
+// Copies the gates in the new order and renumbers n outputs. Answers how many pins there are.
+fn renumber(
+    gates: &[u32],
+    pins: &[u32],
+    order: &[u32],
+    n: usize,
+    outputs: &mut [u32],
+    new_gates: &mut [u32],
+    new_pins: &mut [u32],
+) -> usize
+    requires { ⌜ Numbers (now order) ⌝ }
+    requires { ⌜ Movable (now gates) (now pins) (now order) (now «new_gates») (now «new_pins») ⌝ }
+    requires { ⌜ n ≤ length (now outputs) ⌝ }
+    ensures { λ r. ⌜ Renewed (now (gates .entry)) (now (pins .entry)) (now (order .entry)) n (now (outputs .entry)) (now («new_gates» .entry)) (now («new_pins» .entry)) (now (outputs .exit)) (now («new_gates» .exit)) (now («new_pins» .exit)) r ⌝ }
+{
+    let mut table = [0u32; 1024];
+    number_gates(order, &mut table);
+    move_outputs(&table, outputs, n);
+    move_gates(gates, pins, &table, order, new_gates, new_pins)
+}
+
+// Sorts the network in gates, pins and outputs into the new cells, and renumbers the outputs. At a loop nothing is written.
+pub fn topo_sort(
+    counts: Counts,
+    gates: &[u32],
+    pins: &[u32],
+    outputs: &mut [u32],
+    new_gates: &mut [u32],
+    new_pins: &mut [u32],
+) -> Sorted
+    requires { ⌜ Sortable (lent counts (now gates) (now pins) (now outputs)) (length (now «new_gates»)) (length (now «new_pins»)) ⌝ }
+    ensures { λ r. ⌜ outcome r (now («new_gates» .exit)) (now («new_pins» .exit)) (now (outputs .exit)) ≡ sortInto (sorted (netOf (lent counts (now (gates .entry)) (now (pins .entry)) (now (outputs .entry))))) (now («new_gates» .entry)) (now («new_pins» .entry)) (now (outputs .entry)) ⌝ }
+{
+    let n = counts.gates;
+    let mut order = [0u32; 1024];
+    if !find_order(gates, pins, n, &mut order) {
+        return Sorted::Loop;
+    }
+    let outs = counts.outputs;
+    let used = renumber(gates, pins, &order[..n], outs, outputs, new_gates, new_pins);
+    Sorted::Order(used)
+}
+
+// The same for any cells: refused, with nothing written, unless they are a network and the new cells have room for it.
+pub fn sort_network(
+    counts: Counts,
+    gates: &[u32],
+    pins: &[u32],
+    outputs: &mut [u32],
+    new_gates: &mut [u32],
+    new_pins: &mut [u32],
+) -> Attempt
+    ensures { λ r. ⌜ outcome r (now («new_gates» .exit)) (now («new_pins» .exit)) (now (outputs .exit)) ≡ sortLent (lent counts (now (gates .entry)) (now (pins .entry)) (now (outputs .entry))) (now («new_gates» .entry)) (now («new_pins» .entry)) ⌝ }
+{
+    if !check_layout(counts, gates, pins, outputs) {
+        return Attempt::Refused;
+    }
+    if new_gates.len() < counts.gates * GATE_CELLS {
+        return Attempt::Refused;
+    }
+    if new_pins.len() < counts.pins {
+        return Attempt::Refused;
+    }
+    Attempt::Done(topo_sort(counts, gates, pins, outputs, new_gates, new_pins))
 }

@@ -1,0 +1,151 @@
+-- The network that the cells hold, gate by gate. Assumes nothing.
+use mathlib.Core.Path.{_≡_, refl, sym, ap, _∙_, subst}
+use mathlib.Core.Bool.{Bool, true, _&&_, cond}
+use mathlib.Core.List.{List, map}
+use mathlib.Core.Option.{Option, none, some}
+use Prim.Native.Nat.{ℕ, zero, suc, _+_, _*_, _≤_, _<_}
+use native.Mathlib.Omega.{arith}
+use native.Mathlib.Nat.{zero-add}
+use lib.Dec.{leb, ltb}
+use lib.ListN.{length, getElem?, take, length-map}
+use borrow.Author.Tests.{ltb-true, leb-true}
+use Rattle.lists.specs.Lists.{range}
+use Rattle.lists.proofs.Tests.{by-test, and-left, and-right}
+use Rattle.lists.proofs.Range.{length-range, map-range}
+use Rattle.signal.specs.Cell.{sigOf}
+use Rattle.gates.specs.Gate.{And2, Xor2, And3, Xor3, Maj3, Mux3, AndN, OrN, NandN, NorN, XorN, XnorN, Buf, Gate, Comb, Dff, pins, isComb}
+use Rattle.gates.specs.Forms.{formCell, kindOf, gateFrom}
+use Rattle.gates.specs.Decode.{kindComb}
+use Rattle.gates.proofs.Forms.{From, gate-from}
+use Rattle.network.specs.declared.Counts.{Counts}
+use Rattle.network.specs.Cells.{gateWidth, formAt, firstAt, countAt, runAt, gateAt, orBuf, lent, netOf, pinCells}
+use Rattle.sort.specs.Order.{Graph, useCount}
+use Rattle.sort.specs.Sorted.{gateNums, combAt, insAt, graph}
+use Rattle.sort.specs.Into.{Sortable}
+use Rattle.sort.specs.Steps.{ValidGraph, gateIns, formComb, cellGates, cellComb, cellIns, cellGraph, HasRun, Cells}
+use Rattle.sort.proofs.Naming.{ins-nums}
+use Rattle.sort.proofs.Sorting.{graph-valid}
+use Rattle.sort.proofs.Keeps.{uses-within}
+
+-- ---- a gate that can be read
+
+-- a form number's kind is combinational where the gate is
+comb-number : (x : Gate) → kindComb (kindOf (formCell x)) ≡ isComb x
+comb-number (Comb And2 ps) = refl
+comb-number (Comb Xor2 ps) = refl
+comb-number (Comb And3 ps) = refl
+comb-number (Comb Xor3 ps) = refl
+comb-number (Comb Maj3 ps) = refl
+comb-number (Comb Mux3 ps) = refl
+comb-number (Comb AndN ps) = refl
+comb-number (Comb OrN ps) = refl
+comb-number (Comb NandN ps) = refl
+comb-number (Comb NorN ps) = refl
+comb-number (Comb XorN ps) = refl
+comb-number (Comb XnorN ps) = refl
+comb-number (Comb Buf ps) = refl
+comb-number (Dff s) = refl
+
+module _ (cells ps : List ℕ) (g : ℕ) (x : Gate) (e : gateAt cells ps g ≡ some x) where
+  abbrev first : Bool
+  first = ltb (g * gateWidth + 2) (length cells)
+
+  abbrev last : Bool
+  last = leb (firstAt cells g + countAt cells g) (length ps)
+
+  abbrev inside : Bool
+  inside = first && last
+
+  opened : cond inside (gateFrom (formAt cells g) (map sigOf (runAt cells ps g))) none ≡ some x
+  unfolding gateAt
+  opened = e
+
+  is-inside : inside ≡ true
+  is-inside = by-test inside (λ t. t) (λ t. let q : none ≡ some x = rw t at opened in let z : _≡_ {A = ℕ} 0 1 = cc in absurd (omega arith))
+
+  pub has-run : HasRun cells ps g
+  has-run =
+      record {
+        cells = ltb-true (g * gateWidth + 2) (length cells) (and-left first last is-inside);
+        within = leb-true (firstAt cells g + countAt cells g) (length ps) (and-right first last is-inside);
+      }
+
+  pub gate-is : From (formAt cells g) (map sigOf (runAt cells ps g)) x
+  gate-is = gate-from (formAt cells g) (map sigOf (runAt cells ps g)) x (rw is-inside at opened)
+
+  pub form-comb : formComb cells g ≡ isComb x
+  unfolding formComb
+  form-comb = ap (λ (n : ℕ). kindComb (kindOf n)) (sym (gate-is .number)) ∙ comb-number x
+
+  pub run-nums : gateIns (runAt cells ps g) ≡ gateNums (pins x)
+  run-nums = ins-nums (runAt cells ps g) ∙ ap gateNums (sym (gate-is .all-pins))
+
+  pub run-pins : length (runAt cells ps g) ≡ length (pins x)
+  run-pins = sym (length-map (runAt cells ps g) sigOf) ∙ ap length (sym (gate-is .all-pins))
+
+-- ---- all gates
+
+pub cell-gate : (cells ps : List ℕ) (n g : ℕ) (x : Gate) → g < n → gateAt cells ps g ≡ some x → getElem? (cellGates cells ps n) g ≡ some x
+cell-gate cells ps n g x l e =
+    map-range (λ (k : ℕ). orBuf (gateAt cells ps k)) 0 n g l
+    ∙ ap (λ (k : ℕ). some (orBuf (gateAt cells ps k))) (zero-add g)
+    ∙ ap (λ (o : Option Gate). some (orBuf o)) e
+
+pub cell-count : (cells ps : List ℕ) (n : ℕ) → length (cellGates cells ps n) ≡ n
+cell-count cells ps n = length-map (range 0 n) (λ (k : ℕ). orBuf (gateAt cells ps k)) ∙ length-range 0 n
+
+module _ (n : Counts) (gs ps os : List ℕ) where
+  pub net-gates : netOf (lent n gs ps os) .gates ≡ cellGates gs ps (n .gates)
+  unfolding netOf
+  net-gates = refl
+
+  pub net-outputs : netOf (lent n gs ps os) .outputs ≡ map sigOf (take (n .outputs) os)
+  unfolding netOf
+  net-outputs = refl
+
+  pub net-size : length (netOf (lent n gs ps os) .gates) ≡ n .gates
+  net-size = ap length net-gates ∙ cell-count gs ps (n .gates)
+
+  -- the graph of the cells is the network's
+  pub graph-cells : graph (netOf (lent n gs ps os)) ≡ cellGraph gs ps (n .gates)
+  unfolding netOf cellComb cellIns
+  graph-cells = λ i.
+      record {
+        size = cell-count gs ps (n .gates) i;
+        comb = λ g. combAt (getElem? (cellGates gs ps (n .gates)) g);
+        ins = λ g. insAt (getElem? (cellGates gs ps (n .gates)) g);
+      }
+
+  module _ {a b : ℕ} (s : Sortable (lent n gs ps os) a b) where
+    cell-comb : (g : ℕ) → g < n .gates → formComb gs g ≡ cellComb gs ps (n .gates) g
+    unfolding cellComb
+    cell-comb g l =
+        let r = s .readable g l in
+        form-comb gs ps g (r .0) (r .1) ∙ sym (ap combAt (cell-gate gs ps (n .gates) g (r .0) l (r .1)))
+
+    cell-ins : (g : ℕ) → g < n .gates → gateIns (runAt gs ps g) ≡ cellIns gs ps (n .gates) g
+    unfolding cellIns
+    cell-ins g l =
+        let r = s .readable g l in
+        run-nums gs ps g (r .0) (r .1) ∙ sym (ap insAt (cell-gate gs ps (n .gates) g (r .0) l (r .1)))
+
+    pub sortable-cells : Cells gs ps (n .gates)
+    sortable-cells =
+        record {
+          few = s .few;
+          runs = λ g l. let r = s .readable g l in has-run gs ps g (r .0) (r .1);
+          combs = cell-comb;
+          inputs = cell-ins;
+          valid = subst ValidGraph graph-cells (graph-valid (netOf (lent n gs ps os)) (s .valid));
+          counted = λ v.
+              let u : useCount (cellGraph gs ps (n .gates)) v ≤ length (pinCells (netOf (lent n gs ps os) .gates)) =
+              subst (λ (G : Graph). useCount G v ≤ length (pinCells (netOf (lent n gs ps os) .gates))) graph-cells (uses-within (netOf (lent n gs ps os)) v) in
+              omega (arith, u, s .fewPins);
+        }
+
+pub gates-room : {gs ps : List ℕ} {n : ℕ} → Cells gs ps n → n * gateWidth ≤ length gs
+gates-room {gs} {ps} {n} h = go n (h .runs)
+  where
+    go : (k : ℕ) → ((g : ℕ) → g < k → HasRun gs ps g) → k * gateWidth ≤ length gs
+    go zero r = omega arith
+    go (suc k) r = omega (arith, r k (omega arith) .cells)

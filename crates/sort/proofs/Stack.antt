@@ -1,0 +1,154 @@
+-- The stack in cells, and what lowering counts leaves of it. Assumes nothing.
+use mathlib.Core.Path.{_≡_, refl, sym, ap, _∙_}
+use mathlib.Core.Bool.{true, false}
+use mathlib.Core.List.{List, [], _∷_, _++_}
+use mathlib.Core.Logic.{⊎-elim}
+use Prim.Native.Nat.{ℕ, zero, suc, _+_, _-_, _≤_, _<_}
+use native.Mathlib.Omega.{arith}
+use native.Mathlib.Numerals.{add-one}
+use lib.ListN.{length, getD, drop, set, drop-of-length-le}
+use lib.Seq.{getD-set-same, getD-set-other}
+use Rattle.lists.specs.Lists.{occ}
+use Rattle.lists.proofs.Counting.{hit-or, sum-occ, sum-le}
+use Rattle.signal.specs.Signal.{gateNode}
+use Rattle.signal.specs.Cell.{nodeOf, gateNumber}
+use Rattle.network.specs.Cells.{maxGates}
+use Rattle.sort.specs.Order.{Graph, lowered, pushed, countsAfter, stackAfter}
+use Rattle.sort.specs.Steps.{Good, named, gateIns, down, Walks, Lowers, Lowered}
+use Rattle.sort.proofs.Walk.{good-lower, next-below, next-count, next-fresh}
+use Rattle.sort.proofs.Naming.{named-gate, named-none, named-own, drop-next}
+
+pub length-down : (k : ℕ) (l : List ℕ) → length (down k l) ≡ k
+length-down zero l = refl
+length-down (suc k) l = ap suc (length-down k l)
+
+pub down-set : (k : ℕ) (l : List ℕ) (i x : ℕ) → k ≤ i → down k (set l i x) ≡ down k l
+down-set zero l i x h = refl
+down-set (suc k) l i x h =
+    let a : getD (set l i x) k 0 ≡ getD l k 0 = getD-set-other l i k x 0 (λ e. omega arith) in
+    let b : down k (set l i x) ≡ down k l = down-set k l i x (omega arith) in
+    cc
+
+pub down-push : (l : List ℕ) (i x : ℕ) → i < length l → down (i + 1) (set l i x) ≡ x ∷ down i l
+down-push l i x h =
+    let a : getD (set l i x) i 0 ≡ x = getD-set-same l i x 0 h in
+    let b : down i (set l i x) ≡ down i l = down-set i l i x (omega arith) in
+    rw add-one (rw (a, b) refl)
+
+-- ---- lowering
+
+pub countsAfter-append : (a b c : List ℕ) → countsAfter (a ++ b) c ≡ countsAfter b (countsAfter a c)
+countsAfter-append [] b c = refl
+countsAfter-append (d ∷ a) b c = countsAfter-append a b (lowered c d)
+
+pub stackAfter-append : (a b c st : List ℕ) → stackAfter (a ++ b) c st ≡ stackAfter b (countsAfter a c) (stackAfter a c st)
+stackAfter-append [] b c st = refl
+stackAfter-append (d ∷ a) b c st = stackAfter-append a b (lowered c d) (pushed (getD c d 0 - 1) d st)
+
+-- the first of several inputs
+pub good-part : (G : Graph) (a b c st done : List ℕ) → Good G c st done (a ++ b) → Good G (countsAfter a c) (stackAfter a c st) done b
+good-part G [] b c st done g = g
+good-part G (d ∷ a) b c st done g = good-part G a b (lowered c d) (pushed (getD c d 0 - 1) d st) done (good-lower G c st done d (a ++ b) g)
+
+-- there is room on the stack for the next input
+pub next-room : (G : Graph) (c st done : List ℕ) (d : ℕ) (rest : List ℕ) → Good G c st done (d ∷ rest) → length st < G .size
+next-room G c st done d rest g =
+    omega (
+      arith,
+      sum-occ (G .size) (d ∷ st)
+          (λ v p. ⊎-elim (λ w. rw (w .0) (next-below G c st done d rest g)) (λ w. g .low v (omega (arith, w .1)) .0) (hit-or v d)),
+      sum-le (G .size) (λ v. occ v (d ∷ st))
+          (λ v l.
+          ⊎-elim
+          (λ w. omega (arith, w .1, ap (λ (x : ℕ). occ x st) (w .0), next-fresh G c st done d rest g))
+          (λ w. omega (arith, w .1, g .once v))
+          (hit-or v d)),
+    )
+
+-- what lowering one pin asks
+pub walks-next : (c st : List ℕ) (s : ℕ) (pins : List ℕ) → Walks c st (s ∷ pins) → Lowers s c (length st)
+walks-next c st s pins w =
+    record {
+      below = λ e. omega (arith, w .few, next-below (w .graph) c st (w .done) (gateNumber s) (gateIns pins) (g e));
+      used = λ e. next-count (w .graph) c st (w .done) (gateNumber s) (gateIns pins) (g e);
+      room = λ e. omega (arith, w .few, next-room (w .graph) c st (w .done) (gateNumber s) (gateIns pins) (g e));
+    }
+  where
+    g : gateNode (nodeOf s) ≡ true → Good (w .graph) c st (w .done) (gateNumber s ∷ gateIns pins)
+    g e =
+        let q : named s ++ gateIns pins ≡ gateNumber s ∷ gateIns pins = ap (λ (l : List ℕ). l ++ gateIns pins) (named-gate s e) in
+        rw q at (w .good)
+
+pub walks-after : (c st : List ℕ) (s : ℕ) (pins : List ℕ) (c′ st′ : List ℕ) → Walks c st (s ∷ pins) → Lowered (named s) c st c′ st′ → Walks c′ st′ pins
+walks-after c st s pins c′ st′ w l =
+    record {
+      graph = w .graph;
+      done = w .done;
+      few = w .few;
+      good = rw (l .counts, l .stack) (good-part (w .graph) (named s) (gateIns pins) c st (w .done) (w .good));
+    }
+
+-- ---- lowering one pin
+
+pushed-zero : (m d : ℕ) (st : List ℕ) → m ≡ 0 → pushed m d st ≡ d ∷ st
+pushed-zero m d st e = rw e
+
+pushed-more : (m d : ℕ) (st : List ℕ) → (m ≡ 0 → ⊥) → pushed m d st ≡ st
+pushed-more zero d st e = absurd (e refl)
+pushed-more (suc m) d st e = refl
+
+pub lowered-none : (s : ℕ) {c st : List ℕ} → gateNode (nodeOf s) ≡ false → Lowered (named s) c st c st
+lowered-none s e = record { counts = rw (named-none s e); stack = rw (named-none s e) }
+
+pub lowered-stay : (s : ℕ) {d : ℕ} {c st : List ℕ} → gateNode (nodeOf s) ≡ true → d ≡ gateNumber s → d < length c → (getD (lowered c d) d 0 ≡ 0 → ⊥) → Lowered (named s) c st (lowered c d) st
+lowered-stay s {d} {c} {st} e q l z =
+    record {
+      counts = rw (named-own s e q);
+      stack = rw (named-own s e q) (sym (pushed-more (getD c d 0 - 1) d st (λ y. z (getD-set-same c d (getD c d 0 - 1) 0 l ∙ y))));
+    }
+
+pub lowered-push : (s : ℕ) {d : ℕ} {c st st′ : List ℕ} → gateNode (nodeOf s) ≡ true → d ≡ gateNumber s → d < length c → getD (lowered c d) d 0 ≡ 0 → st′ ≡ d ∷ st → Lowered (named s) c st (lowered c d) st′
+lowered-push s {d} {c} {st} e q l z p =
+    record {
+      counts = rw (named-own s e q);
+      stack = rw (named-own s e q) (p ∙ sym (pushed-zero (getD c d 0 - 1) d st (sym (getD-set-same c d (getD c d 0 - 1) 0 l) ∙ z)));
+    }
+
+-- ---- lowering all pins of a gate
+
+-- what is still to do from pin i on is what was to do at first
+pub record Lowering (pins c₀ st₀ : List ℕ) (top : ℕ) (c st : List ℕ) (t i : ℕ) : Type 0 where
+  pub within : i ≤ length pins
+  pub counts-long : length c ≡ maxGates
+  pub stack-long : length st ≡ maxGates
+  pub walks : Walks c (down t st) (drop i pins)
+  pub counts : countsAfter (gateIns (drop i pins)) c ≡ countsAfter (gateIns pins) c₀
+  pub stack : stackAfter (gateIns (drop i pins)) c (down t st) ≡ stackAfter (gateIns pins) c₀ (down top st₀)
+
+pub lowering-start : {pins c st : List ℕ} {top : ℕ} → length c ≡ maxGates → length st ≡ maxGates → Walks c (down top st) pins → Lowering pins c st top c st top 0
+lowering-start lc ls w = record { within = omega arith; counts-long = lc; stack-long = ls; walks = w; counts = refl; stack = refl }
+
+module _ {pins c₀ st₀ : List ℕ} {top : ℕ} {c st : List ℕ} {t i : ℕ} (l : i < length pins) (h : Lowering pins c₀ st₀ top c st t i) where
+  pub lowering-asks : Lowers (getD pins i 0) c t
+  lowering-asks = rw (length-down t st) at (walks-next c (down t st) (getD pins i 0) (drop (i + 1) pins) (rw (drop-next pins i l) at (h .walks)))
+
+  pub lowering-next : {c′ st′ : List ℕ} {t′ : ℕ} → length c′ ≡ length c → length st′ ≡ length st
+      → Lowered (named (getD pins i 0)) c (down t st) c′ (down t′ st′) → Lowering pins c₀ st₀ top c′ st′ t′ (i + 1)
+  lowering-next {c′} {st′} {t′} kc ks e =
+      let s = getD pins i 0 in
+      let r = gateIns (drop (i + 1) pins) in
+      let q : gateIns (drop i pins) ≡ named s ++ r = ap gateIns (drop-next pins i l) in
+      record {
+        within = omega arith;
+        counts-long = kc ∙ h .counts-long;
+        stack-long = ks ∙ h .stack-long;
+        walks = walks-after c (down t st) s (drop (i + 1) pins) c′ (down t′ st′) (rw (drop-next pins i l) at (h .walks)) e;
+        counts = rw (e .counts) (sym (countsAfter-append (named s) r c) ∙ (rw q at (h .counts)));
+        stack = rw (e .counts, e .stack) (sym (stackAfter-append (named s) r c (down t st)) ∙ (rw q at (h .stack)));
+      }
+
+pub lowering-done : {pins c₀ st₀ : List ℕ} {top : ℕ} {c st : List ℕ} {t i : ℕ} → length pins ≤ i → Lowering pins c₀ st₀ top c st t i
+    → Lowered (gateIns pins) c₀ (down top st₀) c (down t st)
+lowering-done {pins} {i = i} l h =
+    let e : drop i pins ≡ [] = drop-of-length-le pins l in
+    record { counts = rw e at (h .counts); stack = rw e at (h .stack) }

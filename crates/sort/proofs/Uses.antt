@@ -1,0 +1,65 @@
+-- The use counts, gate by gate. Assumes nothing.
+use mathlib.Core.Path.{_≡_, refl, sym, ap, _∙_}
+use mathlib.Core.Bool.{true, false}
+use mathlib.Core.List.{List, []}
+use mathlib.Core.Logic.{⊎-elim}
+use Prim.Native.Nat.{ℕ, zero, suc, _+_, _≤_, _<_}
+use native.Mathlib.Omega.{arith}
+use native.Mathlib.Numerals.{add-one}
+use lib.ListN.{length, getD, replicate, length-replicate}
+use Rattle.lists.specs.Lists.{occ, sumTo}
+use Rattle.lists.proofs.Counting.{last-or}
+use Rattle.network.specs.Cells.{maxGates, runAt}
+use Rattle.sort.specs.Order.{Graph, uses, useCount}
+use Rattle.sort.specs.Steps.{gateIns, formComb, cellGraph, Cells, Raised, Countable, Counted}
+use Rattle.sort.proofs.Walk.{uses-comb, uses-flop, uses-ins}
+
+pub getD-zeros : (k v : ℕ) → getD {A = ℕ} (replicate k 0) v 0 ≡ 0
+getD-zeros zero v = refl
+getD-zeros (suc k) zero = refl
+getD-zeros (suc k) (suc v) = getD-zeros k v
+
+-- a gate's uses in cells
+module _ {gates pins : List ℕ} {n g : ℕ} (h : Cells gates pins n) (l : g < n) where
+  pub flop-uses : formComb gates g ≡ false → uses (cellGraph gates pins n) g ≡ []
+  flop-uses e = uses-flop (cellGraph gates pins n) g (sym (h .combs g l) ∙ e)
+
+  pub comb-uses : formComb gates g ≡ true → gateIns (runAt gates pins g) ≡ uses (cellGraph gates pins n) g
+  comb-uses e = h .inputs g l ∙ sym (uses-comb (cellGraph gates pins n) g (sym (h .combs g l) ∙ e))
+
+-- a part of the sum is at most the whole
+part-sum : (f : ℕ → ℕ) (n k : ℕ) → k ≤ n → sumTo k f ≤ sumTo n f
+part-sum f zero k l = let e : k ≡ 0 = omega arith in omega (arith, ap (λ (m : ℕ). sumTo m f) e)
+part-sum f (suc n) k l =
+    ⊎-elim
+    (λ e. omega (arith, ap (λ (m : ℕ). sumTo m f) e))
+    (λ w. omega (arith, part-sum f n k (omega arith)))
+    (last-or {v = k} {n = suc n} (omega arith))
+
+-- the counts of the uses of the first k gates
+pub record CountedTo (G : Graph) (c : List ℕ) (k : ℕ) : Type 0 where
+  pub within : k ≤ G .size
+  pub long : length c ≡ maxGates
+  pub each : (v : ℕ) → getD c v 0 ≡ sumTo k (λ g. occ v (uses G g))
+
+pub counted-start : {G : Graph} {c : List ℕ} → c ≡ replicate maxGates 0 → CountedTo G c 0
+counted-start e = record { within = omega arith; long = rw e (length-replicate {A = ℕ} maxGates 0); each = λ v. rw e (getD-zeros maxGates v) }
+
+pub counted-asks : {gates pins : List ℕ} {n : ℕ} {c : List ℕ} {k : ℕ} → Cells gates pins n → k < n → CountedTo (cellGraph gates pins n) c k
+    → Countable (uses (cellGraph gates pins n) k) c
+unfolding useCount
+counted-asks {gates} {pins} {n} {c} {k} h l q =
+    let G = cellGraph gates pins n in
+    record {
+      index = λ v p. omega (arith, h .few, q .long, h .valid k v l (uses-ins G k v p .1));
+      small = λ v. omega (arith, q .each v, h .counted v, part-sum (λ g. occ v (uses G g)) n (suc k) l);
+    }
+
+pub counted-next : {G : Graph} {c c′ : List ℕ} {k : ℕ} → k < G .size → CountedTo G c k → length c′ ≡ length c → Raised (uses G k) c c′ → CountedTo G c′ (k + 1)
+counted-next l h q r = record { within = omega arith; long = q ∙ h .long; each = λ v. rw add-one (omega (arith, h .each v, r .each v)) }
+
+pub counted-done : {G : Graph} {c : List ℕ} {k : ℕ} → G .size ≤ k → CountedTo G c k → Counted G c
+unfolding useCount
+counted-done {G} {c} {k} l h =
+    let e : k ≡ G .size = omega (arith, h .within) in
+    record { each = λ v. rw e at (h .each v) }

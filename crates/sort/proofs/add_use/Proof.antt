@@ -1,0 +1,69 @@
+-- `add_use` raises the count of the gate that a pin names. Assumes nothing.
+use mathlib.Core.Path.{_≡_, sym, _∙_}
+use mathlib.Core.Bool.{true}
+use Prim.Native.Nat.{_+_, _≤_, _<_}
+use native.Mathlib.Omega.{arith}
+use lib.ListN.{length, getD}
+use borrow.Author.Needs.{needs}
+use Rattle.signal.specs.Cell.{nodeOf}
+use Rattle.signal.specs.Signal.{gateNode}
+use Rattle.network.specs.Cells.{maxPins}
+use Rattle.sort.proofs.Naming.{occ-own, named-none, raised-gate, raised-none}
+use Rattle.sort.proofs.add_use.Statement.{statement}
+use Rattle.sort.proofs.add_use.Tie as tie
+
+is-var-requires : tie.Need-is-var-requires
+is-var-requires c κs = search needs
+
+var-requires : tie.Need-var-requires
+var-requires c κs = search needs
+
+cast-g : tie.Need-cast-g
+cast-g c = search needs
+
+mul-counts : tie.Need-mul-counts
+mul-counts c = search needs
+
+is : (c : tie.After-var) → gateNode (nodeOf (c .before .before .before .before .args .s)) ≡ true
+is c = sym (c .before .before .is-var .ensures) ∙ c .before .if1 .taken
+
+-- the gate's number is an index of the counts, and its count can be raised
+fits : (c : tie.After-var) → (c .var .result < length (c .before .before .before .before .args .counts .now))
+    × (getD (c .before .before .before .before .args .counts .now) (c .var .result) 0 + 1 ≤ maxPins)
+fits c =
+    let s = c .before .before .before .before in
+    let o = occ-own (s .args .s) (is c) (c .var .ensures) in
+    (s .pre .index (c .var .result) (omega (arith, o)), omega (arith, o, s .pre .small (c .var .result)))
+
+slice-read-counts : tie.Need-slice-read-counts
+slice-read-counts c = fits (c .before) .0
+
+add-counts : tie.Need-add-counts
+add-counts c = omega (arith, fits (c .before))
+
+slice-write-counts : tie.Need-slice-write-counts
+slice-write-counts c = fits (c .before) .0
+
+same-length : tie.Need-same-length
+same-length c = search needs
+
+returns : tie.Need-returns
+returns c = raised-gate _ (is (c .before)) (c .before .var .ensures) (fits (c .before) .0)
+
+returns-2 : tie.Need-returns-2
+returns-2 c = raised-none (named-none _ (sym (c .before .is-var .ensures) ∙ c .if1 .left))
+
+pub add-use-spec : {M : Type 1} → statement M
+add-use-spec =
+    tie.close
+    (tie.spec
+    is-var-requires
+    var-requires
+    cast-g
+    mul-counts
+    slice-read-counts
+    add-counts
+    slice-write-counts
+    same-length
+    returns
+    returns-2)

@@ -1,0 +1,58 @@
+-- `add_uses` counts one pin after the other. Assumes nothing.
+use Prim.Native.Nat.{_-_}
+use native.Mathlib.Omega.{arith}
+use lib.ListN.{length}
+use Rattle.sort.proofs.Naming.{Counting, counting-start, counting-asks, counting-next, counting-done}
+use Rattle.sort.proofs.add_uses.Statement.{statement}
+use Rattle.sort.proofs.add_uses.Tie as tie
+
+abbrev Inv-loop : tie.InvT-loop
+Inv-loop pins counts₀ i₀ counts i = Counting pins counts₀ counts i
+
+abbrev μ-loop : tie.MeasureT-loop
+μ-loop pins counts₀ i₀ counts i = length pins - i
+
+loop-holds : tie.Need-loop-holds Inv-loop μ-loop
+loop-holds c = counting-start (c .before .before .pre)
+
+mul-add-use : tie.Need-mul-add-use Inv-loop μ-loop
+mul-add-use c = omega arith
+
+shared-slice-read-add-use : tie.Need-shared-slice-read-add-use Inv-loop μ-loop
+shared-slice-read-add-use c = omega arith
+
+add-use-requires : tie.Need-add-use-requires Inv-loop μ-loop
+add-use-requires c κs = counting-asks (c .before .before .loop-test .taken) (c .before .before .before .loop .inv)
+
+add-i : tie.Need-add-i Inv-loop μ-loop
+add-i c = omega arith
+
+loop-less : tie.Need-loop-less Inv-loop μ-loop
+loop-less c = omega arith
+
+loop-again : tie.Need-loop-again Inv-loop μ-loop
+loop-again c =
+    let a = c .before .before in
+    counting-next (a .before .before .before .loop-test .taken) (a .before .before .before .before .loop .inv) (a .add-use .kept .1 .0) (a .add-use .ensures)
+
+same-length : tie.Need-same-length Inv-loop μ-loop
+same-length c = c .before .loop .inv .long
+
+returns : tie.Need-returns Inv-loop μ-loop
+returns c = counting-done (c .loop-test .left) (c .before .loop .inv)
+
+pub add-uses-spec : {M : Type 1} → statement M
+add-uses-spec =
+    tie.close
+    (tie.spec
+    Inv-loop
+    μ-loop
+    loop-holds
+    mul-add-use
+    shared-slice-read-add-use
+    add-use-requires
+    add-i
+    loop-less
+    loop-again
+    same-length
+    returns)

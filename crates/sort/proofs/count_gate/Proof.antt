@@ -1,0 +1,45 @@
+-- `count_gate` counts the pins of a combinational gate. Assumes nothing.
+use mathlib.Core.Path.{sym, ap, _∙_}
+use borrow.Author.Tests.{not-true, not-false}
+use borrow.Author.Needs.{needs}
+use Rattle.sort.specs.Steps.{gateIns}
+use Rattle.sort.proofs.Uses.{flop-uses, comb-uses}
+use Rattle.sort.proofs.Naming.{raised-none, raised-as, countable-as}
+use Rattle.sort.proofs.count_gate.Statement.{statement}
+use Rattle.sort.proofs.count_gate.Tie as tie
+
+is-comb-requires : tie.Need-is-comb-requires
+is-comb-requires c κs =
+    let s = c .before .before .before in
+    s .pre .0 .runs _ (s .pre .1 .0) .cells
+
+returns : tie.Need-returns
+returns c =
+    let s = c .before .before .before .before .before in
+    raised-none (flop-uses (s .pre .0) (s .pre .1 .0) (sym (c .before .is-comb .ensures) ∙ not-true _ (c .if1 .taken)))
+
+gate-pins-requires : tie.Need-gate-pins-requires
+gate-pins-requires c κs =
+    let s = c .before .before .before .before .before in
+    s .pre .0 .runs _ (s .pre .1 .0)
+
+add-uses-requires : tie.Need-add-uses-requires
+add-uses-requires c κs =
+    let s = c .before .before .before .before .before .before .before in
+    let t = sym (c .before .before .before .is-comb .ensures) ∙ not-false _ (c .before .before .if1 .left) in
+    countable-as (sym (ap gateIns (c .before .gate-pins .ensures) ∙ comb-uses (s .pre .0) (s .pre .1 .0) t)) (s .pre .1 .1)
+
+same-length : tie.Need-same-length
+same-length c = search needs
+
+returns-2 : tie.Need-returns-2
+returns-2 c =
+    let s = c .before .before .before .before .before .before .before .before .before .before in
+    let p = c .before .before .before .before in
+    let t = sym (p .before .before .is-comb .ensures) ∙ not-false _ (p .before .if1 .left) in
+    raised-as (ap gateIns (p .gate-pins .ensures) ∙ comb-uses (s .pre .0) (s .pre .1 .0) t) (c .before .before .add-uses .ensures)
+
+pub count-gate-spec : {M : Type 1} → statement M
+count-gate-spec =
+    tie.close
+    (tie.spec is-comb-requires returns gate-pins-requires add-uses-requires same-length returns-2)

@@ -1,0 +1,72 @@
+-- `sort_network` tests the cells before it sorts them. Assumes nothing.
+use mathlib.Core.Path.{sym, _∙_}
+use native.Mathlib.Omega.{arith}
+use borrow.Author.Tests.{not-true, not-false}
+use borrow.Author.Needs.{needs}
+use Rattle.network.proofs.Lent.{network-sizes}
+use Rattle.sort.proofs.Lending.{network-sortable, no-network, no-gate-room, no-pin-room, sorts}
+use Rattle.sort.proofs.sort_network.Statement.{statement}
+use Rattle.sort.proofs.sort_network.Tie as tie
+
+check-layout-requires : tie.Need-check-layout-requires
+check-layout-requires c κs = search needs
+
+same-length : tie.Need-same-length
+same-length c = search needs
+
+returns : tie.Need-returns
+returns c = no-network _ _ _ (sym (c .before .check-layout .ensures) ∙ not-true _ (c .if1 .taken))
+
+mul-if2 : tie.Need-mul-if2
+mul-if2 c = omega (arith, network-sizes _ (sym (c .before .before .check-layout .ensures) ∙ not-false _ (c .before .if1 .left)) .few-gates)
+
+same-length-2 : tie.Need-same-length-2
+same-length-2 c = search needs
+
+returns-2 : tie.Need-returns-2
+returns-2 c = no-gate-room _ _ _ (c .if2 .taken)
+
+same-length-3 : tie.Need-same-length-3
+same-length-3 c = search needs
+
+returns-3 : tie.Need-returns-3
+returns-3 c = no-pin-room _ _ _ (c .if3 .taken)
+
+topo-sort-requires : tie.Need-topo-sort-requires
+topo-sort-requires c κs =
+    network-sortable _ _ _
+    (record { pinWords = λ i. omega (arith, c .before .before .before .before .before .before .before .before .before .before .before .before .before .shared-slice-known2 .given i); outWords = λ i. omega (arith, c .before .before .before .before .before .before .before .before .before .before .before .before .slice-known .given i) })
+    (sym (c .before .before .before .before .before .before .before .before .check-layout .ensures) ∙ not-false _ (c .before .before .before .before .before .before .before .if1 .left))
+    (c .before .before .before .before .before .if2 .left) (c .before .before .before .if3 .left)
+
+same-length-4 : tie.Need-same-length-4
+same-length-4 c = search needs
+
+same-length-5 : tie.Need-same-length-5
+same-length-5 c = search needs
+
+same-length-6 : tie.Need-same-length-6
+same-length-6 c = search needs
+
+returns-4 : tie.Need-returns-4
+returns-4 c =
+    sorts _ _ _ (sym (c .before .before .before .before .before .before .before .before .before .before .before .before .before .before .before .check-layout .ensures) ∙ not-false _ (c .before .before .before .before .before .before .before .before .before .before .before .before .before .before .if1 .left))
+    (c .before .before .before .before .before .before .before .before .before .before .before .before .if2 .left) (c .before .before .before .before .before .before .before .before .before .before .if3 .left) _ _ _ _ (c .before .before .before .before .before .before .topo-sort .ensures)
+
+pub sort-network-spec : {M : Type 1} → statement M
+sort-network-spec =
+    tie.close
+    (tie.spec
+    check-layout-requires
+    same-length
+    returns
+    mul-if2
+    same-length-2
+    returns-2
+    same-length-3
+    returns-3
+    topo-sort-requires
+    same-length-4
+    same-length-5
+    same-length-6
+    returns-4)

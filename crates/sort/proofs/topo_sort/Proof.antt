@@ -1,0 +1,73 @@
+-- `topo_sort` finds the order and renumbers by it. Assumes nothing.
+use mathlib.Core.Path.{sym}
+use Prim.Native.Nat.{ℕ}
+use native.Mathlib.Omega.{arith}
+use lib.Seq.{length-take-le}
+use lib.ListN.{length-replicate}
+use borrow.Author.Tests.{not-true, not-false}
+use borrow.Author.Needs.{needs}
+use Rattle.network.specs.Cells.{maxGates}
+use Rattle.sort.proofs.Ending.{found-some, found-none, ends-loop, ends-sorted, order-numbers, order-movable}
+use Rattle.sort.proofs.Reading.{sortable-cells, gates-room}
+use Rattle.sort.proofs.topo_sort.Statement.{statement}
+use Rattle.sort.proofs.topo_sort.Tie as tie
+
+slice-aggregate-find-order : tie.Need-slice-aggregate-find-order
+slice-aggregate-find-order c = search needs
+
+find-order-requires : tie.Need-find-order-requires
+find-order-requires c κs =
+    let h = sortable-cells _ _ _ _ (c .before .before .before .before .before .before .pre) in
+    (h, (gates-room h, omega (arith, h .few, length-replicate {A = ℕ} maxGates 0)))
+
+returns : tie.Need-returns
+returns c =
+    let f = c .before .before .find-order in
+    ends-loop _ _ _ _ _ _ (found-none (f .result) _ (not-true _ (c .if1 .taken)) (f .ensures)) (c .before .before .before .before .before .before .before .before .before .pre)
+
+array-share-prefix-order : tie.Need-array-share-prefix-order
+array-share-prefix-order c = search needs
+
+slice-aggregate-renumber : tie.Need-slice-aggregate-renumber
+slice-aggregate-renumber c =
+    let p = c .before .before .before .before .before .before .before .before .before .before .pre in
+    let f = c .before .before .before .find-order in
+    sym (length-take-le _ _ (omega (arith, p .few, f .kept .1 .1 .1 .0, length-replicate {A = ℕ} maxGates 0)))
+
+renumber-requires : tie.Need-renumber-requires
+renumber-requires c κs =
+    let p = c .before .before .before .before .before .before .before .before .before .before .before .before .before .pre in
+    let f = c .before .before .before .before .before .before .find-order in
+    let o = found-some (f .result) (not-false _ (c .before .before .before .before .if1 .left)) (f .ensures) in
+    (order-numbers _ _ _ _ p _ o, (order-movable _ _ _ _ p _ o _ _ (p .room) (p .pinRoom), p .outputs))
+
+same-length : tie.Need-same-length
+same-length c = search needs
+
+same-length-2 : tie.Need-same-length-2
+same-length-2 c = search needs
+
+same-length-3 : tie.Need-same-length-3
+same-length-3 c = search needs
+
+returns-2 : tie.Need-returns-2
+returns-2 c =
+    let s = c .before .before .before .before .before .before .before .before .before .before .before .before .before .before .before .before .before .before .before .before in
+    let f = c .before .before .before .before .before .before .before .before .before .before .before .before .before .find-order in
+    let o = found-some (f .result) (not-false _ (c .before .before .before .before .before .before .before .before .before .before .before .if1 .left)) (f .ensures) in
+    ends-sorted _ _ _ _ (s .pre) _ o (λ i. omega (arith, c .before .before .before .before .before .before .before .before .before .before .before .before .before .before .before .before .before .before .shared-slice-known2 .given i)) (λ i. omega (arith, c .before .before .before .before .before .before .before .before .before .before .before .before .before .before .before .before .before .slice-known .given i)) (c .before .before .before .before .before .before .renumber .ensures)
+
+pub topo-sort-spec : {M : Type 1} → statement M
+topo-sort-spec =
+    tie.close
+    (tie.spec
+    slice-aggregate-find-order
+    find-order-requires
+    returns
+    array-share-prefix-order
+    slice-aggregate-renumber
+    renumber-requires
+    same-length
+    same-length-2
+    same-length-3
+    returns-2)

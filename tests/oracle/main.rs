@@ -1,0 +1,120 @@
+// The oracle: Quaigh's answers, as lists that programs of this repository replay.
+// usage: oracle sort SEED COUNT     networks and what `topo_sort` makes of them
+mod generate;
+mod io;
+mod network;
+mod variants;
+pub use network::{BinaryType, Gate, NaryType, Network, Signal, TernaryType};
+
+use generate::{filled, make, smallest, Numbers, Plain, Shape};
+use std::panic::{catch_unwind, AssertUnwindSafe};
+use variants::{order, Mistake, MISTAKES};
+
+// Each number as eight hexadecimal digits and a blank, the last of a line with LF.
+fn words(ws: &[u32]) -> String {
+    let mut s = String::new();
+    for (i, w) in ws.iter().enumerate() {
+        s += &format!("{:08x}{}", w, if i + 1 == ws.len() { '\n' } else { ' ' });
+    }
+    s
+}
+
+// The cells of a network: a line each of gate records, pins and outputs.
+fn cells(p: &Plain) -> String {
+    let mut gates = Vec::new();
+    let mut pins = Vec::new();
+    for (form, ps) in &p.gates {
+        gates.extend([*form, pins.len() as u32, ps.len() as u32]);
+        pins.extend(ps.iter().map(|s| s.raw()));
+    }
+    let outs: Vec<u32> = p.outputs.iter().map(|s| s.raw()).collect();
+    words(&gates) + &words(&pins) + &words(&outs)
+}
+
+// What `topo_sort` makes of it; nothing where it panics.
+fn sorted(p: &Plain) -> Option<Plain> {
+    let mut n = p.network();
+    let done = catch_unwind(AssertUnwindSafe(|| {
+        n.topo_sort();
+    }));
+    if done.is_ok() { Some(Plain::of(&n)) } else { None }
+}
+
+// The network in an order of old numbers.
+fn permuted(p: &Plain, o: &[usize]) -> Plain {
+    let mut place = vec![0; o.len()];
+    for (new, old) in o.iter().enumerate() {
+        place[*old] = new;
+    }
+    let moved = |s: &Signal| {
+        if s.is_var() { Signal::from_var(place[s.var() as usize] as u32) ^ s.is_inverted() } else { *s }
+    };
+    Plain {
+        inputs: p.inputs,
+        gates: o.iter().map(|g| (p.gates[*g].0, p.gates[*g].1.iter().map(moved).collect())).collect(),
+        outputs: p.outputs.iter().map(moved).collect(),
+    }
+}
+
+// Small networks first, then the largest sizes, then middling ones.
+fn random(r: &mut Numbers, k: usize, count: usize) -> Plain {
+    if k == count / 2 {
+        let most = Shape { inputs: 256, gates: 1024, outputs: 256, wide: 16, loops: false, flops: 9 };
+        return filled(make(r, &most), 16384);
+    }
+    let shape = if k < count / 2 {
+        Shape { inputs: 2, gates: k % 6, outputs: 2, wide: 3, loops: k % 5 == 4, flops: 1 + k % 4 }
+    } else if k == count / 2 + 1 {
+        Shape { inputs: 3, gates: 1024, outputs: 1, wide: 2, loops: true, flops: 0 }
+    } else {
+        Shape { inputs: 5, gates: r.below(24), outputs: r.below(5), wide: 5, loops: k % 9 == 0, flops: 1 + r.below(6) }
+    };
+    make(r, &shape)
+}
+
+fn sort_list(seed: u64, count: usize) {
+    let mut r = Numbers(seed);
+    let mut caught = vec![usize::MAX; MISTAKES.len()];
+    let mut nets = smallest();
+    for k in 0..count {
+        nets.push(random(&mut r, k, count));
+    }
+    print!("{}", words(&[nets.len() as u32]));
+    for p in nets {
+        let s = sorted(&p);
+        let mine = order(&p, Mistake::Nothing).map(|o| permuted(&p, &o));
+        assert!(s.as_ref().map(|x| cells(x)) == mine.as_ref().map(|x| cells(x)), "the plain sort and the Rust differ");
+        for (i, m) in MISTAKES.iter().enumerate() {
+            let other = order(&p, *m).map(|o| permuted(&p, &o));
+            if other.map(|x| cells(&x)) != s.as_ref().map(|x| cells(x)) {
+                caught[i] = caught[i].min(p.gates.len());
+            }
+        }
+        let kind = if s.is_some() { 1 } else { 0 };
+        print!("{}", words(&[kind, p.inputs as u32, p.gates.len() as u32, p.pins() as u32, p.outputs.len() as u32]));
+        print!("{}", cells(&p));
+        if let Some(x) = &s {
+            print!("{}", cells(x));
+        }
+    }
+    for (m, n) in MISTAKES.iter().zip(&caught) {
+        assert!(*n != usize::MAX, "the list does not tell {m:?} apart");
+        eprintln!("{m:?} told apart by a network of {n} gates");
+    }
+}
+
+fn main() {
+    std::panic::set_hook(Box::new(|_| {}));
+    let a: Vec<String> = std::env::args().collect();
+    match a[1].as_str() {
+        "sort" => {
+            let r = catch_unwind(|| sort_list(a[2].parse().unwrap(), a[3].parse().unwrap()));
+            if let Err(e) = r {
+                let why = e.downcast_ref::<String>().cloned().or(e.downcast_ref::<&str>().map(|s| s.to_string()));
+                eprintln!("stopped: {}", why.unwrap_or_default());
+                std::process::exit(1);
+            }
+        }
+        other => panic!("no list {other}"),
+    }
+}
