@@ -16,8 +16,8 @@ use Rattle.network.specs.Clock.{Clock, zeroBits}
 use Rattle.network.specs.Settle.{run}
 use Rattle.network.proofs.OneChoice.{ranked, run-is}
 use Rattle.network.proofs.Runs.{runs-along}
-use Rattle.sort.specs.Sorted.{sorted}
-use Rattle.sort.proofs.Summary.{Kept, sorted-keeps}
+use Rattle.sort.specs.Sorted.{sorted, Preserved}
+use Rattle.sort.proofs.Summary.{sorted-keeps}
 use Rattle.blif_model.specs.Blif.{BlifClock, BlifRuns}
 use Rattle.blif_model.specs.Build.{Closed}
 use Rattle.blif_model.specs.Lookup.{defined, lookup}
@@ -67,7 +67,7 @@ module _ {Name : Type 0} (dec : (x y : Name) → Dec (x ≡ y)) (name : Signal �
     -- so the network read, its gates sorted, gives the outputs of the network written
     pub same-outputs : (new : Net) → sorted (builtOf dec (written name net)) ≡ some new → SameOutputs new net
     same-outputs new e =
-        let k : Kept (builtOf dec (written name net)) new = sorted-keeps (builtOf dec (written name net)) new (accepted-valid dec (written name net) written-accepts) e in
+        let k : Preserved (builtOf dec (written name net)) new = sorted-keeps (builtOf dec (written name net)) new (accepted-valid dec (written name net) written-accepts) e in
         record {
           inputs = k .inputs ∙ length-map (range 0 (net .inputs)) (λ (i : ℕ). name (plain (Input i))) ∙ length-range 0 (net .inputs);
           outputs = k .outputs ∙ length-map (map name (net .outputs)) (lookup dec (written name net)) ∙ length-map (net .outputs) name;

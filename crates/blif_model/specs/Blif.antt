@@ -14,13 +14,18 @@ pub data Col : Type 0 where
 
 -- a row of a cover: its input plane, and its output plane, "{0, 1}"
 pub record Line : Type 0 where
+  -- the input plane
   pub cols : List Col
+  -- the output plane
   pub out : Bool
 
 -- what feeds a latch: "input is the data input to the latch"; a `.flop` may have an enable `E` and a reset `R` too
 pub record Feed (Name : Type 0) : Type 0 where
+  -- the data input
   pub input : Name
+  -- `E`, if it is given
   pub enable : Option Name
+  -- `R`, if it is given
   pub reset : Option Name
 
 -- a latch with what feeds it and its output, or a cover with its inputs, its output and its rows
@@ -30,8 +35,11 @@ pub data Block (Name : Type 0) : Type 0 where
 
 -- a model: its inputs and outputs in order, its latches and covers
 pub record Model (Name : Type 0) : Type 0 where
+  -- `.inputs`
   pub inputs : List Name
+  -- `.outputs`
   pub outputs : List Name
+  -- `.latch`, `.flop` and `.names`, in text order
   pub blocks : List (Block Name)
 
 -- "1 means the input is used in uncomplemented form, 0 means the input is complemented, and – means not used"
@@ -80,14 +88,20 @@ module _ {Name : Type 0} where
 
   -- the names' values at one clock fit the input row and the latches' held values
   pub record BlifFits (m : Model Name) (row : List Bool) (held env : Name → Bool) : Type 0 where
+    -- an input has its bit of the row
     pub ins : (i : ℕ) (x : Name) → getElem? (m .inputs) i ≡ some x → env x ≡ getD row i false
+    -- what a block defines has the block's bit
     pub blocks : (b : Block Name) → List·Memᴰ b (m .blocks) → env (target b) ≡ blockBit env (held (target b)) b
 
   -- one clock: the outputs' values, and at its end each latch takes its next value
   pub record BlifClock (m : Model Name) (held : Name → Bool) (row out : List Bool) (next : Name → Bool) : Type 0 where
+    -- the names' values
     pub env : Name → Bool
+    -- fit the row and the held values
     pub fits : BlifFits m row held env
+    -- the outputs in order
     pub answers : out ≡ map env (m .outputs)
+    -- each latch takes what it holds next
     pub steps : (f : Feed Name) (q : Name) → List·Memᴰ (Latch f q) (m .blocks) → next q ≡ nextHeld env (held q) f
 
   -- the outputs that the model gives for these rows, from all latches at 0

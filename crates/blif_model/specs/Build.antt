@@ -105,12 +105,16 @@ module _ {Name : Type 0} where
 
   -- `look` gives each defined name its signal: what the search finds where no name is defined twice (refusal 10)
   pub record Looks (m : Model Name) (look : Name → Signal) : Type 0 where
+    -- input i is input signal i
     pub inputAt : (i : ℕ) (x : Name) → getElem? (m .inputs) i ≡ some x → look x ≡ plain (Input i)
+    -- block j is gate j
     pub blockAt : (j : ℕ) (b : Block Name) → getElem? (m .blocks) j ≡ some b → look (target b) ≡ plain (Gated j)
 
   -- no refusal 11
   pub record Closed (m : Model Name) : Type 0 where
+    -- every output is defined
     pub outputsDefined : (x : Name) → List·Memᴰ x (m .outputs) → Defined m x
+    -- every latch input and cover input is defined
     pub sourcesDefined : (b : Block Name) (x : Name) → List·Memᴰ b (m .blocks) → List·Memᴰ x (sources b) → Defined m x
 
 -- no refusal 12 or 13: as many columns as inputs, and one output for all lines

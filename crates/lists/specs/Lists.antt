@@ -9,8 +9,8 @@ use Prim.Native.String.{String}
 use lib.Dec.{eqb}
 use lib.ListN.{length, replicate}
 
--- the first where the test holds, else the second; both are computed, so at most one of them may call the function being defined
 infixr 10 if_then_else_
+-- the first where the test holds, else the second; both are computed, so at most one of them may call the function being defined
 abbrev pub if_then_else_ {ℓ} : {A : Type ℓ} → Bool → A → A → A
 if_then_else_ true a b = a
 if_then_else_ false a b = b
