@@ -9,14 +9,12 @@ pub mod ReadBack
 pub mod CoverPins
 pub mod BuiltValid
 pub mod BuiltFree
-pub mod Ranks
 pub mod Meaning
 pub mod Blocks
 pub mod Writing
 pub mod Written
 pub mod WrittenOnce
 pub mod WrittenMeans
-pub mod BlockOrder
 pub mod Masks
 pub mod Rendered
 pub mod NoFault
