@@ -5,3 +5,4 @@ pub mod Loops
 pub mod LineLaws
 pub mod WordLaws
 pub mod RowLaws
+pub mod KeywordLaws
