@@ -6,3 +6,4 @@ pub mod LineLaws
 pub mod WordLaws
 pub mod RowLaws
 pub mod KeywordLaws
+pub mod StatementLaws
