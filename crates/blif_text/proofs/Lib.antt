@@ -7,3 +7,4 @@ pub mod WordLaws
 pub mod RowLaws
 pub mod KeywordLaws
 pub mod StatementLaws
+pub mod RefusalLaws
