@@ -5,3 +5,6 @@ pub mod Loops
 pub mod LineLaws
 pub mod WordLaws
 pub mod RowLaws
+pub mod KeywordLaws
+pub mod StatementLaws
+pub mod RefusalLaws

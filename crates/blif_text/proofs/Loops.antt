@@ -1,18 +1,19 @@
 -- One step of each scanning loop. Assumes nothing.
 use mathlib.Core.Path.{_≡_, refl, sym, ap, _∙_, subst}
-use mathlib.Core.Bool.{Bool, true, false, not, _&&_, true≢false}
-use mathlib.Core.List.{List, [], _∷_, _++_}
-use Prim.Native.Nat.{ℕ, zero, suc, _+_, _-_, _≤_, _<_}
+use mathlib.Core.Bool.{Bool, true, false}
+use mathlib.Core.List.{List, [], _∷_}
+use Prim.Native.Nat.{ℕ, suc, _+_, _≤_, _<_}
 use native.Mathlib.Omega.{arith}
-use native.Mathlib.Nat.{add-zero, add-suc, zero-add, suc-add}
 use native.Mathlib.Numerals.{add-one}
 use lib.Dec.{eqb}
-use lib.ListN.{length, getD, take, drop, drop-of-length-le}
+use lib.ListN.{length, getD, drop, drop-of-length-le}
 use lib.Seq.{drop-cons}
 use borrow.Author.Tests.{eq-eqb, ne-eqb}
-use Rattle.lists.specs.Lists.{if_then_else_, Bytes, any}
+use Rattle.lists.specs.Lists.{Bytes}
 use Rattle.lists.proofs.Tests.{by-order}
-use Rattle.blif_text.specs.Lines.{lines, cut, continues, isBlank, tokens}
+use Rattle.blif_text.specs.Lines.{cut, isBlank, tokens}
+use Rattle.blif_text.specs.Places.{isFirst}
+use Rattle.blif_text.specs.Keywords.{RowTo}
 use Rattle.blif_text.specs.Scan.{BlanksTo, WordTo, LineTo}
 use Rattle.blif_text.proofs.Scan.{tokens-skip}
 
@@ -34,7 +35,7 @@ module _ {t : Bytes} {at i : ℕ} (c : Blanks t at i) where
   pub blanks-stop : (i < length t → isBlank (getD t i 0) ≡ false) → BlanksTo t at i
   blanks-stop f = record { low = c .low; high = c .high; kept = c .kept; stop = f }
 
--- ---- words and lines: bytes that fail a test so far
+-- ---- words, lines and rows: bytes that fail a test so far
 
 pub record Passed (p : ℕ → Bool) (t : Bytes) (at i : ℕ) : Type 0 where
   pub low : at ≤ i
@@ -58,6 +59,10 @@ word-stop c f = record { low = c .low; high = c .high; word = c .none; stop = f 
 
 pub line-stop : {t : Bytes} {at i : ℕ} → Passed (eqb 10) t at i → (i < length t → getD t i 0 ≡ 10) → LineTo t at i
 line-stop c f = record { low = c .low; high = c .high; none = c .none; stop = f }
+
+-- a row's end, where each cell behind its first has been passed
+pub row-stop : {t : List ℕ} {at n i : ℕ} → Passed isFirst t (at + 1) i → i ≤ n → (i < n → isFirst (getD t i 0) ≡ true) → RowTo t at n i
+row-stop c h f = record { low = omega (arith, c .low); high = h; inner = λ k a b. c .none k (omega arith) b; stop = f }
 
 -- ---- comments
 

@@ -52,7 +52,7 @@ full-cons (t ∷ ts) rs = refl
 
 -- ---- cells grouped
 
-grouped-append : (text : Bytes) (xs ys : List ℕ) → grouped text ys .loose ≡ []
+pub grouped-append : (text : Bytes) (xs ys : List ℕ) → grouped text ys .loose ≡ []
     → (grouped text (xs ++ ys) .loose ≡ grouped text xs .loose) × (grouped text (xs ++ ys) .rows ≡ grouped text xs .rows ++ grouped text ys .rows)
 unfolding grouped
 grouped-append text [] ys e = (e, refl)
@@ -64,7 +64,7 @@ grouped-append text (x ∷ xs) ys e = go (isFirst x) (grouped-append text xs ys 
     go true ih = (refl, ap₂ (λ (l : List Bytes) (r : List (List Bytes)). (tokenOf text x ∷ l) ∷ r) (ih .0) (ih .1))
     go false ih = (ap (λ (l : List Bytes). tokenOf text x ∷ l) (ih .0), ih .1)
 
-grouped-none : (text : Bytes) (cs : List ℕ) → NoneFirst cs → (grouped text cs .loose ≡ tokensOf text cs) × (grouped text cs .rows ≡ [])
+pub grouped-none : (text : Bytes) (cs : List ℕ) → NoneFirst cs → (grouped text cs .loose ≡ tokensOf text cs) × (grouped text cs .rows ≡ [])
 unfolding grouped
 grouped-none text [] n = (refl, refl)
 grouped-none text (c ∷ cs) n =

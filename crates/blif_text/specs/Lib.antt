@@ -4,3 +4,4 @@ pub mod Decls
 pub mod Rows
 pub mod Places
 pub mod Scan
+pub mod Keywords

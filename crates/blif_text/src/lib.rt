@@ -1,10 +1,15 @@
 // BLIF text: lines, tokens, keywords and statements, as places in the caller's text (Quaigh's src/io/blif.rs).
+use lists::equal;
 ghost use mathlib.Core.Path.{_≡_};
 ghost use mathlib.Core.Bool.{true};
 ghost use Prim.Native.Nat.{_+_, _*_, _≤_, _<_};
-ghost use lib.ListN.{length, take, drop};
+ghost use lib.ListN.{length, getD, take, drop};
+ghost use lib.Seq.{slice};
 ghost use Rattle.blif_text.specs.Lines.{isBlank, cut, continues};
-ghost use Rattle.blif_text.specs.Places.{maxText, maxTokens, tokenCell, isFirst, tokenStart, tokenLength, Marked};
+ghost use Rattle.blif_text.specs.Places.{maxText, maxTokens, tokenCell, isFirst, tokenStart, tokenLength, tokenOf, tokensOf, Marked};
+ghost use Rattle.blif_text.specs.Keywords.{keywordOf, said, RowTo, StatementOf, refusal};
+ghost use Rattle.blif_text.specs.Statements.{parsed, firstBad};
+ghost use Rattle.blif_text.specs.Rows.{rowStmt};
 ghost use Rattle.blif_text.specs.Scan.{BlanksTo, WordTo, LineTo, LineAt, PartOf, WordsMarked, Walked, WordsIn};
 
 pub const MAX_TEXT: usize = 32768;
@@ -34,6 +39,38 @@ struct Marks {
     at: usize,
     count: usize,
     fresh: bool,
+}
+
+// What a statement's first token says.
+pub enum Keyword {
+    Model,
+    Inputs,
+    Outputs,
+    Latch,
+    Names,
+    End,
+    Exdc,
+    Unsupported,
+    Cube,
+}
+
+// A run of token cells.
+pub struct Run {
+    pub first: usize,
+    pub count: usize,
+}
+
+// A statement by the places of its names: a run of token cells, a latch by the first of its two, or a refusal's number.
+pub enum Statement {
+    Model,
+    End,
+    Exdc,
+    Inputs(Run),
+    Outputs(Run),
+    Names(Run),
+    Latch(usize),
+    Cube(Run),
+    Refused(u32),
 }
 
 // Blanks are 9 to 13 and 32.
@@ -251,4 +288,136 @@ pub fn mark_tokens(text: &[u8], cells: &mut [u32]) -> usize
         w = mark_line(text, cells, w);
     }
     w.count
+}
+
+// The token of a cell, as a part of the text.
+pub fn token(text: &[u8], cell: u32) -> &[u8]
+    requires { ⌜ tokenStart cell + tokenLength cell ≤ length (now text) ⌝ }
+    ensures { λ r. ⌜ now r ≡ tokenOf (now (text .entry)) cell ⌝ }
+{
+    let start = token_start(cell);
+    let end = start + token_length(cell);
+    &text[start..end]
+}
+
+// The keyword that a statement's first token is.
+pub fn keyword_of(token: &[u8]) -> Keyword
+    ensures { λ r. ⌜ r ≡ keywordOf (now (token .entry)) ⌝ }
+{
+    if equal(token, b".model") {
+        return Keyword::Model;
+    }
+    if equal(token, b".inputs") {
+        return Keyword::Inputs;
+    }
+    if equal(token, b".outputs") {
+        return Keyword::Outputs;
+    }
+    if equal(token, b".latch") {
+        return Keyword::Latch;
+    }
+    if equal(token, b".names") {
+        return Keyword::Names;
+    }
+    if equal(token, b".end") {
+        return Keyword::End;
+    }
+    if equal(token, b".exdc") {
+        return Keyword::Exdc;
+    }
+    if token.len() == 0 {
+        return Keyword::Cube;
+    }
+    if token[0] == b'.' {
+        return Keyword::Unsupported;
+    }
+    Keyword::Cube
+}
+
+// The end of the row that starts at a place: the next row's start, or n.
+pub fn row_end(cells: &[u32], at: usize, n: usize) -> usize
+    requires { ⌜ (at < n) × (n ≤ length (now cells)) ⌝ }
+    ensures { λ r. ⌜ RowTo (now (cells .entry)) at n r ⌝ }
+{
+    let mut i = at + 1;
+    while i < n {
+        if is_first(cells[i]) {
+            return i;
+        }
+        i += 1;
+    }
+    i
+}
+
+// The statement of the row from at to end, whose first token has this keyword.
+fn statement_of(keyword: Keyword, at: usize, end: usize) -> Statement
+    requires { ⌜ at < end ⌝ }
+    ensures { λ r. ⌜ StatementOf keyword at end r ⌝ }
+{
+    let names = Run {
+        first: at + 1,
+        count: end - at - 1,
+    };
+    match keyword {
+        Keyword::Model => {
+            if names.count < 1 {
+                return Statement::Refused(4);
+            }
+            Statement::Model
+        }
+        Keyword::Inputs => Statement::Inputs(names),
+        Keyword::Outputs => Statement::Outputs(names),
+        Keyword::Latch => {
+            if names.count < 2 {
+                return Statement::Refused(4);
+            }
+            Statement::Latch(at + 1)
+        }
+        Keyword::Names => Statement::Names(names),
+        Keyword::End => Statement::End,
+        Keyword::Exdc => Statement::Exdc,
+        Keyword::Unsupported => Statement::Refused(5),
+        Keyword::Cube => Statement::Cube(Run {
+            first: at,
+            count: end - at,
+        }),
+    }
+}
+
+// The statement of the row of token cells from at to end.
+pub fn statement_at(text: &[u8], cells: &[u32], at: usize, end: usize) -> Statement
+    requires { ⌜ (at < end) × (end ≤ length (now cells)) ⌝ }
+    requires { ⌜ tokenStart (getD (now cells) at 0) + tokenLength (getD (now cells) at 0) ≤ length (now text) ⌝ }
+    ensures { λ r. ⌜ said (now (text .entry)) (now (cells .entry)) r ≡ rowStmt (tokensOf (now (text .entry)) (slice at end (now (cells .entry)))) ⌝ }
+{
+    let first = cells[at];
+    let keyword = keyword_of(token(text, first));
+    statement_of(keyword, at, end)
+}
+
+// The number of a refusal, zero for any other statement.
+fn refusal_of(s: Statement) -> u32
+    ensures { λ r. ⌜ r ≡ refusal s ⌝ }
+{
+    match s {
+        Statement::Refused(n) => n,
+        _ => 0,
+    }
+}
+
+// The first refusal of 4 and 5 among the statements of marked tokens, or zero.
+pub fn first_bad(text: &[u8], cells: &[u32], n: usize) -> u32
+    requires { ⌜ Marked (now text) (now cells) n × (n ≤ length (now cells)) ⌝ }
+    ensures { λ r. ⌜ r ≡ firstBad (parsed (now (text .entry))) ⌝ }
+{
+    let mut at = 0;
+    while at < n {
+        let end = row_end(cells, at, n);
+        let bad = refusal_of(statement_at(text, cells, at, end));
+        if bad != 0 {
+            return bad;
+        }
+        at = end;
+    }
+    0
 }
