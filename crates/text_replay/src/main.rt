@@ -1,6 +1,14 @@
 // Prints the statements of texts, a line for each, in the notation of the stored answers of Quaigh's read_statements. Standard input has how
 // many texts there are, then the length and the bytes of each.
-use blif_text::{first_bad, mark_tokens, row_end, statement_at, token, token_length, token_start, Run, Statement};
+use blif_text::Run;
+use blif_text::Statement;
+use blif_text::first_bad;
+use blif_text::mark_tokens;
+use blif_text::row_end;
+use blif_text::statement_at;
+use blif_text::token;
+use blif_text::token_length;
+use blif_text::token_start;
 use replay::read_word;
 ghost use Prim.Native.Nat.{_≤_};
 ghost use lib.ListN.{length};
@@ -14,21 +22,25 @@ fn print_token(text: &[u8], cell: u32) {
     }
 }
 
-// The tokens of a run.
-fn print_run(text: &[u8], cells: &[u32], run: Run) {
-    let mut i = run.first;
-    let mut left = run.count;
-    while left > 0 && i < cells.len() {
+// The tokens of cells.
+fn print_tokens(text: &[u8], cells: &[u32]) {
+    for i in 0..cells.len() {
         print_token(text, cells[i]);
-        i += 1;
-        left -= 1;
     }
 }
 
 // A keyword and the tokens of a run.
 fn print_names(keyword: &[u8], text: &[u8], cells: &[u32], run: Run) {
     io::write_all(1, keyword);
-    print_run(text, cells, run);
+    let first = run.first;
+    if first > cells.len() {
+        return;
+    }
+    if run.count > cells.len() - first {
+        return;
+    }
+    let end = first + run.count;
+    print_tokens(text, &cells[first..end]);
 }
 
 // A refusal's number.
@@ -85,16 +97,23 @@ fn print_text(text: &[u8], cells: &mut [u32])
     print_rows(text, cells, n);
 }
 
-// The next text: its number, then what is found in it.
+// The next text, as long as the slice: its number, then what is found in it.
+fn replay_into(number: u32, text: &mut [u8], cells: &mut [u32])
+    requires { ⌜ (length (now text) ≤ maxText) × (maxTokens ≤ length (now cells)) ⌝ }
+{
+    io::read_full(0, text);
+    io::write_all(1, b"text ");
+    io::print_decimal(1, number as u64);
+    io::write_all(1, b"\n");
+    print_text(text, cells);
+}
+
+// The next text, by the length that stands before it.
 fn replay_text(number: u32) {
     let mut text = [0u8; 32768];
     let mut cells = [0u32; 16384];
     let n = read_word() as usize % 32769;
-    io::read_full(0, &mut text[..n]);
-    io::write_all(1, b"text ");
-    io::print_decimal(1, number as u64);
-    io::write_all(1, b"\n");
-    print_text(&text[..n], &mut cells);
+    replay_into(number, &mut text[..n], &mut cells);
 }
 
 fn main() {
