@@ -1,8 +1,10 @@
 // The oracle: Quaigh's answers, as lists that programs of this repository replay.
-// usage: oracle sort SEED COUNT     networks and what `topo_sort` makes of them
+// usage: oracle sort SEED COUNT                    networks and what `topo_sort` makes of them
+//        oracle texts SEED COUNT GIVEN WANTED      files of texts and of the statements that `read_statements` finds
 mod generate;
 mod io;
 mod network;
+mod texts;
 mod variants;
 pub use network::{BinaryType, Gate, NaryType, Network, Signal, TernaryType};
 
@@ -114,6 +116,11 @@ fn main() {
                 eprintln!("stopped: {}", why.unwrap_or_default());
                 std::process::exit(1);
             }
+        }
+        "texts" => {
+            let (given, wanted) = texts::lists(a[2].parse().unwrap(), a[3].parse().unwrap());
+            std::fs::write(&a[4], given).unwrap();
+            std::fs::write(&a[5], wanted).unwrap();
         }
         other => panic!("no list {other}"),
     }

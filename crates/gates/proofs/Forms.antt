@@ -13,8 +13,9 @@ use Rattle.lists.specs.Lists.{all, range}
 use Rattle.lists.proofs.Range.{range-all}
 use Rattle.lists.proofs.Tests.{by-test, le-or-lt}
 use Rattle.signal.specs.Signal.{Signal}
-use Rattle.gates.specs.Gate.{Form, And2, Xor2, And3, Xor3, Maj3, Mux3, AndN, OrN, NandN, NorN, XorN, XnorN, Buf, FlipFlop, Gate, Comb, Dff, pins}
+use Rattle.gates.specs.Gate.{Form, And2, Xor2, And3, Xor3, Maj3, Mux3, AndN, OrN, NandN, NorN, XorN, XnorN, Buf, FlipFlop, Gate, Comb, Dff, pins, isComb}
 use Rattle.gates.specs.Forms.{formNumber, formCell, canHave, formed, binaryForm, ternaryForm, naryForm, kinds, kindOf, kindNumber, kindTakes, combFrom, flopFrom, gateOfKind, gateFrom}
+use Rattle.gates.specs.Decode.{kindComb}
 use Rattle.gates.specs.declared.Kind.{Kind}
 use Rattle.gates.specs.declared.Kind.the-variants as K
 use Rattle.gates.specs.declared.BinaryType.{BinaryType}
@@ -178,19 +179,25 @@ pub gate-made : (n : ℕ) (ps : List Signal) → kindTakes (kindOf n) (length ps
 unfolding gateFrom
 gate-made n ps h = kind-made (kindOf n) ps h
 
--- the pin counts that the kind of a gate's number takes are those that its form can have
+-- the kind of a gate's number tells the pin counts that its form can have, and whether the gate is combinational
+number-tells : (x : Gate) → (kindTakes (kindOf (formCell x)) (length (pins x)) ≡ formed x) × (kindComb (kindOf (formCell x)) ≡ isComb x)
+number-tells (Dff s) = (refl, refl)
+number-tells (Comb And2 ps) = (refl, refl)
+number-tells (Comb Xor2 ps) = (refl, refl)
+number-tells (Comb And3 ps) = (refl, refl)
+number-tells (Comb Xor3 ps) = (refl, refl)
+number-tells (Comb Maj3 ps) = (refl, refl)
+number-tells (Comb Mux3 ps) = (refl, refl)
+number-tells (Comb AndN ps) = (refl, refl)
+number-tells (Comb OrN ps) = (refl, refl)
+number-tells (Comb NandN ps) = (refl, refl)
+number-tells (Comb NorN ps) = (refl, refl)
+number-tells (Comb XorN ps) = (refl, refl)
+number-tells (Comb XnorN ps) = (refl, refl)
+number-tells (Comb Buf ps) = (refl, refl)
+
 pub takes-formed : (x : Gate) → kindTakes (kindOf (formCell x)) (length (pins x)) ≡ formed x
-takes-formed (Dff s) = refl
-takes-formed (Comb And2 ps) = refl
-takes-formed (Comb Xor2 ps) = refl
-takes-formed (Comb And3 ps) = refl
-takes-formed (Comb Xor3 ps) = refl
-takes-formed (Comb Maj3 ps) = refl
-takes-formed (Comb Mux3 ps) = refl
-takes-formed (Comb AndN ps) = refl
-takes-formed (Comb OrN ps) = refl
-takes-formed (Comb NandN ps) = refl
-takes-formed (Comb NorN ps) = refl
-takes-formed (Comb XorN ps) = refl
-takes-formed (Comb XnorN ps) = refl
-takes-formed (Comb Buf ps) = refl
+takes-formed x = number-tells x .0
+
+pub comb-number : (x : Gate) → kindComb (kindOf (formCell x)) ≡ isComb x
+comb-number x = number-tells x .1

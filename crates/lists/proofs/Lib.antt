@@ -7,3 +7,6 @@ pub mod Twice
 pub mod Find
 pub mod Counting
 pub mod Over
+pub mod Once
+pub mod Every
+pub mod Known

@@ -9,8 +9,8 @@ use native.Mathlib.Nat.{add-zero, add-suc, suc-add, zero-add, sub-zero}
 use native.Mathlib.Numerals.{add-one}
 use lib.Seq.{drop-cons}
 use lib.ListN.{length, getElem?, getD, drop, drop-of-length-le}
-use Rattle.lists.specs.Lists.{all, range}
-use Rattle.lists.proofs.Tests.{and-both, and-left, and-right, and-false}
+use Rattle.lists.specs.Lists.{all, any, range}
+use Rattle.lists.proofs.Tests.{and-both, and-left, and-right, and-false, or-left, or-right}
 
 module _ {A : Type 0} (p : A → Bool) where
   pub all-mem : (l : List A) → all p l ≡ true → (x : A) → List·Memᴰ x l → p x ≡ true
@@ -20,6 +20,11 @@ module _ {A : Type 0} (p : A → Bool) where
   pub mem-all : (l : List A) → ((x : A) → List·Memᴰ x l → p x ≡ true) → all p l ≡ true
   mem-all [] h = refl
   mem-all (y ∷ l) h = and-both (p y) (all p l) (h y (List·Memᴰ·head refl)) (mem-all l (λ x m. h x (List·Memᴰ·tail m)))
+
+-- no element passes a test that none passes
+pub any-none : {A : Type 0} (p : A → Bool) (l : List A) → any p l ≡ false → (x : A) → List·Memᴰ x l → p x ≡ false
+any-none p _ e x (List·Memᴰ·head {x = y} {xs = l} q) = ap p q ∙ or-left (p y) (any p l) e
+any-none p _ e x (List·Memᴰ·tail {x = y} {xs = l} m) = any-none p l (or-right (p y) (any p l) e) x m
 
 pub length-range : (n k : ℕ) → length (range n k) ≡ k
 length-range n zero = refl

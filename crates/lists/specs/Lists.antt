@@ -1,15 +1,28 @@
 -- Lists, as every layer above uses them. Assumes nothing: these are definitions.
 use mathlib.Core.Path.{_≡_}
-use mathlib.Core.Bool.{Bool, true, false, _&&_, cond}
+use mathlib.Core.Bool.{Bool, true, false, _&&_, _||_, cond}
 use mathlib.Core.List.{List, [], _∷_, _++_, List·Memᴰ}
 use mathlib.Core.Option.{Option, none, some}
 use Prim.Native.Nat.{ℕ, zero, suc, _+_}
+use Prim.Native.Char.{code}
+use Prim.Native.String.{String}
 use lib.Dec.{eqb}
 use lib.ListN.{length, replicate}
+
+infixr 10 if_then_else_
+-- the first where the test holds, else the second; both are computed, so at most one of them may call the function being defined
+abbrev pub if_then_else_ {ℓ} : {A : Type ℓ} → Bool → A → A → A
+if_then_else_ true a b = a
+if_then_else_ false a b = b
 
 -- the bytes of a text, each below 256; a slice of bytes at entry or exit is such a list
 abbrev pub Bytes : Type 0
 Bytes = List ℕ
+
+-- the bytes of a quoted text, which is ASCII
+abbrev pub bytes : String → Bytes
+bytes String.[] = []
+bytes (String._∷_ c s) = code c ∷ bytes s
 
 -- whether two lists of bytes are equal: "compared byte for byte"
 unfoldable pub same : Bytes → Bytes → Bool
@@ -26,6 +39,29 @@ zeros n = replicate n 0
 abbrev pub all : {A : Type 0} → (A → Bool) → List A → Bool
 all p [] = true
 all p (x ∷ l) = p x && all p l
+
+-- whether some element passes the test
+abbrev pub any : {A : Type 0} → (A → Bool) → List A → Bool
+any p [] = false
+any p (x ∷ l) = p x || any p l
+
+-- the elements that pass the test, in order
+abbrev pub filter : {A : Type 0} → (A → Bool) → List A → List A
+filter p [] = []
+filter p (x ∷ l) = if p x then x ∷ filter p l else filter p l
+
+-- what a function makes of the elements, added up
+abbrev pub sumOf : {A : Type 0} → (A → ℕ) → List A → ℕ
+sumOf f [] = 0
+sumOf f (x ∷ l) = f x + sumOf f l
+
+-- the number is one of these
+abbrev pub elem : ℕ → List ℕ → Bool
+elem n l = any (eqb n) l
+
+-- the bytes are one of these
+abbrev pub known : Bytes → List Bytes → Bool
+known x l = any (same x) l
 
 -- k numbers from n upwards
 abbrev pub range : ℕ → ℕ → List ℕ

@@ -13,10 +13,10 @@ use Rattle.lists.specs.Lists.{range}
 use Rattle.lists.proofs.Tests.{by-test, and-left, and-right}
 use Rattle.lists.proofs.Range.{length-range, map-range}
 use Rattle.signal.specs.Cell.{sigOf}
-use Rattle.gates.specs.Gate.{And2, Xor2, And3, Xor3, Maj3, Mux3, AndN, OrN, NandN, NorN, XorN, XnorN, Buf, Gate, Comb, Dff, pins, isComb}
+use Rattle.gates.specs.Gate.{Gate, pins, isComb}
 use Rattle.gates.specs.Forms.{formCell, kindOf, gateFrom}
 use Rattle.gates.specs.Decode.{kindComb}
-use Rattle.gates.proofs.Forms.{From, gate-from}
+use Rattle.gates.proofs.Forms.{From, gate-from, comb-number}
 use Rattle.network.specs.declared.Counts.{Counts}
 use Rattle.network.specs.Cells.{gateWidth, formAt, firstAt, countAt, runAt, gateAt, orBuf, lent, netOf, pinCells}
 use Rattle.sort.specs.Order.{Graph, useCount}
@@ -28,23 +28,6 @@ use Rattle.sort.proofs.Sorting.{graph-valid}
 use Rattle.sort.proofs.Keeps.{uses-within}
 
 -- ---- a gate that can be read
-
--- a form number's kind is combinational where the gate is
-comb-number : (x : Gate) → kindComb (kindOf (formCell x)) ≡ isComb x
-comb-number (Comb And2 ps) = refl
-comb-number (Comb Xor2 ps) = refl
-comb-number (Comb And3 ps) = refl
-comb-number (Comb Xor3 ps) = refl
-comb-number (Comb Maj3 ps) = refl
-comb-number (Comb Mux3 ps) = refl
-comb-number (Comb AndN ps) = refl
-comb-number (Comb OrN ps) = refl
-comb-number (Comb NandN ps) = refl
-comb-number (Comb NorN ps) = refl
-comb-number (Comb XorN ps) = refl
-comb-number (Comb XnorN ps) = refl
-comb-number (Comb Buf ps) = refl
-comb-number (Dff s) = refl
 
 module _ (cells ps : List ℕ) (g : ℕ) (x : Gate) (e : gateAt cells ps g ≡ some x) where
   abbrev first : Bool

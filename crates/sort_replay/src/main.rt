@@ -2,31 +2,11 @@
 // sorted, its input, gate, pin and output counts, its cells, and where it was sorted the cells of the sorted network.
 use network::Counts;
 use network::GATE_CELLS;
+use replay::read_word;
 use sort::Attempt;
 use sort::Sorted;
 use sort::sort_network;
-ghost use Prim.Native.Nat.{_≤_, _<_};
-
-// A hexadecimal digit.
-fn digit(c: u8) -> u32
-    ensures { λ r. ⌜ r < 16 ⌝ }
-{
-    if c >= b'a' {
-        return (c - 87) as u32 % 16;
-    }
-    c as u32 % 16
-}
-
-// The next number of the list: eight hexadecimal digits and a separator.
-fn read_word() -> u32 {
-    let mut bytes = [0u8; 9];
-    io::read_full(0, &mut bytes);
-    let mut word = 0u32;
-    for i in 0..8 {
-        word = word % 0x1000_0000 * 16 + digit(bytes[i]);
-    }
-    word
-}
+ghost use Prim.Native.Nat.{_≤_};
 
 // The next n numbers, as far as the cells have room.
 fn read_words(cells: &mut [u32], n: usize) {
@@ -79,7 +59,7 @@ fn same_answer(attempt: Attempt, was_sorted: bool, pins: usize) -> bool {
 }
 
 // Whether the sort's answer and cells for the next network are those stored.
-fn replay() -> bool {
+fn replay_network() -> bool {
     let was_sorted = read_word() == 1;
     let counts = read_counts();
     let records = counts.gates % 0x1_0000_0000 * GATE_CELLS;
@@ -125,7 +105,7 @@ fn main() {
     let cases = read_word();
     let mut same = 0u32;
     for i in 0..cases {
-        same += one_if(replay());
+        same += one_if(replay_network());
     }
     io::write_all(1, b"networks ");
     io::print_decimal(1, cases as u64);

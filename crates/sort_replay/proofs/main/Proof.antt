@@ -17,8 +17,8 @@ read-word-requires c κs = search needs
 loop-holds : tie.Need-loop-holds Inv-loop μ-loop
 loop-holds c = omega arith
 
-replay-requires : tie.Need-replay-requires Inv-loop μ-loop
-replay-requires c κs = search needs
+replay-network-requires : tie.Need-replay-network-requires Inv-loop μ-loop
+replay-network-requires c κs = search needs
 
 one-if-requires : tie.Need-one-if-requires Inv-loop μ-loop
 one-if-requires c κs = search needs
@@ -76,7 +76,7 @@ main-spec =
     μ-loop
     read-word-requires
     loop-holds
-    replay-requires
+    replay-network-requires
     one-if-requires
     add-same
     add-i

@@ -1,12 +1,12 @@
 -- `read_word` is safe and ends. Assumes nothing.
-use Prim.Native.Nat.{_-_}
+use Prim.Native.Nat.{_-_, _^_, _<_}
 use native.Mathlib.Omega.{arith}
 use borrow.Author.Needs.{needs}
-use Rattle.sort_replay.proofs.read_word.Statement.{statement}
-use Rattle.sort_replay.proofs.read_word.Tie as tie
+use Rattle.replay.proofs.read_word.Statement.{statement}
+use Rattle.replay.proofs.read_word.Tie as tie
 
 abbrev Inv-loop : tie.InvT-loop
-Inv-loop bytes word₀ i₀ word i = Unit {0}
+Inv-loop bytes word₀ i₀ word i = word < 2 ^ 32
 
 abbrev μ-loop : tie.MeasureT-loop
 μ-loop bytes word₀ i₀ word i = 8 - i
@@ -18,7 +18,7 @@ read-full-requires : tie.Need-read-full-requires Inv-loop μ-loop
 read-full-requires c κs = search needs
 
 loop-holds : tie.Need-loop-holds Inv-loop μ-loop
-loop-holds c = tt
+loop-holds c = omega arith
 
 mul-word : tie.Need-mul-word Inv-loop μ-loop
 mul-word c = omega arith
@@ -39,10 +39,10 @@ loop-less : tie.Need-loop-less Inv-loop μ-loop
 loop-less c = omega arith
 
 loop-again : tie.Need-loop-again Inv-loop μ-loop
-loop-again c = tt
+loop-again c = omega arith
 
 returns : tie.Need-returns Inv-loop μ-loop
-returns c = tt
+returns c = omega arith
 
 pub read-word-spec : {M : Type 1} → statement M
 read-word-spec =

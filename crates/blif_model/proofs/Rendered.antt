@@ -1,0 +1,440 @@
+-- The text written for a network parses as its model: lines as statements, statements as declarations, declarations as blocks.
+-- Assumes nothing.
+use mathlib.Core.Path.{_≡_, refl, sym, ap, ap₂, _∙_, subst}
+use mathlib.Core.Bool.{Bool, true, false}
+use mathlib.Core.List.{List, [], _∷_, _++_, map, flatMap, headD, append-assoc, append-nil, map-append}
+use mathlib.Core.Option.{none, some}
+use Prim.Native.Nat.{ℕ, zero, suc, _+_, _-_, _/_, _%_, _<_}
+use native.Mathlib.Omega.{arith}
+use lib.Dec.{leb, ltb}
+use lib.ListN.{length, getD, getElem?, take, length-append}
+use lib.Seq.{take-append-seam, getD-append-seam}
+use borrow.Author.Tests.{ltb-true}
+use Rattle.lists.specs.Lists.{Bytes, bytes, same, any, range}
+use Rattle.lists.proofs.Every.{Every, every-nil, every-cons, every-append, every-map}
+use Rattle.signal.specs.Signal.{Node, Const, Input, Gated, Signal, plain, turned, oneS, zeroS}
+use Rattle.gates.specs.Gate.{FlipFlop, Gate, Comb, Dff}
+use Rattle.network.specs.Net.{Net, GateIs}
+use Rattle.blif_text.specs.Lines.{split, consFirst, cut, continues, isBlank, nonEmpty, tokens}
+use Rattle.blif_text.specs.Statements.{Stmt, Parsed, ok, stmtOf, modelOf, parsedLine, parsed, stmts, firstBad}
+use Rattle.blif_text.specs.Decls.{Def, latch, cover, Decl, gate, cubes, decls, insOf, outsOf, defsOf, ins, outs, defs, coverOut, coverIns, columns, output, isOne}
+use Rattle.blif_text.proofs.Saying.{WordByte, IsWord, quoted, says, Single, quoted-line, parsed-lines, lines-ascii, words-single, says-words, stmt-names, stmt-inputs, stmt-outputs, stmt-latch, stmts-ok, none-bad}
+use Rattle.blif_model.specs.Blif.{Col, C0, C1, Dash, Line, Feed, Block, Latch, Cover, Model}
+use Rattle.blif_model.specs.Write.{bare, feedOf, unless, gateName, latchBlocks, combBlocks, inverterBlock, inverters, constBlocks, written}
+use Rattle.blif_model.specs.Names.{decimalBefore, suffix, nodeBytes, nameBytes}
+use Rattle.blif_model.specs.Render.{spaced, line, colByte, outByte, cubeLine, latchLine, storedLine, blockLines, allLines, textLines, textOf, colOfByte, lineOf, blockOf, modelOf as modelOfDecls, modelOfText}
+use Rattle.blif_model.proofs.Blocks.{comb-cases}
+
+-- ---- lines of words
+
+module _ (w : Bytes) (ws : List Bytes) (h : IsWord w) (hs : Every IsWord ws) where
+  says-spaced : says (w ++ spaced ws) ≡ stmtOf w ws ∷ []
+  unfolding spaced
+  says-spaced = says-words w ws (h .0) hs (h .1)
+
+  spaced-single : Single (w ++ spaced ws)
+  unfolding spaced
+  spaced-single = words-single w ws (h .0) hs
+
+-- ---- cube lines
+
+-- the tokens of a cube line
+abbrev pub tok : List Col → Bool → List Bytes
+tok [] o = (outByte o ∷ []) ∷ []
+tok (c ∷ cs) o = map colByte (c ∷ cs) ∷ (outByte o ∷ []) ∷ []
+
+abbrev pub tokOf : Line → List Bytes
+tokOf l = tok (l .cols) (l .out)
+
+col-byte : (c : Col) → WordByte (colByte c)
+col-byte C0 = (omega arith, (λ q. omega arith), (λ q. omega arith), omega arith)
+col-byte C1 = (omega arith, (λ q. omega arith), (λ q. omega arith), omega arith)
+col-byte Dash = (omega arith, (λ q. omega arith), (λ q. omega arith), omega arith)
+
+out-byte : (o : Bool) → WordByte (outByte o)
+out-byte true = (omega arith, (λ q. omega arith), (λ q. omega arith), omega arith)
+out-byte false = (omega arith, (λ q. omega arith), (λ q. omega arith), omega arith)
+
+out-word : (o : Bool) → Every IsWord ((outByte o ∷ []) ∷ [])
+unfolding nonEmpty
+out-word o = every-cons (every-cons (out-byte o) every-nil, refl) every-nil
+
+cube-stmt : (c : Col) (k : Bytes) (ts : List Bytes) → stmtOf (colByte c ∷ k) ts ≡ ok (Stmt.cube ((colByte c ∷ k) ∷ ts))
+unfolding stmtOf same headD
+cube-stmt C0 k ts = refl
+cube-stmt C1 k ts = refl
+cube-stmt Dash k ts = refl
+
+says-none : (o : Bool) → says (spaced ((outByte o ∷ []) ∷ [])) ≡ ok (Stmt.cube ((outByte o ∷ []) ∷ [])) ∷ []
+unfolding spaced flatMap parsedLine tokens split consFirst isBlank nonEmpty stmtOf same headD cut
+says-none true = refl
+says-none false = refl
+
+says-cube : (cs : List Col) (o : Bool) → says (map colByte cs ++ spaced ((outByte o ∷ []) ∷ [])) ≡ ok (Stmt.cube (tok cs o)) ∷ []
+unfolding nonEmpty
+says-cube [] o = says-none o
+says-cube (c ∷ cs) o =
+    says-spaced (map colByte (c ∷ cs)) ((outByte o ∷ []) ∷ []) (every-map colByte (c ∷ cs) col-byte, refl) (out-word o)
+    ∙ ap (λ (p : Parsed). p ∷ []) (cube-stmt c (map colByte cs) ((outByte o ∷ []) ∷ []))
+
+-- ---- blocks
+
+-- a latch without enable and reset is written `.latch`
+abbrev PlainBlock : Block Bytes → Type 0
+PlainBlock (Latch f q) = (f .enable ≡ none) × (f .reset ≡ none) × IsWord (f .input) × IsWord q
+PlainBlock (Cover xs y ls) = Every IsWord xs × IsWord y
+
+abbrev blockStmts : Block Bytes → List Stmt
+blockStmts (Latch f q) = Stmt.latch (f .input) q ∷ []
+blockStmts (Cover xs y ls) = Stmt.names (xs ++ (y ∷ [])) ∷ map (λ (l : Line). Stmt.cube (tokOf l)) ls
+
+abbrev allStmts : List (Block Bytes) → List Stmt
+allStmts [] = []
+allStmts (b ∷ bs) = blockStmts b ++ allStmts bs
+
+kw-latch : IsWord (bytes ".latch")
+unfolding nonEmpty
+kw-latch = quoted (bytes ".latch") refl
+
+kw-names : IsWord (bytes ".names")
+unfolding nonEmpty
+kw-names = quoted (bytes ".names") refl
+
+kw-zero : IsWord (bytes "0")
+unfolding nonEmpty
+kw-zero = quoted (bytes "0") refl
+
+kw-inputs : IsWord (bytes ".inputs")
+unfolding nonEmpty
+kw-inputs = quoted (bytes ".inputs") refl
+
+kw-outputs : IsWord (bytes ".outputs")
+unfolding nonEmpty
+kw-outputs = quoted (bytes ".outputs") refl
+
+latch-words : {d q : Bytes} → IsWord d → IsWord q → Every IsWord (d ∷ q ∷ bytes "0" ∷ [])
+latch-words d q = every-cons d (every-cons q (every-cons kw-zero every-nil))
+
+cover-words : {xs : List Bytes} {y : Bytes} → Every IsWord xs → IsWord y → Every IsWord (xs ++ (y ∷ []))
+cover-words xs y = every-append xs (every-cons y every-nil)
+
+latch-line : (f : Feed Bytes) (q : Bytes) → f .enable ≡ none → f .reset ≡ none → storedLine (f .input) (f .enable) (f .reset) q ≡ latchLine (f .input) q
+latch-line f q e r = λ i. storedLine (f .input) (e i) (r i) q
+
+cubes-say : (ls : List Line) → flatMap says (map cubeLine ls) ≡ map ok (map (λ (l : Line). Stmt.cube (tokOf l)) ls)
+unfolding flatMap
+cubes-say [] = refl
+cubes-say (l ∷ ls) = ap₂ (λ (a b : List Parsed). a ++ b) (says-cube (l .cols) (l .out)) (cubes-say ls)
+
+block-says : (b : Block Bytes) → PlainBlock b → flatMap says (blockLines b) ≡ map ok (blockStmts b)
+unfolding flatMap
+block-says (Latch f q) w =
+    ap (λ (r : List Parsed). r ++ []) (
+    ap says (latch-line f q (w .0) (w .1))
+    ∙ says-spaced (bytes ".latch") (f .input ∷ q ∷ bytes "0" ∷ []) kw-latch (latch-words (w .2) (w .3))
+    ∙ ap (λ (p : Parsed). p ∷ []) (stmt-latch (f .input) q (bytes "0" ∷ [])))
+block-says (Cover xs y ls) w =
+    ap₂ (λ (a b : List Parsed). a ++ b)
+    (says-spaced (bytes ".names") (xs ++ (y ∷ [])) kw-names (cover-words (w .0) (w .1)) ∙ ap (λ (p : Parsed). p ∷ []) (stmt-names (xs ++ (y ∷ []))))
+    (cubes-say ls)
+
+flatMap-append : (f : Bytes → List Parsed) (l m : List Bytes) → flatMap f (l ++ m) ≡ flatMap f l ++ flatMap f m
+unfolding flatMap
+flatMap-append f [] m = refl
+flatMap-append f (x ∷ l) m = ap (λ (r : List Parsed). f x ++ r) (flatMap-append f l m) ∙ sym (append-assoc (f x) (flatMap f l) (flatMap f m))
+
+all-say : {bs : List (Block Bytes)} → Every PlainBlock bs → flatMap says (allLines bs) ≡ map ok (allStmts bs)
+unfolding flatMap
+all-say every-nil = refl
+all-say (every-cons {x = b} {xs = bs} h hs) =
+    flatMap-append says (blockLines b) (allLines bs) ∙ ap₂ (λ (x y : List Parsed). x ++ y) (block-says b h) (all-say hs) ∙ sym (map-append ok (blockStmts b) (allStmts bs))
+
+-- ---- declarations
+
+abbrev pub defOf : Block Bytes → Def
+defOf (Latch f q) = latch (f .input) q
+defOf (Cover xs y ls) = cover (xs ++ (y ∷ [])) (map tokOf ls)
+
+abbrev pub gateOf : Block Bytes → Decl
+gateOf b = gate (defOf b)
+
+no-cubes : (bs : List (Block Bytes)) → cubes (allStmts bs) ≡ []
+unfolding cubes
+no-cubes [] = refl
+no-cubes (Latch f q ∷ bs) = refl
+no-cubes (Cover xs y ls ∷ bs) = refl
+
+cubes-of : (ls : List Line) (rest : List Stmt) → cubes rest ≡ [] → cubes (map (λ (l : Line). Stmt.cube (tokOf l)) ls ++ rest) ≡ map tokOf ls
+unfolding cubes
+cubes-of [] rest e = e
+cubes-of (l ∷ ls) rest e = ap (λ (r : List (List Bytes)). tokOf l ∷ r) (cubes-of ls rest e)
+
+decls-past : (ls : List Line) (rest : List Stmt) → decls (map (λ (l : Line). Stmt.cube (tokOf l)) ls ++ rest) ≡ decls rest
+unfolding decls
+decls-past [] rest = refl
+decls-past (l ∷ ls) rest = decls-past ls rest
+
+all-decls : (bs : List (Block Bytes)) → decls (allStmts bs) ≡ map gateOf bs
+unfolding decls
+all-decls [] = refl
+all-decls (Latch f q ∷ bs) = ap (λ (r : List Decl). gate (latch (f .input) q) ∷ r) (all-decls bs)
+all-decls (Cover xs y ls ∷ bs) =
+    ap₂ (λ (c : List (List Bytes)) (r : List Decl). gate (cover (xs ++ (y ∷ [])) c) ∷ r) (cubes-of ls (allStmts bs) (no-cubes bs)) (decls-past ls (allStmts bs) ∙ all-decls bs)
+
+-- ---- blocks come back
+
+cols-back : (cs : List Col) → map colOfByte (map colByte cs) ≡ cs
+cols-back [] = refl
+cols-back (C0 ∷ cs) = ap (λ (l : List Col). C0 ∷ l) (cols-back cs)
+cols-back (C1 ∷ cs) = ap (λ (l : List Col). C1 ∷ l) (cols-back cs)
+cols-back (Dash ∷ cs) = ap (λ (l : List Col). Dash ∷ l) (cols-back cs)
+
+pub tok-columns : (cs : List Col) (o : Bool) → columns (tok cs o) ≡ map colByte cs
+unfolding columns
+tok-columns [] o = refl
+tok-columns (c ∷ cs) o = refl
+
+pub tok-one : (cs : List Col) (o : Bool) → isOne (tok cs o) ≡ o
+unfolding isOne output same
+tok-one [] true = refl
+tok-one [] false = refl
+tok-one (c ∷ cs) true = refl
+tok-one (c ∷ cs) false = refl
+
+lines-back : (ls : List Line) → map lineOf (map tokOf ls) ≡ ls
+lines-back [] = refl
+lines-back (l ∷ ls) = λ i. record { cols = (ap (map colOfByte) (tok-columns (l .cols) (l .out)) ∙ cols-back (l .cols)) i; out = tok-one (l .cols) (l .out) i } ∷ lines-back ls i
+
+pub last-at : (xs : List Bytes) (y : Bytes) → length (xs ++ (y ∷ [])) - 1 ≡ length xs
+last-at xs y = simp length-append (omega arith)
+
+pub cover-ins : (xs : List Bytes) (y : Bytes) → coverIns (xs ++ (y ∷ [])) ≡ xs
+unfolding coverIns
+cover-ins xs y = ap (λ (n : ℕ). take n (xs ++ (y ∷ []))) (last-at xs y) ∙ take-append-seam xs (y ∷ [])
+
+pub cover-out : (xs : List Bytes) (y : Bytes) → coverOut (xs ++ (y ∷ [])) ≡ y
+unfolding coverOut
+cover-out xs y = ap (λ (n : ℕ). getD (xs ++ (y ∷ [])) n []) (last-at xs y) ∙ getD-append-seam xs y [] []
+
+block-back : (b : Block Bytes) → PlainBlock b → blockOf (defOf b) ≡ b
+block-back (Latch f q) w = λ i. Latch (record { input = f .input; enable = sym (w .0) i; reset = sym (w .1) i }) q
+block-back (Cover xs y ls) w = λ i. Cover (cover-ins xs y i) (cover-out xs y i) (lines-back ls i)
+
+blocks-back : {bs : List (Block Bytes)} → Every PlainBlock bs → map blockOf (map defOf bs) ≡ bs
+blocks-back every-nil = refl
+blocks-back (every-cons {x = b} h hs) = ap₂ (λ (x : Block Bytes) (l : List (Block Bytes)). x ∷ l) (block-back b h) (blocks-back hs)
+
+gates-ins : (bs : List (Block Bytes)) → flatMap insOf (map gateOf bs) ≡ []
+unfolding flatMap insOf
+gates-ins [] = refl
+gates-ins (b ∷ bs) = gates-ins bs
+
+gates-outs : (bs : List (Block Bytes)) → flatMap outsOf (map gateOf bs) ≡ []
+unfolding flatMap outsOf
+gates-outs [] = refl
+gates-outs (b ∷ bs) = gates-outs bs
+
+gates-defs : (bs : List (Block Bytes)) → flatMap defsOf (map gateOf bs) ≡ map defOf bs
+unfolding flatMap defsOf
+gates-defs [] = refl
+gates-defs (b ∷ bs) = ap (λ (l : List Def). defOf b ∷ l) (gates-defs bs)
+
+-- ---- names are words
+
+decimal-word : (f n : ℕ) (s : Bytes) → Every WordByte s → Every WordByte (decimalBefore f n s)
+decimal-word zero n s h = h
+decimal-word (suc f) n s h = go (ltb n 10) refl (decimal-word f (n / 10))
+  where
+    digit : (d : ℕ) → d < 10 → WordByte (48 + d)
+    digit d u = (omega arith, (λ q. omega arith), (λ q. omega arith), omega arith)
+
+    go : (b : Bool) → ltb n 10 ≡ b → ((t : Bytes) → Every WordByte t → Every WordByte (decimalBefore f (n / 10) t))
+        → Every WordByte (elim b as (λ (x : Bool). Bytes) [ true ↦ (48 + n) ∷ s | false ↦ decimalBefore f (n / 10) ((48 + n % 10) ∷ s) ])
+    go true e ih = every-cons (digit n (ltb-true n 10 e)) h
+    go false e ih = ih ((48 + n % 10) ∷ s) (every-cons (digit (n % 10) (omega arith)) h)
+
+suffix-word : (v : Bool) → Every WordByte (suffix v)
+unfolding nonEmpty
+suffix-word false = every-nil
+suffix-word true = quoted (bytes "_n") refl .0
+
+node-word : (n : Node) (v : Bool) → IsWord (nodeBytes n v)
+unfolding nonEmpty
+node-word Const true = quoted (bytes "vdd") refl
+node-word Const false = quoted (bytes "gnd") refl
+node-word (Input i) v = (every-cons {x = 105} (omega arith, (λ q. omega arith), (λ q. omega arith), omega arith) (decimal-word (suc i) i (suffix v) (suffix-word v)), refl)
+node-word (Gated g) v = (every-cons {x = 120} (omega arith, (λ q. omega arith), (λ q. omega arith), omega arith) (decimal-word (suc g) g (suffix v) (suffix-word v)), refl)
+
+name-word : (s : Signal) → IsWord (nameBytes s)
+name-word s = node-word (s .node) (s .inv)
+
+-- a flip-flop with enable one and reset zero is a latch without either
+abbrev PlainFlop : FlipFlop → Type 0
+PlainFlop s = (s .enable ≡ oneS) × (s .reset ≡ zeroS)
+
+flop-plain : (k : ℕ) (s : FlipFlop) → PlainFlop s → PlainBlock (Latch (feedOf nameBytes s) (gateName nameBytes k))
+flop-plain k s p = (ap (unless nameBytes true) (p .0), ap (unless nameBytes false) (p .1), name-word (s .dataIn), name-word (plain (Gated k)))
+
+latches-plain : (k : ℕ) (xs : List Gate) → ((i : ℕ) (s : FlipFlop) → getElem? xs i ≡ some (Dff s) → PlainFlop s) → Every PlainBlock (latchBlocks nameBytes k xs)
+latches-plain k [] h = every-nil
+latches-plain k (Comb f ps ∷ xs) h = latches-plain (suc k) xs (λ i s p. h (suc i) s p)
+latches-plain k (Dff s ∷ xs) h = every-cons (flop-plain k s (h 0 s refl)) (latches-plain (suc k) xs (λ i t p. h (suc i) t p))
+
+covers-plain : (k : ℕ) (xs : List Gate) → Every PlainBlock (combBlocks nameBytes k xs)
+covers-plain k [] = every-nil
+covers-plain k (Dff s ∷ xs) = covers-plain (suc k) xs
+covers-plain k (Comb f ps ∷ xs) =
+    every-cons (comb-cases nameBytes (λ f ps b. PlainBlock b) k
+    (λ qs. (every-map (λ (s : Signal). nameBytes (bare s)) qs (λ s. name-word (bare s)), name-word (plain (Gated k))))
+    (λ g qs e. (every-map nameBytes qs name-word, name-word (plain (Gated k)))) f ps)
+    (covers-plain (suc k) xs)
+
+inverters-plain : (l : List Node) → Every PlainBlock (map (inverterBlock nameBytes) l)
+inverters-plain l = every-map (inverterBlock nameBytes) l (λ n. (every-cons (name-word (plain n)) every-nil, name-word (turned (plain n))))
+
+consts-plain : Every PlainBlock (constBlocks nameBytes)
+consts-plain =
+    every-cons {x = Cover [] (nameBytes oneS) (record { cols = []; out = true } ∷ [])} (every-nil, name-word oneS)
+    (every-cons {x = Cover [] (nameBytes zeroS) []} (every-nil, name-word zeroS) every-nil)
+
+-- ---- lines end where they end
+
+cube-single : (l : Line) → Single (cubeLine l)
+unfolding spaced
+cube-single l = words-single (map colByte (l .cols)) ((outByte (l .out) ∷ []) ∷ []) (every-map colByte (l .cols) col-byte) (out-word (l .out))
+
+block-single : (b : Block Bytes) → PlainBlock b → Every Single (blockLines b)
+block-single (Latch f q) w =
+    every-cons (subst Single (sym (latch-line f q (w .0) (w .1))) (spaced-single (bytes ".latch") (f .input ∷ q ∷ bytes "0" ∷ []) kw-latch (latch-words (w .2) (w .3)))) every-nil
+block-single (Cover xs y ls) w = every-cons (spaced-single (bytes ".names") (xs ++ (y ∷ [])) kw-names (cover-words (w .0) (w .1))) (every-map cubeLine ls cube-single)
+
+all-single : {bs : List (Block Bytes)} → Every PlainBlock bs → Every Single (allLines bs)
+all-single every-nil = every-nil
+all-single (every-cons {x = b} h hs) = every-append (block-single b h) (all-single hs)
+
+allStmts-append : (bs cs : List (Block Bytes)) → allStmts (bs ++ cs) ≡ allStmts bs ++ allStmts cs
+allStmts-append [] cs = refl
+allStmts-append (b ∷ bs) cs = ap (λ (l : List Stmt). blockStmts b ++ l) (allStmts-append bs cs) ∙ sym (append-assoc (blockStmts b) (allStmts bs) (allStmts cs))
+
+-- the lines of `vdd` and `gnd`
+abbrev constLines : List Bytes
+constLines = bytes ".names vdd" ∷ bytes "1" ∷ bytes ".names gnd" ∷ []
+
+consts-single : Every Single constLines
+unfolding continues
+consts-single = every-cons (quoted-line (bytes ".names vdd") refl) (every-cons (quoted-line (bytes "1") refl) (every-cons (quoted-line (bytes ".names gnd") refl) every-nil))
+
+consts-say : flatMap says constLines ≡ map ok (allStmts (constBlocks nameBytes))
+unfolding flatMap parsedLine tokens split consFirst isBlank nonEmpty stmtOf same headD cut
+consts-say = refl
+
+empty : Single []
+unfolding continues
+empty = (every-nil, refl)
+
+blank : (rest : List Bytes) → flatMap says ([] ∷ rest) ≡ flatMap says rest
+unfolding flatMap parsedLine tokens split nonEmpty cut isBlank consFirst
+blank rest = refl
+
+-- the first nine lines, of which two are x and y
+heads-single : {x y : Bytes} {rest : List Bytes} → Single x → Single y → Every Single rest
+    → Every Single (bytes "# .blif file" ∷ bytes "# Generated by quaigh" ∷ [] ∷ bytes ".model quaigh" ∷ [] ∷ x ∷ [] ∷ y ∷ [] ∷ rest)
+unfolding continues
+heads-single a b c =
+    every-cons (quoted-line (bytes "# .blif file") refl) (every-cons (quoted-line (bytes "# Generated by quaigh") refl) (every-cons empty
+    (every-cons (quoted-line (bytes ".model quaigh") refl) (every-cons empty (every-cons a (every-cons empty (every-cons b (every-cons empty c))))))))
+
+heads-say : (x y : Bytes) (rest : List Bytes)
+    → flatMap says (bytes "# .blif file" ∷ bytes "# Generated by quaigh" ∷ [] ∷ bytes ".model quaigh" ∷ [] ∷ x ∷ [] ∷ y ∷ [] ∷ rest) ≡ ok Stmt.model ∷ (says x ++ (says y ++ flatMap says rest))
+unfolding flatMap parsedLine tokens split consFirst isBlank nonEmpty stmtOf same headD cut modelOf
+heads-say x y rest = refl
+
+-- the lines of some blocks before others' are their statements
+part : {bs : List (Block Bytes)} (rest : List Bytes) (cs : List (Block Bytes)) → Every PlainBlock bs → flatMap says rest ≡ map ok (allStmts cs) → flatMap says (allLines bs ++ rest) ≡ map ok (allStmts (bs ++ cs))
+part {bs} rest cs w e =
+    flatMap-append says (allLines bs) rest ∙ ap₂ (λ (x y : List Parsed). x ++ y) (all-say w) e ∙ sym (map-append ok (allStmts bs) (allStmts cs)) ∙ ap (map ok) (sym (allStmts-append bs cs))
+
+module _ (net : Net) (plainFlops : (g : ℕ) (s : FlipFlop) → GateIs net g (Dff s) → PlainFlop s) where
+  abbrev m : Model Bytes
+  m = written nameBytes net
+
+  lb-plain : Every PlainBlock (latchBlocks nameBytes 0 (net .gates))
+  lb-plain = latches-plain 0 (net .gates) plainFlops
+
+  cb-plain : Every PlainBlock (combBlocks nameBytes 0 (net .gates))
+  cb-plain = covers-plain 0 (net .gates)
+
+  ib-plain : Every PlainBlock (map (inverterBlock nameBytes) (inverters net))
+  ib-plain = inverters-plain (inverters net)
+
+  all-plain : Every PlainBlock (m .blocks)
+  all-plain = every-append lb-plain (every-append cb-plain (every-append ib-plain consts-plain))
+
+  ins-words : Every IsWord (m .inputs)
+  ins-words = every-map (λ (i : ℕ). nameBytes (plain (Input i))) (range 0 (net .inputs)) (λ i. name-word (plain (Input i)))
+
+  outs-words : Every IsWord (m .outputs)
+  outs-words = every-map nameBytes (net .outputs) name-word
+
+  text-single : Every Single (textLines net)
+  text-single =
+      heads-single (spaced-single (bytes ".inputs") (m .inputs) kw-inputs ins-words) (spaced-single (bytes ".outputs") (m .outputs) kw-outputs outs-words)
+      (every-append (all-single lb-plain) (every-cons empty (every-append (all-single cb-plain) (every-append (all-single ib-plain) consts-single))))
+
+  -- the statements of the text
+  abbrev textStmts : List Stmt
+  textStmts = Stmt.model ∷ Stmt.inputs (m .inputs) ∷ Stmt.outputs (m .outputs) ∷ allStmts (m .blocks)
+
+  text-says : flatMap says (textLines net) ≡ map ok textStmts
+  text-says =
+      let a : says (bytes ".inputs" ++ spaced (m .inputs)) ≡ ok (Stmt.inputs (m .inputs)) ∷ [] =
+      says-spaced (bytes ".inputs") (m .inputs) kw-inputs ins-words ∙ ap (λ (p : Parsed). p ∷ []) (stmt-inputs (m .inputs)) in
+      let b : says (bytes ".outputs" ++ spaced (m .outputs)) ≡ ok (Stmt.outputs (m .outputs)) ∷ [] =
+      says-spaced (bytes ".outputs") (m .outputs) kw-outputs outs-words ∙ ap (λ (p : Parsed). p ∷ []) (stmt-outputs (m .outputs)) in
+      let ib : List (Block Bytes) = map (inverterBlock nameBytes) (inverters net) in
+      let il : List Bytes = allLines ib ++ constLines in
+      let cl : List Bytes = allLines (combBlocks nameBytes 0 (net .gates)) ++ il in
+      let c : flatMap says (allLines (latchBlocks nameBytes 0 (net .gates)) ++ ([] ∷ cl)) ≡ map ok (allStmts (m .blocks)) =
+      part ([] ∷ cl) (combBlocks nameBytes 0 (net .gates) ++ (ib ++ constBlocks nameBytes)) lb-plain
+      (blank cl ∙ part il (ib ++ constBlocks nameBytes) cb-plain (part constLines (constBlocks nameBytes) ib-plain consts-say)) in
+      heads-say (bytes ".inputs" ++ spaced (m .inputs)) (bytes ".outputs" ++ spaced (m .outputs)) (allLines (latchBlocks nameBytes 0 (net .gates)) ++ ([] ∷ cl))
+      ∙ (λ i. ok Stmt.model ∷ (a i ++ (b i ++ c i)))
+
+  stmts-of : parsed (textOf net) ≡ map ok textStmts
+  unfolding line
+  stmts-of = parsed-lines (textLines net) text-single ∙ text-says
+
+  -- no refusal 3
+  pub text-ascii : any (leb 128) (textOf net) ≡ false
+  unfolding line
+  text-ascii = lines-ascii (textLines net) text-single
+
+  -- no refusal 4 or 5
+  pub text-sound : firstBad (parsed (textOf net)) ≡ 0
+  text-sound = ap firstBad stmts-of ∙ none-bad textStmts
+
+  -- the declarations of the text
+  abbrev pub textDecls : List Decl
+  textDecls = Decl.model ∷ Decl.inputs (m .inputs) ∷ Decl.outputs (m .outputs) ∷ map gateOf (m .blocks)
+
+  pub decls-of : decls (stmts (parsed (textOf net))) ≡ textDecls
+  unfolding decls
+  decls-of =
+      ap (λ (p : List Parsed). decls (stmts p)) stmts-of ∙ ap decls (stmts-ok textStmts)
+      ∙ ap (λ (r : List Decl). Decl.model ∷ Decl.inputs (m .inputs) ∷ Decl.outputs (m .outputs) ∷ r) (all-decls (m .blocks))
+
+  pub ins-are : ins textDecls ≡ m .inputs
+  unfolding ins flatMap insOf
+  ins-are = ap (λ (l : List Bytes). m .inputs ++ l) (gates-ins (m .blocks)) ∙ append-nil (m .inputs)
+
+  pub outs-are : outs textDecls ≡ m .outputs
+  unfolding outs flatMap outsOf
+  outs-are = ap (λ (l : List Bytes). m .outputs ++ l) (gates-outs (m .blocks)) ∙ append-nil (m .outputs)
+
+  pub defs-are : defs textDecls ≡ map defOf (m .blocks)
+  unfolding defs flatMap defsOf
+  defs-are = gates-defs (m .blocks)
+
+  -- the text is read back as the model
+  pub parses : modelOfText (textOf net) ≡ written nameBytes net
+  parses = ap modelOfDecls decls-of ∙ (λ i. record { inputs = ins-are i; outputs = outs-are i; blocks = (ap (map blockOf) defs-are ∙ blocks-back all-plain) i })

@@ -1,0 +1,109 @@
+-- What a BLIF model means. Sentences in quotes are the Berkeley text's, "Berkeley Logic Interchange Format (BLIF)", sections "Logic
+-- Gates" and "Flip flops and latches", or, where `.flop` is named, ABC's. Names are of any type. Assumes nothing: these are definitions.
+use mathlib.Core.Path.{_≡_}
+use mathlib.Core.Bool.{Bool, true, false, not, _&&_, _||_, cond}
+use mathlib.Core.List.{List, [], _∷_, map, List·Memᴰ}
+use mathlib.Core.Option.{Option, none, some}
+use Prim.Native.Nat.{ℕ}
+use lib.ListN.{getD, getElem?}
+use Rattle.network.specs.Clock.{Runs}
+
+-- a column of a row: "{0, 1, –} is used in the n-bit wide input plane"
+pub data Col : Type 0 where
+  C0 C1 Dash : Col
+
+-- a row of a cover: its input plane, and its output plane, "{0, 1}"
+pub record Line : Type 0 where
+  -- the input plane
+  pub cols : List Col
+  -- the output plane
+  pub out : Bool
+
+-- what feeds a latch: "input is the data input to the latch"; a `.flop` may have an enable `E` and a reset `R` too
+pub record Feed (Name : Type 0) : Type 0 where
+  -- the data input
+  pub input : Name
+  -- `E`, if it is given
+  pub enable : Option Name
+  -- `R`, if it is given
+  pub reset : Option Name
+
+-- a latch with what feeds it and its output, or a cover with its inputs, its output and its rows
+pub data Block (Name : Type 0) : Type 0 where
+  Latch : Feed Name → Name → Block Name
+  Cover : List Name → Name → List Line → Block Name
+
+-- a model: its inputs and outputs in order, its latches and covers
+pub record Model (Name : Type 0) : Type 0 where
+  -- `.inputs`
+  pub inputs : List Name
+  -- `.outputs`
+  pub outputs : List Name
+  -- `.latch`, `.flop` and `.names`, in text order
+  pub blocks : List (Block Name)
+
+-- "1 means the input is used in uncomplemented form, 0 means the input is complemented, and – means not used"
+abbrev pub colBit : Col → Bool → Bool
+colBit C0 b = not b
+colBit C1 b = b
+colBit Dash b = true
+
+-- "Elements of a row are ANDed together"
+abbrev pub cubeBit : List Col → List Bool → Bool
+cubeBit [] bs = true
+cubeBit (c ∷ cs) [] = true
+cubeBit (c ∷ cs) (b ∷ bs) = colBit c b && cubeBit cs bs
+
+-- "and then all rows are ORed"
+abbrev pub cubesBit : List Line → List Bool → Bool
+cubesBit [] bs = false
+cubesBit (l ∷ ls) bs = cubeBit (l .cols) bs || cubesBit ls bs
+
+-- "The ON-set is specified with 1's in the output plane, and the OFF-set is specified with 0's in the output plane"; a cover without
+-- rows is "the constant 0"
+abbrev pub coverBit : List Line → List Bool → Bool
+coverBit [] bs = false
+coverBit (l ∷ ls) bs = cond (l .out) (cubesBit (l ∷ ls) bs) (not (cubesBit (l ∷ ls) bs))
+
+module _ {Name : Type 0} where
+  -- the name that a latch or a cover defines
+  abbrev pub target : Block Name → Name
+  target (Latch f q) = q
+  target (Cover xs y ls) = y
+
+  -- a latch's output is its held value, a cover's its function of its inputs
+  abbrev pub blockBit : (Name → Bool) → Bool → Block Name → Bool
+  blockBit env h (Latch f q) = h
+  blockBit env h (Cover xs y ls) = coverBit ls (map env xs)
+
+  -- the bit of a name that may be left out
+  abbrev pub optBit : (Name → Bool) → Bool → Option Name → Bool
+  optBit env v none = v
+  optBit env v (some x) = env x
+
+  -- what a latch holds next: its input's value; of a `.flop`, a reset of one gives zero, else an enable of one takes the input, else
+  -- the value is held
+  abbrev pub nextHeld : (Name → Bool) → Bool → Feed Name → Bool
+  nextHeld env h f = cond (optBit env false (f .reset)) false (cond (optBit env true (f .enable)) (env (f .input)) h)
+
+  -- the names' values at one clock fit the input row and the latches' held values
+  pub record BlifFits (m : Model Name) (row : List Bool) (held env : Name → Bool) : Type 0 where
+    -- an input has its bit of the row
+    pub ins : (i : ℕ) (x : Name) → getElem? (m .inputs) i ≡ some x → env x ≡ getD row i false
+    -- what a block defines has the block's bit
+    pub blocks : (b : Block Name) → List·Memᴰ b (m .blocks) → env (target b) ≡ blockBit env (held (target b)) b
+
+  -- one clock: the outputs' values, and at its end each latch takes its next value
+  pub record BlifClock (m : Model Name) (held : Name → Bool) (row out : List Bool) (next : Name → Bool) : Type 0 where
+    -- the names' values
+    pub env : Name → Bool
+    -- fit the row and the held values
+    pub fits : BlifFits m row held env
+    -- the outputs in order
+    pub answers : out ≡ map env (m .outputs)
+    -- each latch takes what it holds next
+    pub steps : (f : Feed Name) (q : Name) → List·Memᴰ (Latch f q) (m .blocks) → next q ≡ nextHeld env (held q) f
+
+  -- the outputs that the model gives for these rows, from all latches at 0
+  abbrev pub BlifRuns : Model Name → List (List Bool) → List (List Bool) → Type 0
+  BlifRuns m rows outs = Runs (BlifClock m) (λ (x : Name). false) rows outs

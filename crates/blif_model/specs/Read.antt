@@ -1,0 +1,130 @@
+-- What reading a text gives: refusals in order, and the network read (document 01, "Reading refuses, in order"). Refusal 1, which asks for
+-- lent cells, stands with the code. Assumes nothing: these are definitions.
+use mathlib.Core.Bool.{Bool, true, false, _&&_, _||_, not}
+use mathlib.Core.List.{List, [], _∷_, _++_, map, flatMap}
+use mathlib.Core.Option.{Option, none, some}
+use Prim.Native.Nat.{ℕ, zero, suc, _+_, _-_, _*_}
+use lib.Dec.{eqb, leb, ltb}
+use lib.ListN.{length}
+use Rattle.lists.specs.Lists.{if_then_else_, Bytes, all, any, sumOf, elem, known}
+use Rattle.network.specs.Net.{Net}
+use Rattle.network.specs.Cells.{maxInputs, maxOutputs, maxGates, maxPins}
+use Rattle.sort.specs.Sorted.{sorted}
+use Rattle.blif_text.specs.Statements.{parsed, firstBad, stmts}
+use Rattle.blif_text.specs.Decls.{Def, latch, cover, Decl, model, end, inputs, outputs, gate, decls, ins, outs, defs, coverOut, defines, uses, columns, output, isOne}
+use Rattle.blif_model.specs.Lookup.{lookup}
+use Rattle.blif_model.specs.Build.{build}
+use Rattle.blif_model.specs.Names.{byte-names}
+use Rattle.blif_model.specs.Render.{modelOf}
+
+-- ---- a refusal's number, or 0 for none: the first one counts
+
+infixr 20 _then_
+-- the first, or else the second
+unfoldable pub _then_ : ℕ → ℕ → ℕ
+zero then b = b
+suc a then b = suc a
+
+-- the number where the test holds
+unfoldable pub when : Bool → ℕ → ℕ
+when c n = if c then n else 0
+
+-- ---- 6: sizes
+
+-- "plus k gates when k is 2 or more"
+unfoldable pub added : ℕ → ℕ
+added k = if ltb 1 k then k else 0
+
+-- "a `.latch` is one gate"; "a `.names` .. one gate, plus k gates when k is 2 or more"
+unfoldable pub gateCount : Def → ℕ
+gateCount (latch d q) = 1
+gateCount (cover ns ls) = 1 + added (length ls)
+
+-- "a `.latch` is .. three pins; a `.names` with n names before its last and k cube lines is (k + 1) × (n + 2) pins"
+unfoldable pub pinCount : Def → ℕ
+pinCount (latch d q) = 3
+pinCount (cover ns ls) = (length ls + 1) * (length ns - 1 + 2)
+
+-- "256 inputs; 256 outputs; 1,024 gates; 16,384 pins"
+unfoldable pub tooLarge : List Decl → Bool
+tooLarge ds =
+    ltb maxInputs (length (ins ds)) || ltb maxOutputs (length (outs ds))
+    || ltb maxGates (sumOf gateCount (defs ds)) || ltb maxPins (sumOf pinCount (defs ds))
+
+-- ---- 7 to 10: naming
+
+-- a name of these stands earlier among them, or in `earlier`
+unfoldable pub twice : List Bytes → List Bytes → Bool
+twice earlier [] = false
+twice earlier (n ∷ ns) = known n earlier || twice (earlier ++ (n ∷ [])) ns
+
+-- "7 at a second `.model`; 8 at `.end` before any `.model`; 9 when `.names` is empty; 10 when a name is defined twice by inputs,
+-- latch outputs or covers"; `seen` says that there was a `.model`, `earlier` lists the names defined so far
+unfoldable pub naming : Bool → List Bytes → List Decl → ℕ
+naming seen earlier [] = 0
+naming seen earlier (model ∷ ds) = when seen 7 then naming true earlier ds
+naming seen earlier (end ∷ ds) = when (not seen) 8 then naming seen earlier ds
+naming seen earlier (inputs ns ∷ ds) = when (twice earlier ns) 10 then naming seen (earlier ++ ns) ds
+naming seen earlier (outputs ns ∷ ds) = naming seen earlier ds
+naming seen earlier (gate (latch d q) ∷ ds) = when (known q earlier) 10 then naming seen (earlier ++ (q ∷ [])) ds
+naming seen earlier (gate (cover [] ls) ∷ ds) = 9
+naming seen earlier (gate (cover (n ∷ ns) ls) ∷ ds) =
+    when (known (coverOut (n ∷ ns)) earlier) 10 then naming seen (earlier ++ (coverOut (n ∷ ns) ∷ [])) ds
+
+-- ---- 11: uses
+
+-- "11 when an output, latch input or cover input is undefined"
+unfoldable pub undefined : List Decl → Bool
+undefined ds = not (all (λ n. known n (ins ds ++ map defines (defs ds))) (outs ds ++ flatMap uses (defs ds)))
+
+-- "12 when a line has neither one nor two tokens, or the wrong number of columns, a column other than 0, 1, dash, or an output
+-- other than 0, 1"
+unfoldable pub goodLine : ℕ → List Bytes → Bool
+goodLine n ts =
+    elem (length ts) (1 ∷ 2 ∷ []) && eqb n (length (columns ts)) && all (λ c. elem c (48 ∷ 49 ∷ 45 ∷ [])) (columns ts)
+    && known (output ts) ((48 ∷ []) ∷ (49 ∷ []) ∷ [])
+
+-- "13 when its lines are all good but differ in output"
+unfoldable pub coverFault : Def → ℕ
+coverFault (latch d q) = 0
+coverFault (cover ns ls) =
+    when (not (all (goodLine (length ns - 1)) ls)) 12
+    then when (any isOne ls && not (all isOne ls)) 13
+
+-- "Then cover by cover"
+unfoldable pub coverFaults : List Def → ℕ
+coverFaults [] = 0
+coverFaults (g ∷ gs) = coverFault g then coverFaults gs
+
+-- ---- reading
+
+-- 6 to 13
+unfoldable pub declFault : List Decl → ℕ
+declFault ds = when (tooLarge ds) 6 then naming false [] ds then when (undefined ds) 11 then coverFaults (defs ds)
+
+-- the declarations of a text
+unfoldable pub declsOf : Bytes → List Decl
+declsOf s = decls (stmts (parsed s))
+
+-- "2 when the text is over 32,768 bytes. 3 when it has a byte of 128 or more", then 4 and 5, then 6 to 13
+unfoldable pub readFault : Bytes → ℕ
+readFault s = when (ltb 32768 (length s)) 2 then when (any (leb 128) s) 3 then firstBad (parsed s) then declFault (declsOf s)
+
+-- a network, or a refusal's number
+pub data Result : Type 0 where
+  read : Net → Result
+  refused : ℕ → Result
+
+-- 14 at a combinational loop among the gates as built
+unfoldable pub answer : ℕ → Option Net → Result
+answer zero none = refused 14
+answer zero (some n) = read n
+answer (suc f) n = refused (suc f)
+
+-- the gates as built
+unfoldable pub builtFrom : List Decl → Net
+builtFrom ds = build (lookup byte-names (modelOf ds)) (modelOf ds)
+
+-- what reading gives, where the cells suffice
+unfoldable pub readText : Bytes → Result
+readText s = answer (readFault s) (sorted (builtFrom (declsOf s)))

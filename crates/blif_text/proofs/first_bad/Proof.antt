@@ -1,0 +1,62 @@
+-- `first_bad` passes one row after the other. Assumes nothing.
+use Prim.Native.Nat.{_-_}
+use native.Mathlib.Omega.{arith}
+use Rattle.blif_text.proofs.RefusalLaws.{Passing, passing-start, passing-done, passing-stop, passing-next}
+use Rattle.blif_text.proofs.first_bad.Statement.{statement}
+use Rattle.blif_text.proofs.first_bad.Tie as tie
+
+abbrev Inv-loop : tie.InvT-loop
+Inv-loop text cells n at₀ at = Passing text cells n at
+
+abbrev μ-loop : tie.MeasureT-loop
+μ-loop text cells n at₀ at = n - at
+
+loop-holds : tie.Need-loop-holds Inv-loop μ-loop
+loop-holds c = passing-start (c .before .before .pre .0) (c .before .before .pre .1)
+
+row-end-requires : tie.Need-row-end-requires Inv-loop μ-loop
+row-end-requires c κs = (c .loop-test .taken, c .before .loop .inv .room)
+
+statement-at-requires : tie.Need-statement-at-requires Inv-loop μ-loop
+statement-at-requires c κs =
+    let v = c .before .before .loop .inv in
+    let w = c .row-end .ensures in
+    ((w .low, omega (arith, w .high, v .room)), v .inside (c .before .before .loop .at) (c .before .loop-test .taken))
+
+refusal-of-requires : tie.Need-refusal-of-requires Inv-loop μ-loop
+refusal-of-requires c κs = tt
+
+returns : tie.Need-returns Inv-loop μ-loop
+returns c =
+    let v = c .before .before .before .before .before .loop .inv in
+    let w = c .before .before .before .row-end .ensures in
+    let s = c .before .before .statement-at in
+    passing-stop v (c .before .before .before .before .loop-test .taken) w (s .result) (s .ensures) (c .before .refusal-of .ensures) (c .if1 .taken)
+
+loop-less : tie.Need-loop-less Inv-loop μ-loop
+loop-less c = omega (arith, c .before .before .before .row-end .ensures .low, c .before .before .before .before .loop-test .taken)
+
+loop-again : tie.Need-loop-again Inv-loop μ-loop
+loop-again c =
+    let v = c .before .before .before .before .before .loop .inv in
+    let w = c .before .before .before .row-end .ensures in
+    let s = c .before .before .statement-at in
+    passing-next v (c .before .before .before .before .loop-test .taken) w (s .result) (s .ensures) (c .before .refusal-of .ensures) (c .if1 .left)
+
+returns-2 : tie.Need-returns-2 Inv-loop μ-loop
+returns-2 c = passing-done (c .before .loop .inv) (c .loop-test .left)
+
+pub first-bad-spec : {M : Type 1} → statement M
+first-bad-spec =
+    tie.close
+    (tie.spec
+    Inv-loop
+    μ-loop
+    loop-holds
+    row-end-requires
+    statement-at-requires
+    refusal-of-requires
+    returns
+    loop-less
+    loop-again
+    returns-2)

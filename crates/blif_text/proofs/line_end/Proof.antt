@@ -1,0 +1,51 @@
+-- `line_end` passes one byte of the line after the other. Assumes nothing.
+use mathlib.Core.Path.{sym}
+use Prim.Native.Nat.{_-_}
+use native.Mathlib.Omega.{arith}
+use lib.Dec.{eqb}
+use lib.ListN.{length}
+use borrow.Author.Tests.{ne-eqb}
+use Rattle.blif_text.proofs.Loops.{Passed, passed-start, passed-next, line-stop}
+use Rattle.blif_text.proofs.line_end.Statement.{statement}
+use Rattle.blif_text.proofs.line_end.Tie as tie
+
+abbrev Inv-loop : tie.InvT-loop
+Inv-loop text at i₀ i = Passed (eqb 10) text at i
+
+abbrev μ-loop : tie.MeasureT-loop
+μ-loop text at i₀ i = length text - i
+
+loop-holds : tie.Need-loop-holds Inv-loop μ-loop
+loop-holds c = passed-start (eqb 10) (c .pre)
+
+shared-slice-read-if1 : tie.Need-shared-slice-read-if1 Inv-loop μ-loop
+shared-slice-read-if1 c = omega arith
+
+returns : tie.Need-returns Inv-loop μ-loop
+returns c = line-stop (c .before .before .before .loop .inv) (λ h. c .if1 .taken)
+
+add-i : tie.Need-add-i Inv-loop μ-loop
+add-i c = omega arith
+
+loop-less : tie.Need-loop-less Inv-loop μ-loop
+loop-less c = omega arith
+
+loop-again : tie.Need-loop-again Inv-loop μ-loop
+loop-again c = passed-next (c .before .before .before .loop .inv) (c .before .before .loop-test .taken) (ne-eqb 10 _ (λ e. c .if1 .left (sym e)))
+
+returns-2 : tie.Need-returns-2 Inv-loop μ-loop
+returns-2 c = line-stop (c .before .loop .inv) (λ h. absurd (let z : ⊥ = omega arith in z))
+
+pub line-end-spec : {M : Type 1} → statement M
+line-end-spec =
+    tie.close
+    (tie.spec
+    Inv-loop
+    μ-loop
+    loop-holds
+    shared-slice-read-if1
+    returns
+    add-i
+    loop-less
+    loop-again
+    returns-2)

@@ -1,0 +1,37 @@
+-- `statement_at` finds the keyword of the row's first token. Assumes nothing.
+use mathlib.Core.Path.{ap, _∙_}
+use borrow.Author.Needs.{needs}
+use Rattle.blif_text.specs.Keywords.{keywordOf}
+use Rattle.blif_text.proofs.statement_at.Statement.{statement}
+use Rattle.blif_text.proofs.statement_at.Tie as tie
+
+mul-first : tie.Need-mul-first
+mul-first c = search needs
+
+shared-slice-read-first : tie.Need-shared-slice-read-first
+shared-slice-read-first c = search needs
+
+token-requires : tie.Need-token-requires
+token-requires c κs = search needs
+
+keyword-of-requires : tie.Need-keyword-of-requires
+keyword-of-requires c κs = search needs
+
+statement-of-requires : tie.Need-statement-of-requires
+statement-of-requires c κs = search needs
+
+returns : tie.Need-returns
+returns c =
+    let s = c .before .before .before .before .before .before in
+    c .statement-of .ensures (s .args .text .now) (s .args .cells .now) (s .pre .0 .1) (c .before .keyword-of .ensures ∙ ap keywordOf (c .before .before .token .ensures))
+
+pub statement-at-spec : {M : Type 1} → statement M
+statement-at-spec =
+    tie.close
+    (tie.spec
+    mul-first
+    shared-slice-read-first
+    token-requires
+    keyword-of-requires
+    statement-of-requires
+    returns)

@@ -1,0 +1,113 @@
+-- Declarations: the statements before the first `.exdc`, each `.names` with its cube lines (document 01, src/io/blif.rs).
+-- Assumes nothing: these are definitions.
+use mathlib.Core.Bool.{Bool}
+use mathlib.Core.List.{List, [], _∷_, flatMap}
+use Prim.Native.Nat.{ℕ, _-_}
+use lib.ListN.{length, getD, take}
+use Rattle.lists.specs.Lists.{Bytes, same}
+use Rattle.blif_text.specs.Statements.{Stmt}
+
+-- what defines a gate: a latch's input and output, or a cover's names and the tokens of its lines
+pub data Def : Type 0 where
+  latch : Bytes → Bytes → Def
+  cover : List Bytes → List (List Bytes) → Def
+
+-- a declaration
+pub data Decl : Type 0 where
+  model end : Decl
+  inputs outputs : List Bytes → Decl
+  gate : Def → Decl
+
+-- "Cube lines count only directly after their `.names`"
+unfoldable pub cubes : List Stmt → List (List Bytes)
+cubes [] = []
+cubes (Stmt.model ∷ ss) = []
+cubes (Stmt.end ∷ ss) = []
+cubes (Stmt.exdc ∷ ss) = []
+cubes (Stmt.inputs ns ∷ ss) = []
+cubes (Stmt.outputs ns ∷ ss) = []
+cubes (Stmt.names ns ∷ ss) = []
+cubes (Stmt.latch d q ∷ ss) = []
+cubes (Stmt.cube ts ∷ ss) = ts ∷ cubes ss
+
+-- "`.exdc` stops naming and building"; cube lines "elsewhere .. are not looked at"; "statements after `.end` still count"
+unfoldable pub decls : List Stmt → List Decl
+decls [] = []
+decls (Stmt.model ∷ ss) = model ∷ decls ss
+decls (Stmt.end ∷ ss) = end ∷ decls ss
+decls (Stmt.exdc ∷ ss) = []
+decls (Stmt.inputs ns ∷ ss) = inputs ns ∷ decls ss
+decls (Stmt.outputs ns ∷ ss) = outputs ns ∷ decls ss
+decls (Stmt.names ns ∷ ss) = gate (cover ns (cubes ss)) ∷ decls ss
+decls (Stmt.latch d q ∷ ss) = gate (latch d q) ∷ decls ss
+decls (Stmt.cube ts ∷ ss) = decls ss
+
+-- what a declaration adds to the inputs' names
+unfoldable pub insOf : Decl → List Bytes
+insOf model = []
+insOf end = []
+insOf (inputs ns) = ns
+insOf (outputs ns) = []
+insOf (gate g) = []
+
+-- what a declaration adds to the outputs' names
+unfoldable pub outsOf : Decl → List Bytes
+outsOf model = []
+outsOf end = []
+outsOf (inputs ns) = []
+outsOf (outputs ns) = ns
+outsOf (gate g) = []
+
+-- what a declaration adds to the gates
+unfoldable pub defsOf : Decl → List Def
+defsOf model = []
+defsOf end = []
+defsOf (inputs ns) = []
+defsOf (outputs ns) = []
+defsOf (gate g) = g ∷ []
+
+-- the inputs' names in text order
+unfoldable pub ins : List Decl → List Bytes
+ins ds = flatMap insOf ds
+
+-- the outputs' names in text order
+unfoldable pub outs : List Decl → List Bytes
+outs ds = flatMap outsOf ds
+
+-- the gates: "Each `.latch` and `.names` is a gate in text order"
+unfoldable pub defs : List Decl → List Def
+defs ds = flatMap defsOf ds
+
+-- a cover's last name is its output's
+unfoldable pub coverOut : List Bytes → Bytes
+coverOut ns = getD ns (length ns - 1) []
+
+-- the names before the last are its inputs'
+unfoldable pub coverIns : List Bytes → List Bytes
+coverIns ns = take (length ns - 1) ns
+
+-- the name that a gate defines
+unfoldable pub defines : Def → Bytes
+defines (latch d q) = q
+defines (cover ns ls) = coverOut ns
+
+-- the names that a gate uses
+unfoldable pub uses : Def → List Bytes
+uses (latch d q) = d ∷ []
+uses (cover ns ls) = coverIns ns
+
+-- a cube line's columns: the first of two tokens, or none
+unfoldable pub columns : List Bytes → Bytes
+columns [] = []
+columns (o ∷ []) = []
+columns (c ∷ o ∷ ts) = c
+
+-- a cube line's output: the second of two tokens, or the only one
+unfoldable pub output : List Bytes → Bytes
+output [] = []
+output (o ∷ []) = o
+output (c ∷ o ∷ ts) = o
+
+-- the line's output is 1
+unfoldable pub isOne : List Bytes → Bool
+isOne ts = same (output ts) (49 ∷ [])

@@ -1,0 +1,7 @@
+pub mod Lines
+pub mod Statements
+pub mod Decls
+pub mod Rows
+pub mod Places
+pub mod Scan
+pub mod Keywords

@@ -1,0 +1,50 @@
+-- `print_rows` is safe and ends. Assumes nothing.
+use Prim.Native.Nat.{_-_, _≤_}
+use native.Mathlib.Omega.{arith}
+use borrow.Author.Needs.{needs}
+use Rattle.text_replay.proofs.print_rows.Statement.{statement}
+use Rattle.text_replay.proofs.print_rows.Tie as tie
+
+abbrev Inv-loop : tie.InvT-loop
+Inv-loop text cells n at₀ at = at ≤ n
+
+abbrev μ-loop : tie.MeasureT-loop
+μ-loop text cells n at₀ at = n - at
+
+loop-holds : tie.Need-loop-holds Inv-loop μ-loop
+loop-holds c = omega arith
+
+row-end-requires : tie.Need-row-end-requires Inv-loop μ-loop
+row-end-requires c κs = (c .loop-test .taken, c .before .before .before .before .pre .1)
+
+statement-at-requires : tie.Need-statement-at-requires Inv-loop μ-loop
+statement-at-requires c κs =
+    let p = c .before .before .before .before .before .pre in
+    let w = c .row-end .ensures in
+    ((w .low, omega (arith, w .high, p .1)), p .0 .inside (c .before .before .loop .at) (c .before .loop-test .taken))
+
+print-statement-requires : tie.Need-print-statement-requires Inv-loop μ-loop
+print-statement-requires c κs = search needs
+
+loop-less : tie.Need-loop-less Inv-loop μ-loop
+loop-less c = omega (arith, c .before .before .row-end .ensures .low, c .before .before .before .loop-test .taken)
+
+loop-again : tie.Need-loop-again Inv-loop μ-loop
+loop-again c = c .before .before .row-end .ensures .high
+
+returns : tie.Need-returns Inv-loop μ-loop
+returns c = tt
+
+pub print-rows-spec : {M : Type 1} → statement M
+print-rows-spec =
+    tie.close
+    (tie.spec
+    Inv-loop
+    μ-loop
+    loop-holds
+    row-end-requires
+    statement-at-requires
+    print-statement-requires
+    loop-less
+    loop-again
+    returns)
