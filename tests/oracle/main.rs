@@ -1,8 +1,10 @@
 // The oracle: Quaigh's answers, as lists that programs of this repository replay.
-// usage: oracle sort SEED COUNT                    networks and what `topo_sort` makes of them
+// usage: oracle checks SEED COUNT                  texts and networks with what is read and written, as terms of blif_model's Cases
+//        oracle sort SEED COUNT                    networks and what `topo_sort` makes of them
 //        oracle texts SEED COUNT GIVEN WANTED      files of texts and of the statements that `read_statements` finds
 mod generate;
 mod io;
+mod models;
 mod network;
 mod texts;
 mod variants;
@@ -122,6 +124,7 @@ fn main() {
             std::fs::write(&a[4], given).unwrap();
             std::fs::write(&a[5], wanted).unwrap();
         }
+        "checks" => println!("{}", models::checks(a[2].parse().unwrap(), a[3].parse().unwrap())),
         other => panic!("no list {other}"),
     }
 }

@@ -1,0 +1,190 @@
+// BLIF texts made from a seed, what Quaigh's `read_blif` makes of them, and what its `write_blif` writes.
+use crate::generate::{make, plain_of, Numbers, Plain, Shape};
+use crate::io::blif::{read_blif, write_blif};
+use crate::io::statements::{list, Found};
+use crate::{Network, Signal};
+use std::panic::{catch_unwind, AssertUnwindSafe};
+
+// A network, or a refusal's number.
+pub enum Answer {
+    Read(Network),
+    Refused(u32),
+}
+
+// The number of a message of `read_blif`.
+fn number(message: &str) -> u32 {
+    let known = [
+        ("Multiple models", 7),
+        ("End statement", 8),
+        ("with no output", 9),
+        ("defined twice", 10),
+        ("not defined", 11),
+        ("Invalid cube", 12),
+        ("Inconsistent", 13),
+        ("not supported", 5),
+    ];
+    known.iter().find(|(m, _)| message.contains(m)).expect(message).1
+}
+
+// What `read_blif` gives. It panics where a name is missing (4), where a latch's input is undefined (11) and at a loop (14).
+pub fn answer(text: &[u8]) -> Answer {
+    if catch_unwind(|| matches!(list(text), Found::Statements(_))).is_err() {
+        return Answer::Refused(4);
+    }
+    match catch_unwind(|| read_blif(text)) {
+        Ok(Ok(n)) => Answer::Read(n),
+        Ok(Err(m)) => Answer::Refused(number(&m)),
+        Err(e) => {
+            let why = e.downcast_ref::<String>().cloned().or(e.downcast_ref::<&str>().map(|s| s.to_string())).unwrap_or_default();
+            Answer::Refused(if why.to_lowercase().contains("loop") { 14 } else { 11 })
+        }
+    }
+}
+
+const NAMES: [&str; 7] = ["a", "b", "c", "d", "y", "z", "w"];
+
+fn name(r: &mut Numbers, names: &[String]) -> String {
+    if names.is_empty() || r.below(25) == 0 { NAMES[r.below(NAMES.len())].to_string() } else { names[r.below(names.len())].clone() }
+}
+
+// A cover's lines, of one output and never two or more of 0, where Quaigh and the Berkeley text part; now and then a wrong one.
+fn cubes(r: &mut Numbers, inputs: usize) -> String {
+    let n = r.below(4);
+    let out = n >= 2 || r.below(2) == 0;
+    let mixed = r.below(12) == 0;
+    let mut s = String::new();
+    for k in 0..n {
+        let wrong = r.below(30) == 0;
+        let columns: String = (0..inputs + wrong as usize).map(|_| ['0', '1', '-'][r.below(3)]).collect();
+        let one = out && !(mixed && k == 1);
+        let o = if r.below(60) == 0 { "2" } else if one { "1" } else { "0" };
+        s += &format!("{columns} {o}\n");
+    }
+    s
+}
+
+// A text: distinct names defined by inputs, latches and covers, used anywhere, with a fault now and then.
+pub fn text(r: &mut Numbers) -> String {
+    let inputs = r.below(4);
+    let gates = r.below(4);
+    let mut names: Vec<String> = NAMES[..inputs + gates].iter().map(|n| n.to_string()).collect();
+    let mut s = String::new();
+    if r.below(8) > 0 {
+        s += ".model m # name\n";
+    }
+    s += &format!(".inputs {}\n", names[..inputs].join(if r.below(2) == 0 { " " } else { " \\\n" }));
+    if r.below(2) == 0 {
+        s += &format!(".outputs {} {}\n", name(r, &names), name(r, &names));
+    }
+    for g in 0..gates {
+        if r.below(30) == 0 {
+            names[inputs + g] = names[0].clone();
+        }
+        let out = names[inputs + g].clone();
+        if r.below(3) == 0 {
+            s += &format!(".latch {} {out} re clk 2\r\n", name(r, &names));
+        } else {
+            let n = r.below(4);
+            let used: Vec<String> = (0..n).map(|_| name(r, &names)).collect();
+            s += &format!(".names {} {out}\n", used.join(" "));
+            if r.below(6) == 0 {
+                s += "\n# lines\n";
+            }
+            s += &cubes(r, n);
+        }
+    }
+    s += match r.below(30) {
+        0 => ".gate\n",
+        1 => ".names\n",
+        2 => "1 1\n.end\n.outputs\n",
+        3 | 4 => ".exdc\n.names q\n",
+        5..=9 => ".end\n.end\n",
+        10 => ".model\n",
+        11 => ".latch a\n",
+        12 | 13 => ".model n\n",
+        _ => "",
+    };
+    s
+}
+
+// ---- the same as terms of crate blif_model, specs/Cases.antt
+
+fn signal(s: &Signal) -> String {
+    let bare = s.without_inversion();
+    let node = if bare.is_constant() {
+        "zeroS".to_string()
+    } else if bare.is_input() {
+        format!("plain (Input {})", bare.input())
+    } else {
+        format!("plain (Gated {})", bare.var())
+    };
+    if s.is_inverted() { format!("turned ({node})") } else { node }
+}
+
+fn listed(parts: Vec<String>) -> String {
+    parts.iter().map(|p| format!("({p}) ∷ ")).collect::<String>() + "[]"
+}
+
+const FORMS: [&str; 14] = ["", "And2", "Xor2", "And3", "Xor3", "Maj3", "Mux3", "AndN", "OrN", "NandN", "NorN", "XorN", "XnorN", "Buf"];
+
+fn gate(form: u32, p: &[Signal]) -> String {
+    if form == 14 {
+        return format!("Dff (record {{ dataIn = {}; enable = {}; reset = {} }})", signal(&p[0]), signal(&p[1]), signal(&p[2]));
+    }
+    format!("Comb {} ({})", FORMS[form as usize], listed(p.iter().map(signal).collect()))
+}
+
+fn net(p: &Plain) -> String {
+    let gates = listed(p.gates.iter().map(|(f, ps)| gate(*f, ps)).collect());
+    format!("net {} ({gates}) ({})", p.inputs, listed(p.outputs.iter().map(signal).collect()))
+}
+
+fn quoted(text: &str) -> String {
+    text.replace('\\', "\\\\").replace('\n', "\\n").replace('\r', "\\r")
+}
+
+fn of(n: &Network) -> Plain {
+    Plain {
+        inputs: n.nb_inputs(),
+        gates: (0..n.nb_nodes()).map(|i| plain_of(n.gate(i))).collect(),
+        outputs: (0..n.nb_outputs()).map(|i| n.output(i)).collect(),
+    }
+}
+
+// Plain flip-flops, since Quaigh writes others in a notation of its own.
+fn plain_flops(mut p: Plain) -> Plain {
+    for (form, ps) in &mut p.gates {
+        if *form == 14 {
+            ps[1] = Signal::one();
+            ps[2] = Signal::zero();
+        }
+    }
+    p
+}
+
+// Checks of `readText` and `textOf` as a list, and how many texts were read.
+pub fn checks(seed: u64, count: usize) -> String {
+    let mut r = Numbers(seed);
+    let mut parts = Vec::new();
+    let mut seen = std::collections::BTreeMap::new();
+    for _ in 0..count {
+        let t = text(&mut r);
+        let (kind, wanted) = match answer(t.as_bytes()) {
+            Answer::Read(n) => (0, format!("read ({})", net(&of(&n)))),
+            Answer::Refused(k) => (k, format!("refused {k}")),
+        };
+        *seen.entry(kind).or_insert(0) += 1;
+        parts.push(format!("reads (bytes \"{}\") ({wanted})", quoted(&t)));
+    }
+    for k in 0..count / 4 {
+        let shape = Shape { inputs: k % 4, gates: k % 5, outputs: k % 3, wide: 3, loops: k % 2 == 0, flops: 1 + k % 4 };
+        let p = plain_flops(make(&mut r, &shape));
+        let n = p.network();
+        let mut out = Vec::new();
+        if catch_unwind(AssertUnwindSafe(|| write_blif(&mut out, &n))).is_ok() {
+            parts.push(format!("writes ({}) (bytes \"{}\")", net(&p), quoted(std::str::from_utf8(&out).unwrap())));
+        }
+    }
+    eprintln!("answers (0 for read): {seen:?}");
+    listed(parts)
+}
