@@ -205,3 +205,15 @@ pub fn smallest() -> Vec<Plain> {
         net(vec![(7, vec![])]),
     ]
 }
+
+// Networks with one input, gate, pin or output more than the part takes.
+pub fn over_sizes() -> Vec<Plain> {
+    let i = Signal::from_input(0);
+    let net = |inputs, gates, outputs| Plain { inputs, gates, outputs: vec![i; outputs] };
+    vec![
+        net(257, vec![], 1),
+        net(1, vec![(13, vec![i]); 1025], 1),
+        net(1, vec![(7, vec![i; 16385])], 1),
+        net(1, vec![], 257),
+    ]
+}

@@ -10,7 +10,7 @@ mod texts;
 mod variants;
 pub use network::{BinaryType, Gate, NaryType, Network, Signal, TernaryType};
 
-use generate::{filled, make, smallest, Numbers, Plain, Shape};
+use generate::{filled, make, over_sizes, smallest, Numbers, Plain, Shape};
 use std::panic::{catch_unwind, AssertUnwindSafe};
 use variants::{order, Mistake, MISTAKES};
 
@@ -83,7 +83,8 @@ fn sort_list(seed: u64, count: usize) {
     for k in 0..count {
         nets.push(random(&mut r, k, count));
     }
-    print!("{}", words(&[nets.len() as u32]));
+    let over = over_sizes();
+    print!("{}", words(&[(nets.len() + over.len()) as u32]));
     for p in nets {
         let s = sorted(&p);
         let mine = order(&p, Mistake::Nothing).map(|o| permuted(&p, &o));
@@ -100,6 +101,10 @@ fn sort_list(seed: u64, count: usize) {
         if let Some(x) = &s {
             print!("{}", cells(x));
         }
+    }
+    for p in over {
+        print!("{}", words(&[2, p.inputs as u32, p.gates.len() as u32, p.pins() as u32, p.outputs.len() as u32]));
+        print!("{}", cells(&p));
     }
     for (m, n) in MISTAKES.iter().zip(&caught) {
         assert!(*n != usize::MAX, "the list does not tell {m:?} apart");

@@ -1,5 +1,6 @@
-// Replays networks with the stored answers of Quaigh's topo_sort: standard input has how many there are, then for each whether it was
-// sorted, its input, gate, pin and output counts, its cells, and where it was sorted the cells of the sorted network.
+// Replays networks with the stored answers of Quaigh's topo_sort: standard input has how many there are, then for each 0 at a
+// loop, 1 where it was sorted and 2 where it is over our sizes, its input, gate, pin and output counts, its cells, and where it was sorted
+// the cells of the sorted network.
 use network::Counts;
 use network::GATE_CELLS;
 use replay::read_word;
@@ -47,25 +48,25 @@ fn read_counts() -> Counts {
     }
 }
 
-// Whether the sort answers as many pins as are stored.
-fn same_answer(attempt: Attempt, was_sorted: bool, pins: usize) -> bool {
+// Whether the sort answers as is stored, with as many pins.
+fn same_answer(attempt: Attempt, stored: u32, pins: usize) -> bool {
     match attempt {
-        Attempt::Refused => false,
+        Attempt::Refused => stored == 2,
         Attempt::Done(answer) => match answer {
-            Sorted::Order(n) => was_sorted && n == pins,
-            Sorted::Loop => !was_sorted,
+            Sorted::Order(n) => stored == 1 && n == pins,
+            Sorted::Loop => stored == 0,
         },
     }
 }
 
 // Whether the sort's answer and cells for the next network are those stored.
 fn replay_network() -> bool {
-    let was_sorted = read_word() == 1;
+    let stored = read_word();
     let counts = read_counts();
     let records = counts.gates % 0x1_0000_0000 * GATE_CELLS;
-    let mut gates = [0u32; 3072];
-    let mut pins = [0u32; 16384];
-    let mut outputs = [0u32; 256];
+    let mut gates = [0u32; 3075];
+    let mut pins = [0u32; 16385];
+    let mut outputs = [0u32; 257];
     let mut new_gates = [0u32; 3072];
     let mut new_pins = [0u32; 16384];
     read_words(&mut gates, records);
@@ -79,10 +80,10 @@ fn replay_network() -> bool {
         &mut new_gates,
         &mut new_pins,
     );
-    if !same_answer(attempt, was_sorted, counts.pins) {
+    if !same_answer(attempt, stored, counts.pins) {
         return false;
     }
-    if !was_sorted {
+    if stored != 1 {
         return true;
     }
     let same_gates = same_words(&new_gates, records);
