@@ -13,6 +13,7 @@ use Rattle.gates.specs.Forms.{canHave}
 use Rattle.network.specs.Net.{Net, Valid, Formed, Loop}
 use Rattle.network.specs.Clock.{NetRuns}
 use Rattle.network.specs.Settle.{run}
+use Rattle.blif_text.specs.Places.{maxText}
 use Rattle.blif_model.specs.Blif.{Model, coverBit, BlifRuns}
 use Rattle.blif_model.specs.Lookup.{lookup}
 use Rattle.blif_model.specs.Build.{build}
@@ -70,7 +71,7 @@ read-means = reading.read-means
 
 -- demand 3: what is written for "a valid, loop-free network with no exclusive gate over 12 inputs and plain flip-flops" is read, where it
 -- is within our sizes, as a network with as many inputs and outputs and equal outputs at every clock
-pub read-back : (net : Net) → Good net → length (textOf net) ≤ 32768 → tooLarge (declsOf (textOf net)) ≡ false
+pub read-back : (net : Net) → Good net → length (textOf net) ≤ maxText → tooLarge (declsOf (textOf net)) ≡ false
     → (new : Net) × (readText (textOf net) ≡ read new) × SameOutputs new net
 read-back = trip.read-back
 

@@ -8,13 +8,13 @@ use native.Mathlib.Omega.{arith}
 use native.Mathlib.Nat.{zero-add}
 use lib.ListN.{length, getD, getElem?, length-map}
 use borrow.Author.Tests.{eqb-true}
-use Rattle.signal.specs.Signal.{Node, Const, Input, Gated, Signal, flip, plain, turned, oneS, zeroS}
+use Rattle.signal.specs.Signal.{Node, Const, Input, Gated, Signal, flip, plain, turned, oneS, zeroS, constNode}
 use Rattle.gates.specs.Gate.{Form, Buf, FlipFlop, Comb, Dff, formBit}
 use Rattle.gates.specs.Forms.{canHave}
 use Rattle.network.specs.Net.{Net, GateIs, Formed}
 use Rattle.network.specs.Clock.{Clock, nodeBit, sigBit}
 use Rattle.blif_model.specs.Blif.{Feed, Block, Latch, target, optBit, nextHeld, cubeBit, coverBit, blockBit, BlifClock}
-use Rattle.blif_model.specs.Write.{isConst, sameNode, unless, feedOf, colOf, linesOf, bare, gateName, bufBlock, formBlock, combBlock, inverterBlock, written}
+use Rattle.blif_model.specs.Write.{isConst, unless, feedOf, colOf, linesOf, bare, gateName, bufBlock, formBlock, combBlock, inverterBlock, written}
 use Rattle.lists.specs.Lists.{range}
 use Rattle.lists.proofs.Places.{map-on, map-map, map-at}
 use Rattle.blif_model.proofs.Blocks.{range-at, comb-cases, no-latch, Source, ofDff, ofComb, ofInverter, ofOne, ofZero, source}
@@ -110,7 +110,7 @@ module _ {Name : Type 0} (name : Signal → Name) where
         const-value : (v : Bool) (s : Signal) → isConst v s ≡ true → sigBit row (c .bits) s ≡ v
         const-value v s p = go (s .node) refl (s .inv) refl v p
           where
-            go : (n : Node) → s .node ≡ n → (i : Bool) → s .inv ≡ i → (u : Bool) → (sameNode n Const && cond u i (not i)) ≡ true → sigBit row (c .bits) s ≡ u
+            go : (n : Node) → s .node ≡ n → (i : Bool) → s .inv ≡ i → (u : Bool) → (constNode n && cond u i (not i)) ≡ true → sigBit row (c .bits) s ≡ u
             go Const e true f true p = λ k. flip (f k) (nodeBit row (c .bits) (e k))
             go Const e false f false p = λ k. flip (f k) (nodeBit row (c .bits) (e k))
             go Const e true f false p = absurd (mathlib.Core.Bool.false≢true p)

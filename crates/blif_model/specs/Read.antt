@@ -10,6 +10,7 @@ use Rattle.lists.specs.Lists.{if_then_else_, Bytes, all, any, sumOf, elem, know
 use Rattle.network.specs.Net.{Net}
 use Rattle.network.specs.Cells.{maxInputs, maxOutputs, maxGates, maxPins}
 use Rattle.sort.specs.Sorted.{sorted}
+use Rattle.blif_text.specs.Places.{maxText}
 use Rattle.blif_text.specs.Statements.{parsed, firstBad, stmts}
 use Rattle.blif_text.specs.Decls.{Def, latch, cover, Decl, model, end, inputs, outputs, gate, decls, ins, outs, defs, coverOut, defines, uses, columns, output, isOne}
 use Rattle.blif_model.specs.Lookup.{lookup}
@@ -108,7 +109,7 @@ declsOf s = decls (stmts (parsed s))
 
 -- "2 when the text is over 32,768 bytes. 3 when it has a byte of 128 or more", then 4 and 5, then 6 to 13
 unfoldable pub readFault : Bytes → ℕ
-readFault s = when (ltb 32768 (length s)) 2 then when (any (leb 128) s) 3 then firstBad (parsed s) then declFault (declsOf s)
+readFault s = when (ltb maxText (length s)) 2 then when (any (leb 128) s) 3 then firstBad (parsed s) then declFault (declsOf s)
 
 -- a network, or a refusal's number
 pub data Result : Type 0 where

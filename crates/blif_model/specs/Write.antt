@@ -8,7 +8,7 @@ use Prim.Native.Nat.{ℕ, zero, suc}
 use lib.Dec.{eqb}
 use lib.ListN.{length, replicate}
 use Rattle.lists.specs.Lists.{range, filter}
-use Rattle.signal.specs.Signal.{Node, Const, Input, Gated, Signal, plain, zeroS, oneS, turned}
+use Rattle.signal.specs.Signal.{Node, Const, Input, Gated, Signal, plain, zeroS, oneS, turned, constNode}
 use Rattle.gates.specs.Gate.{odd, Form, And2, Xor2, And3, Xor3, Maj3, Mux3, AndN, OrN, NandN, NorN, XorN, XnorN, Buf, FlipFlop, Gate, Comb, Dff, pins}
 use Rattle.gates.specs.Forms.{canHave}
 use Rattle.network.specs.Net.{Net}
@@ -118,7 +118,7 @@ inverters net = filter (inverted net) (map Gated (range 0 (length (net .gates)))
 
 -- the signal is the constant one, or the constant zero
 abbrev pub isConst : Bool → Signal → Bool
-isConst v s = sameNode (s .node) Const && cond v (s .inv) (not (s .inv))
+isConst v s = constNode (s .node) && cond v (s .inv) (not (s .inv))
 
 -- ---- the model
 

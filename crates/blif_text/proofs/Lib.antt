@@ -1,3 +1,4 @@
+pub mod Parts
 pub mod Splitting
 pub mod Saying
 pub mod Scan

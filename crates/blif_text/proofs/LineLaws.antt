@@ -14,7 +14,8 @@ use Rattle.lists.specs.Lists.{if_then_else_, Bytes, any}
 use Rattle.lists.proofs.Tests.{and-false, by-test}
 use Rattle.blif_text.specs.Lines.{lines, split, dropCR, cut, continues}
 use Rattle.blif_text.specs.Scan.{LineTo, LineAt, PartOf}
-use Rattle.blif_text.proofs.Scan.{without, without-slice, slice-drop, chop, lines-at, lines-end}
+use Rattle.blif_text.proofs.Parts.{Without}
+use Rattle.blif_text.proofs.Scan.{without-slice, slice-drop, chop, lines-at, lines-end}
 
 -- ---- CR
 
@@ -37,7 +38,7 @@ unfolding lines split dropCR
 lines-none = refl
 
 module _ {t : Bytes} {at end : ℕ} (l : at < length t) (e : LineTo t at end) where
-  clean : without (eqb 10) (slice at end t)
+  clean : Without (eqb 10) (slice at end t)
   clean = without-slice (eqb 10) t at end (e .high) (e .none)
 
   -- an LF ends it
@@ -55,7 +56,7 @@ module _ {t : Bytes} {at end : ℕ} (l : at < length t) (e : LineTo t at end) wh
       slice-drop t at end (e .low) (e .high) ∙ rw (drop-of-length-le t {i = end} h) (append-nil (slice at end t)) in
       let c : drop at t ≡ getD t at 0 ∷ drop (suc at) t = drop-cons t at 0 l in
       let s : lines (drop at t) ≡ drop at t ∷ [] =
-      rw c (lines-end (getD t at 0) (drop (suc at) t) (subst (without (eqb 10)) (sym q ∙ c) clean)) in
+      rw c (lines-end (getD t at 0) (drop (suc at) t) (subst (Without (eqb 10)) (sym q ∙ c) clean)) in
       record {
         low = e .low;
         moves = omega arith;

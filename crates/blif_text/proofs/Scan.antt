@@ -13,24 +13,7 @@ use Rattle.lists.specs.Lists.{if_then_else_, Bytes, any, filter}
 use Rattle.lists.proofs.Tests.{or-left, or-right, by-order, by-test, and-false}
 use Rattle.blif_text.specs.Lines.{consFirst, split, dropCR, lines, cut, continues, before, joined, isBlank, nonEmpty, tokens}
 use Rattle.blif_text.specs.Rows.{beforeRow, lineRows}
-
--- no element passes the test
-abbrev pub without : (ℕ → Bool) → Bytes → Type 0
-without p w = any p w ≡ false
-
--- ---- splitting
-
--- a part without an end in it, then the end
-pub split-end : (p : ℕ → Bool) (w : Bytes) (c : ℕ) (s : Bytes) → any p w ≡ false → p c ≡ true → split p (w ++ c ∷ s) ≡ w ∷ split p s
-unfolding split consFirst
-split-end p [] c s f e = rw e
-split-end p (b ∷ w) c s f e = rw (or-left (p b) (any p w) f, split-end p w c s (or-right (p b) (any p w) f) e)
-
--- a last part without an end in it
-pub split-last : (p : ℕ → Bool) (b : ℕ) (w : Bytes) → any p (b ∷ w) ≡ false → split p (b ∷ w) ≡ (b ∷ w) ∷ []
-unfolding split consFirst
-split-last p b [] f = rw (or-left (p b) false f)
-split-last p b (c ∷ w) f = rw (or-left (p b) (any p (c ∷ w)) f, split-last p c w (or-right (p b) (any p (c ∷ w)) f))
+use Rattle.blif_text.proofs.Parts.{Without, split-end, split-last}
 
 -- ---- tokens from a place on
 
@@ -47,24 +30,24 @@ pub tokens-skip : (t : Bytes) (i : ℕ) → i < length t → isBlank (getD t i 0
 tokens-skip t i h e = rw (add-one, drop-cons t i 0 h, tokens-blank (getD t i 0) (drop (suc i) t) e)
 
 -- at a word that a blank ends
-pub tokens-word : (b : ℕ) (w : Bytes) (c : ℕ) (s : Bytes) → without isBlank (b ∷ w) → isBlank c ≡ true → tokens ((b ∷ w) ++ c ∷ s) ≡ (b ∷ w) ∷ tokens s
+pub tokens-word : (b : ℕ) (w : Bytes) (c : ℕ) (s : Bytes) → Without isBlank (b ∷ w) → isBlank c ≡ true → tokens ((b ∷ w) ++ c ∷ s) ≡ (b ∷ w) ∷ tokens s
 unfolding tokens nonEmpty
 tokens-word b w c s f e = rw (split-end isBlank (b ∷ w) c s f e)
 
 -- at a word that the line's end ends
-pub tokens-last : (b : ℕ) (w : Bytes) → without isBlank (b ∷ w) → tokens (b ∷ w) ≡ (b ∷ w) ∷ []
+pub tokens-last : (b : ℕ) (w : Bytes) → Without isBlank (b ∷ w) → tokens (b ∷ w) ≡ (b ∷ w) ∷ []
 unfolding tokens nonEmpty
 tokens-last b w f = rw (split-last isBlank b w f)
 
 -- no byte of the part from a up to e passes the test
-without-from : (p : ℕ → Bool) (t : Bytes) (e : ℕ) → e ≤ length t → (n a : ℕ) → e ≤ a + n → ((k : ℕ) → a ≤ k → k < e → p (getD t k 0) ≡ false) → without p (slice a e t)
+without-from : (p : ℕ → Bool) (t : Bytes) (e : ℕ) → e ≤ length t → (n a : ℕ) → e ≤ a + n → ((k : ℕ) → a ≤ k → k < e → p (getD t k 0) ≡ false) → Without p (slice a e t)
 without-from p t e h zero a l f = rw (drop-of-length-le (take e t) {i = a} (rw (length-take-le e t h) (omega arith)))
 without-from p t e h (suc n) a l f =
     by-order e a
     (λ m. rw (drop-of-length-le (take e t) {i = a} (rw (length-take-le e t h) m)))
     (λ m. rw (slice-cons a e t 0 m h, f a (omega arith) m) (without-from p t e h n (suc a) (omega arith) (λ k i j. f k (omega arith) j)))
 
-pub without-slice : (p : ℕ → Bool) (t : Bytes) (a e : ℕ) → e ≤ length t → ((k : ℕ) → a ≤ k → k < e → p (getD t k 0) ≡ false) → without p (slice a e t)
+pub without-slice : (p : ℕ → Bool) (t : Bytes) (a e : ℕ) → e ≤ length t → ((k : ℕ) → a ≤ k → k < e → p (getD t k 0) ≡ false) → Without p (slice a e t)
 without-slice p t a e h f = without-from p t e h e a (omega arith) f
 
 -- the part from a up to e, and what follows it
@@ -77,7 +60,7 @@ pub tokens-at : (t : Bytes) (a e : ℕ) → a < e → e ≤ length t → ((k : �
     → (e < length t → isBlank (getD t e 0) ≡ true) → tokens (drop a t) ≡ slice a e t ∷ tokens (drop e t)
 tokens-at t a e h k f g =
     let w : slice a e t ≡ getD t a 0 ∷ slice (suc a) e t = slice-cons a e t 0 h k in
-    let q : without isBlank (getD t a 0 ∷ slice (suc a) e t) = rw w at (without-slice isBlank t a e k f) in
+    let q : Without isBlank (getD t a 0 ∷ slice (suc a) e t) = rw w at (without-slice isBlank t a e k f) in
     by-order (length t) e
     (λ m. rw (slice-drop t a e (omega arith) k, drop-of-length-le t {i = e} m, w, append-nil, tokens-none) (tokens-last _ _ q))
     (λ m.
@@ -188,33 +171,33 @@ chop [] = []
 chop (c ∷ []) = if eqb 13 c then [] else c ∷ []
 chop (c ∷ d ∷ s) = c ∷ chop (d ∷ s)
 
-dropCR-chop : (w s : Bytes) → without (eqb 10) w → dropCR (w ++ 10 ∷ s) ≡ chop w ++ 10 ∷ dropCR s
+dropCR-chop : (w s : Bytes) → Without (eqb 10) w → dropCR (w ++ 10 ∷ s) ≡ chop w ++ 10 ∷ dropCR s
 unfolding dropCR headD chop
 dropCR-chop [] s f = refl
 dropCR-chop (c ∷ []) s f = by-test (eqb 13 c) (λ h. rw h) (λ h. rw h)
 dropCR-chop (c ∷ d ∷ w) s f =
-    let g : without (eqb 10) (d ∷ w) = or-right (eqb 10 c) (any (eqb 10) (d ∷ w)) f in
+    let g : Without (eqb 10) (d ∷ w) = or-right (eqb 10 c) (any (eqb 10) (d ∷ w)) f in
     rw (or-left (eqb 10 d) (any (eqb 10) w) g, and-false (eqb 13 c)) (ap (λ (r : Bytes). c ∷ r) (dropCR-chop (d ∷ w) s g))
 
-chop-without : (p : ℕ → Bool) (w : Bytes) → without p w → without p (chop w)
+chop-without : (p : ℕ → Bool) (w : Bytes) → Without p w → Without p (chop w)
 unfolding chop
 chop-without p [] f = refl
 chop-without p (c ∷ []) f = by-test (eqb 13 c) (λ h. rw h) (λ h. rw h f)
 chop-without p (c ∷ d ∷ w) f = rw (or-left (p c) (any p (d ∷ w)) f) (chop-without p (d ∷ w) (or-right (p c) (any p (d ∷ w)) f))
 
-pub lines-at : (w s : Bytes) → without (eqb 10) w → lines (w ++ 10 ∷ s) ≡ chop w ∷ lines s
+pub lines-at : (w s : Bytes) → Without (eqb 10) w → lines (w ++ 10 ∷ s) ≡ chop w ∷ lines s
 unfolding lines
 lines-at w s f = rw (dropCR-chop w s f) (split-end (eqb 10) (chop w) 10 (dropCR s) (chop-without (eqb 10) w f) refl)
 
 -- a last line that no LF ends keeps its CR
-dropCR-none : (w : Bytes) → without (eqb 10) w → dropCR w ≡ w
+dropCR-none : (w : Bytes) → Without (eqb 10) w → dropCR w ≡ w
 unfolding dropCR headD
 dropCR-none [] f = refl
 dropCR-none (c ∷ []) f = rw (and-false (eqb 13 c))
 dropCR-none (c ∷ d ∷ w) f =
-    let g : without (eqb 10) (d ∷ w) = or-right (eqb 10 c) (any (eqb 10) (d ∷ w)) f in
+    let g : Without (eqb 10) (d ∷ w) = or-right (eqb 10 c) (any (eqb 10) (d ∷ w)) f in
     rw (or-left (eqb 10 d) (any (eqb 10) w) g, and-false (eqb 13 c)) (ap (λ (r : Bytes). c ∷ r) (dropCR-none (d ∷ w) g))
 
-pub lines-end : (b : ℕ) (w : Bytes) → without (eqb 10) (b ∷ w) → lines (b ∷ w) ≡ (b ∷ w) ∷ []
+pub lines-end : (b : ℕ) (w : Bytes) → Without (eqb 10) (b ∷ w) → lines (b ∷ w) ≡ (b ∷ w) ∷ []
 unfolding lines
 lines-end b w f = rw (dropCR-none (b ∷ w) f) (split-last (eqb 10) b w f)

@@ -7,7 +7,8 @@ use lib.Dec.{eqb}
 use Rattle.lists.specs.Lists.{Bytes, any, filter}
 use Rattle.lists.proofs.Tests.{or-left, or-right}
 use Rattle.lists.proofs.Every.{Every, every-nil, every-cons}
-use Rattle.blif_text.specs.Lines.{consFirst, split, dropCR, lines, isBlank, nonEmpty, tokens}
+use Rattle.blif_text.specs.Lines.{split, dropCR, lines, isBlank, nonEmpty, tokens}
+use Rattle.blif_text.proofs.Parts.{Without, split-end, split-last}
 
 -- each line with an LF behind it
 abbrev pub ended : List Bytes → Bytes
@@ -17,24 +18,7 @@ ended ls = flatMap (λ l. l ++ (10 ∷ [])) ls
 abbrev pub spread : List Bytes → Bytes
 spread ws = flatMap (λ w. 32 ∷ w) ws
 
--- ---- splitting
-
--- a part without an end in it, then the end
-split-end : (p : ℕ → Bool) (w : Bytes) (c : ℕ) (s : Bytes) → any p w ≡ false → p c ≡ true → split p (w ++ c ∷ s) ≡ w ∷ split p s
-unfolding split consFirst
-split-end p [] c s f e = rw e
-split-end p (b ∷ w) c s f e = rw (or-left (p b) (any p w) f, split-end p w c s (or-right (p b) (any p w) f) e)
-
--- a last part without an end in it
-split-last : (p : ℕ → Bool) (b : ℕ) (w : Bytes) → any p (b ∷ w) ≡ false → split p (b ∷ w) ≡ (b ∷ w) ∷ []
-unfolding split consFirst
-split-last p b [] f = rw (or-left (p b) false f)
-split-last p b (c ∷ w) f = rw (or-left (p b) (any p (c ∷ w)) f, split-last p c w (or-right (p b) (any p (c ∷ w)) f))
-
 -- ---- lines
-
-abbrev Without : (ℕ → Bool) → Bytes → Type 0
-Without p w = any p w ≡ false
 
 dropCR-line : (w s : Bytes) → Without (eqb 13) w → dropCR (w ++ 10 ∷ s) ≡ w ++ 10 ∷ dropCR s
 unfolding dropCR headD

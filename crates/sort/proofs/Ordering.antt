@@ -12,7 +12,7 @@ use borrow.Author.Tests.{eq-eqb, ne-eqb}
 use Rattle.lists.specs.Lists.{hit, occ, sumTo}
 use Rattle.lists.proofs.Counting.{hit-or, sum-le, sum-occ, all-one, some-zero, part-of, zero-or, occ-append}
 use Rattle.sort.specs.Order.{Graph, uses, flopsTo, recorded, order, sortOrder, walk, countsAfter, stackAfter, kept}
-use Rattle.sort.specs.Steps.{ValidGraph, Before, Good, pend, left, budget}
+use Rattle.sort.specs.Steps.{ValidGraph, Before, Good, usesLeft, left, budget}
 use Rattle.sort.proofs.Walk.{Ended, uses-comb, uses-ins, good-pop, good-all, budget-all}
 use Rattle.sort.proofs.WalkEnds.{flop-only, flop-has, recorded-ended}
 
@@ -145,7 +145,7 @@ module _ (G : Graph) (valid : ValidGraph G) where
       let z : occ v flops ≡ 0 = ⊎-elim (λ z. z) (λ p. absurd (true≢false (sym e ∙ flop-only G v (G .size) .1 p .1))) (zero-or (occ v flops)) in
       omega (arith, order-occ v, good .once v))
       (λ e.
-      let z : occ v done ≡ 0 = ⊎-elim (λ z. z) (λ p. absurd (true≢false (sym (good .cmb v p) ∙ e))) (zero-or (occ v done)) in
+      let z : occ v done ≡ 0 = ⊎-elim (λ z. z) (λ p. absurd (true≢false (sym (good .combs v p) ∙ e))) (zero-or (occ v done)) in
       omega (arith, order-occ v, flop-only G v (G .size) .0))
       (bool-or (G .comb v))
 
@@ -218,8 +218,8 @@ module _ (G : Graph) (valid : ValidGraph G) where
 
   next : (v : ℕ) → Undone v → Next v
   next v h =
-      let c : 0 < getD (ended .counts) v 0 = ⊎-elim (λ z. absurd (omega (arith, good .cov v (h .below) (h .is-comb) z, h .not-done))) (λ p. p) (zero-or (getD (ended .counts) v 0)) in
-      let p : 0 < pend G done v = omega (arith, good .cnt v (h .below)) in
+      let c : 0 < getD (ended .counts) v 0 = ⊎-elim (λ z. absurd (omega (arith, good .covered v (h .below) (h .is-comb) z, h .not-done))) (λ p. p) (zero-or (getD (ended .counts) v 0)) in
+      let p : 0 < usesLeft G done v = omega (arith, good .counted v (h .below)) in
       let f = part-of (G .size) (λ g. left (occ g done) (occ v (uses G g))) p in
       let s = left-some (occ (f .0) done) (occ v (uses G (f .0))) (f .2) in
       let i = uses-ins G (f .0) v (s .1) in

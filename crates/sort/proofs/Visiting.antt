@@ -40,7 +40,7 @@ stack-same : (G : Graph) (rest c c′ st done : List ℕ) → Good G c st done r
 stack-same G [] c c′ st done g h = refl
 stack-same G (d ∷ rest) c c′ st done g h =
     let b = next-below G c st done d rest g in
-    let q : getD c′ d 0 ≡ getD c d 0 = h .cnt d b ∙ sym (g .cnt d b) in
+    let q : getD c′ d 0 ≡ getD c d 0 = h .counted d b ∙ sym (g .counted d b) in
     let e : pushed (getD c′ d 0 - 1) d st ≡ pushed (getD c d 0 - 1) d st = ap (λ (x : ℕ). pushed (x - 1) d st) q in
     let h′ : Good G (lowered c′ d) (pushed (getD c d 0 - 1) d st) done rest = rw e at (good-lower G c′ st done d rest h) in
     stack-same G rest (lowered c d) (lowered c′ d) (pushed (getD c d 0 - 1) d st) done (good-lower G c st done d rest g) h′

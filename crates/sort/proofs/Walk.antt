@@ -10,7 +10,7 @@ use lib.Seq.{getD-set-same, getD-set-other}
 use Rattle.lists.specs.Lists.{hit, occ}
 use Rattle.lists.proofs.Counting.{hit-ne, hit-or, hit-same, sum-point, part-le, zero-or}
 use Rattle.sort.specs.Order.{Graph, uses, lowered, pushed, countsAfter, stackAfter, kept, walk}
-use Rattle.sort.specs.Steps.{ValidGraph, pos, left, pend, Good, budget}
+use Rattle.sort.specs.Steps.{ValidGraph, pos, left, usesLeft, Good, budget}
 
 -- ---- one input
 
@@ -34,13 +34,13 @@ module _ (G : Graph) (c st done : List ℕ) (d : ℕ) (rest : List ℕ) (g : Goo
   next-below = g .ins d (omega (arith, hit-same d))
 
   pub next-count : 0 < getD c d 0
-  next-count = omega (arith, g .cnt d next-below, hit-same d)
+  next-count = omega (arith, g .counted d next-below, hit-same d)
 
   pub next-fresh : occ d st + occ d done ≡ 0
   next-fresh = ⊎-elim (λ e. e) (λ p. absurd (omega (arith, g .low d p, next-count))) (zero-or (occ d st + occ d done))
 
   at : (v : ℕ) → getD (lowered c d) v 0 ≡ getD c v 0 - hit v d
-  at v = lowered-at c d v (omega (arith, next-below, g .len))
+  at v = lowered-at c d v (omega (arith, next-below, g .long))
 
   same-as : {v : ℕ} → v ≡ d → (getD c v 0 ≡ getD c d 0) × (occ v st + occ v done ≡ 0)
   same-as {v} e = (ap (λ (x : ℕ). getD c x 0) e, rw e next-fresh)
@@ -48,32 +48,32 @@ module _ (G : Graph) (c st done : List ℕ) (d : ℕ) (rest : List ℕ) (g : Goo
   good-push : (m : ℕ) → getD c d 0 - 1 ≡ m → Good G (lowered c d) (pushed m d st) done rest
   good-push zero e =
       record {
-        len = rw length-set (g .len);
-        cnt = λ v l. omega (arith, at v, g .cnt v l);
+        long = rw length-set (g .long);
+        counted = λ v l. omega (arith, at v, g .counted v l);
         once = λ v. ⊎-elim (λ w. omega (arith, w .1, same-as (w .0))) (λ w. omega (arith, w .1, g .once v)) (hit-or v d);
         low = λ v p.
             ⊎-elim
             (λ w. (rw (w .0) next-below, omega (arith, w .1, same-as (w .0), at v, e)))
             (λ w. let q = g .low v (omega (arith, w .1, p)) in (q .0, omega (arith, w .1, q .1, at v)))
             (hit-or v d);
-        cov = λ v l b z.
-            ⊎-elim (λ w. omega (arith, w .1)) (λ w. omega (arith, g .cov v l b (omega (arith, w .1, at v, z)))) (hit-or v d);
-        cmb = g .cmb;
+        covered = λ v l b z.
+            ⊎-elim (λ w. omega (arith, w .1)) (λ w. omega (arith, g .covered v l b (omega (arith, w .1, at v, z)))) (hit-or v d);
+        combs = g .combs;
         top = g .top;
         ins = λ v p. g .ins v (omega arith);
       }
   good-push (suc m) e =
       record {
-        len = rw length-set (g .len);
-        cnt = λ v l. omega (arith, at v, g .cnt v l);
+        long = rw length-set (g .long);
+        counted = λ v l. omega (arith, at v, g .counted v l);
         once = g .once;
         low = λ v p. let q = g .low v p in (q .0, omega (arith, q .1, at v));
-        cov = λ v l b z.
+        covered = λ v l b z.
             ⊎-elim
             (λ w. absurd (omega (arith, w .1, same-as (w .0), at v, e, z)))
-            (λ w. g .cov v l b (omega (arith, w .1, at v, z)))
+            (λ w. g .covered v l b (omega (arith, w .1, at v, z)))
             (hit-or v d);
-        cmb = g .cmb;
+        combs = g .combs;
         top = g .top;
         ins = λ v p. g .ins v (omega arith);
       }
@@ -137,8 +137,8 @@ left-none : (r k : ℕ) → r ≡ 0 → left r k ≡ k
 left-none r k e = rw e
 
 -- the uses that a gate made are gone once it is recorded
-pub pend-record : (G : Graph) (x : ℕ) (done : List ℕ) → x < G .size → occ x done ≡ 0 → (v : ℕ) → pend G (x ∷ done) v + occ v (uses G x) ≡ pend G done v
-pend-record G x done l e v =
+pub usesLeft-record : (G : Graph) (x : ℕ) (done : List ℕ) → x < G .size → occ x done ≡ 0 → (v : ℕ) → usesLeft G (x ∷ done) v + occ v (uses G x) ≡ usesLeft G done v
+usesLeft-record G x done l e v =
     sum-point (G .size) (λ g. left (occ g done) (occ v (uses G g))) (λ g. left (occ g (x ∷ done)) (occ v (uses G g))) x (occ v (uses G x)) l
     (let a : occ x (x ∷ done) ≡ 1 = omega (arith, e, hit-same x) in
     let b : left (occ x (x ∷ done)) (occ v (uses G x)) ≡ 0 = rw a in
@@ -165,7 +165,7 @@ module _ (G : Graph) (valid : ValidGraph G) (c st done : List ℕ) (x : ℕ) (g 
         p,
         left-none (occ u done) (occ x (uses G u)) e,
         part-le (G .size) (λ y. left (occ y done) (occ x (uses G y))) u l,
-        g .cnt x (top-low .0),
+        g .counted x (top-low .0),
         top-low .1,
       )))
       (λ q. q)
@@ -174,27 +174,27 @@ module _ (G : Graph) (valid : ValidGraph G) (c st done : List ℕ) (x : ℕ) (g 
   good-kept : (b : Bool) → G .comb x ≡ b → Good G c st (kept b x done) (uses G x)
   good-kept true e =
       record {
-        len = g .len;
-        cnt = λ v l. omega (arith, g .cnt v l, pend-record G x done (top-low .0) (top-fresh .1) v);
+        long = g .long;
+        counted = λ v l. omega (arith, g .counted v l, usesLeft-record G x done (top-low .0) (top-fresh .1) v);
         once = λ v. omega (arith, g .once v);
         low = λ v p. g .low v (omega arith);
-        cov = λ v l b z. omega (arith, g .cov v l b z);
-        cmb = λ v p. ⊎-elim (λ w. rw (w .0) e) (λ w. g .cmb v (omega (arith, w .1))) (hit-or v x);
+        covered = λ v l b z. omega (arith, g .covered v l b z);
+        combs = λ v p. ⊎-elim (λ w. rw (w .0) e) (λ w. g .combs v (omega (arith, w .1))) (hit-or v x);
         top = (top-users, g .top);
         ins = λ v p. valid x v (top-low .0) (uses-ins G x v p .1);
       }
   good-kept false e =
       record {
-        len = g .len;
-        cnt = λ v l. omega (arith, g .cnt v l, ap (occ v) (uses-flop G x e));
+        long = g .long;
+        counted = λ v l. omega (arith, g .counted v l, ap (occ v) (uses-flop G x e));
         once = λ v. omega (arith, g .once v);
         low = λ v p. g .low v (omega arith);
-        cov = λ v l b z.
+        covered = λ v l b z.
             ⊎-elim
             (λ w. let no : _≡_ {A = Bool} true false = sym b ∙ ap (G .comb) (w .0) ∙ e in absurd (true≢false no))
-            (λ w. omega (arith, w .1, g .cov v l b z))
+            (λ w. omega (arith, w .1, g .covered v l b z))
             (hit-or v x);
-        cmb = g .cmb;
+        combs = g .combs;
         top = g .top;
         ins = λ v p. absurd (omega (arith, p, ap (occ v) (uses-flop G x e)));
       }

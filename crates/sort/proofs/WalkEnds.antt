@@ -99,12 +99,12 @@ module _ (G : Graph) where
     unfolding useCount
     good-start =
         record {
-          len = long;
-          cnt = λ v l. omega (arith, same v l);
+          long = long;
+          counted = λ v l. omega (arith, same v l);
           once = λ v. omega (arith, start-only G (useCount G) v (G .size));
           low = λ v p. let q = start-only G (useCount G) v (G .size) .1 (omega arith) in (q .0, same v (q .0) ∙ q .1);
-          cov = λ v l b z. omega (arith, start-has G (useCount G) v (G .size) l b (sym (same v l) ∙ z));
-          cmb = λ v p. absurd (omega arith);
+          covered = λ v l b z. omega (arith, start-has G (useCount G) v (G .size) l b (sym (same v l) ∙ z));
+          combs = λ v p. absurd (omega arith);
           top = tt;
           ins = λ v p. absurd (omega arith);
         }

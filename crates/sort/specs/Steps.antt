@@ -33,8 +33,8 @@ left zero k = k
 left (suc r) k = 0
 
 -- how often combinational gates that are not recorded use v
-abbrev pub pend : Graph → List ℕ → ℕ → ℕ
-pend G done v = sumTo (G .size) (λ g. left (occ g done) (occ v (uses G g)))
+abbrev pub usesLeft : Graph → List ℕ → ℕ → ℕ
+usesLeft G done v = sumTo (G .size) (λ g. left (occ g done) (occ v (uses G g)))
 
 -- each recorded gate stands before every gate that uses it
 abbrev pub Before : Graph → List ℕ → Type 0
@@ -44,17 +44,17 @@ Before G (d ∷ l) = ((g : ℕ) → g < G .size → 0 < occ d (uses G g) → 0 <
 -- the walk's counts, stack and recorded gates, with the inputs of the gate last recorded that are still to be lowered
 pub record Good (G : Graph) (c st done rest : List ℕ) : Type 0 where
   -- there is a count for each gate
-  pub len : G .size ≤ length c
+  pub long : G .size ≤ length c
   -- a count is the uses by gates not recorded, and those still to be lowered
-  pub cnt : (v : ℕ) → v < G .size → getD c v 0 ≡ pend G done v + occ v rest
+  pub counted : (v : ℕ) → v < G .size → getD c v 0 ≡ usesLeft G done v + occ v rest
   -- no gate is on the stack or recorded twice
   pub once : (v : ℕ) → occ v st + occ v done ≤ 1
   -- a gate on the stack or recorded has count zero
   pub low : (v : ℕ) → 0 < occ v st + occ v done → (v < G .size) × (getD c v 0 ≡ 0)
   -- a combinational gate of count zero is on the stack or recorded
-  pub cov : (v : ℕ) → v < G .size → G .comb v ≡ true → getD c v 0 ≡ 0 → 0 < occ v st + occ v done
+  pub covered : (v : ℕ) → v < G .size → G .comb v ≡ true → getD c v 0 ≡ 0 → 0 < occ v st + occ v done
   -- combinational gates alone are recorded
-  pub cmb : (v : ℕ) → 0 < occ v done → G .comb v ≡ true
+  pub combs : (v : ℕ) → 0 < occ v done → G .comb v ≡ true
   -- users are recorded before what they use
   pub top : Before G done
   -- what is still to be lowered are gates
