@@ -8,4 +8,5 @@ pub mod WordLaws
 pub mod RowLaws
 pub mod KeywordLaws
 pub mod StatementLaws
+pub mod RowWalk
 pub mod RefusalLaws

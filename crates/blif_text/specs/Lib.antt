@@ -5,3 +5,4 @@ pub mod Rows
 pub mod Places
 pub mod Scan
 pub mod Keywords
+pub mod Walk

@@ -15,13 +15,13 @@ loop-holds : tie.Need-loop-holds Inv-loop μ-loop
 loop-holds c = passing-start (c .before .before .pre .0) (c .before .before .pre .1)
 
 row-end-requires : tie.Need-row-end-requires Inv-loop μ-loop
-row-end-requires c κs = (c .loop-test .taken, c .before .loop .inv .room)
+row-end-requires c κs = (c .loop-test .taken, c .before .loop .inv .rows .places .room)
 
 statement-at-requires : tie.Need-statement-at-requires Inv-loop μ-loop
 statement-at-requires c κs =
     let v = c .before .before .loop .inv in
     let w = c .row-end .ensures in
-    ((w .low, omega (arith, w .high, v .room)), v .inside (c .before .before .loop .at) (c .before .loop-test .taken))
+    ((w .low, omega (arith, w .high, v .rows .places .room)), v .rows .places .inside (c .before .before .loop .at) (c .before .loop-test .taken))
 
 refusal-of-requires : tie.Need-refusal-of-requires Inv-loop μ-loop
 refusal-of-requires c κs = tt
