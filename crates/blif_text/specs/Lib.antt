@@ -6,3 +6,4 @@ pub mod Places
 pub mod Scan
 pub mod Keywords
 pub mod Walk
+pub mod Blocks

@@ -2,19 +2,25 @@
 use lists::equal;
 ghost use mathlib.Core.Path.{_≡_};
 ghost use mathlib.Core.Bool.{true};
+ghost use mathlib.Core.List.{[], _∷_};
 ghost use Prim.Native.Nat.{_+_, _*_, _≤_, _<_};
 ghost use lib.ListN.{length, getD, take, drop};
 ghost use lib.Seq.{slice};
+ghost use Rattle.lists.specs.Lists.{overAt};
 ghost use Rattle.blif_text.specs.Lines.{isBlank, cut, continues};
 ghost use Rattle.blif_text.specs.Places.{maxText, maxTokens, tokenCell, isFirst, tokenStart, tokenLength, tokenOf, tokensOf, Marked};
 ghost use Rattle.blif_text.specs.Keywords.{keywordOf, said, RowTo, StatementOf, refusal};
 ghost use Rattle.blif_text.specs.Statements.{parsed, firstBad};
 ghost use Rattle.blif_text.specs.Rows.{rowStmt};
+ghost use Rattle.blif_text.specs.Blocks.{blockWidth, firstName, nameCount, lineCount};
 ghost use Rattle.blif_text.specs.Scan.{BlanksTo, WordTo, LineTo, LineAt, PartOf, WordsMarked, Walked, WordsIn};
 
 pub const MAX_TEXT: usize = 32768;
 
 pub const MAX_TOKENS: usize = 16384;
+
+// The cells of a block's record: first name, name count, line count.
+pub const BLOCK_CELLS: usize = 3;
 
 // A line: it stops before its LF, and CR directly before that; the next line starts at next.
 struct Line {
@@ -39,6 +45,14 @@ struct Marks {
     at: usize,
     count: usize,
     fresh: bool,
+}
+
+// A latch or a cover by places: the token of its first name, how many names a cover has (a latch is told by none), and
+// how many cube lines.
+pub struct Block {
+    pub first: usize,
+    pub names: usize,
+    pub lines: usize,
 }
 
 // What a statement's first token says.
@@ -420,4 +434,29 @@ pub fn first_bad(text: &[u8], cells: &[u32], n: usize) -> u32
         at = end;
     }
     0
+}
+
+// Block j's record.
+pub fn block_at(blocks: &[u32], j: usize) -> Block
+    requires { ⌜ j * blockWidth + 2 < length (now blocks) ⌝ }
+    ensures { λ r. ⌜ (r .first ≡ firstName (now (blocks .entry)) j) × (r .names ≡ nameCount (now (blocks .entry)) j) × (r .lines ≡ lineCount (now (blocks .entry)) j) ⌝ }
+{
+    let first = blocks[j * BLOCK_CELLS] as usize;
+    let names = blocks[j * BLOCK_CELLS + 1] as usize;
+    let lines = blocks[j * BLOCK_CELLS + 2] as usize;
+    Block {
+        first,
+        names,
+        lines,
+    }
+}
+
+// Writes block j's record.
+pub fn put_block(blocks: &mut [u32], j: usize, block: Block)
+    requires { ⌜ (j * blockWidth + 2 < length (now blocks)) × (block .first ≤ maxTokens) × (block .names ≤ maxTokens) × (block .lines ≤ maxTokens) ⌝ }
+    ensures { λ r. ⌜ now (blocks .exit) ≡ overAt (j * blockWidth) (block .first ∷ block .names ∷ block .lines ∷ []) (now (blocks .entry)) ⌝ }
+{
+    blocks[j * BLOCK_CELLS] = block.first as u32;
+    blocks[j * BLOCK_CELLS + 1] = block.names as u32;
+    blocks[j * BLOCK_CELLS + 2] = block.lines as u32;
 }

@@ -7,6 +7,7 @@ pub mod Twice
 pub mod Find
 pub mod Counting
 pub mod Over
+pub mod OverAt
 pub mod Once
 pub mod Every
 pub mod Known

@@ -93,6 +93,12 @@ over [] o = o
 over (x ∷ t) [] = []
 over (x ∷ t) (y ∷ o) = x ∷ over t o
 
+-- the list t laid over o from cell k on, cut where o ends
+abbrev pub overAt : ℕ → List ℕ → List ℕ → List ℕ
+overAt zero t o = over t o
+overAt (suc k) t [] = []
+overAt (suc k) t (y ∷ o) = y ∷ overAt k t o
+
 -- an element stands again further on: "a name is defined twice"
 pub data Dup {A : Type 0} : List A → Type 0 where
   here : {x : A} {l : List A} → List·Memᴰ x l → Dup (x ∷ l)

@@ -3,11 +3,13 @@
 use gates::Decoded;
 use signal::Signal;
 ghost use mathlib.Core.Path.{_≡_};
+ghost use mathlib.Core.List.{[], _∷_};
 ghost use Prim.Native.Nat.{_+_, _*_, _≤_, _<_};
 ghost use lib.ListN.{length};
+ghost use Rattle.lists.specs.Lists.{overAt};
 ghost use Rattle.signal.specs.Cell.{nodeOf};
 ghost use Rattle.gates.specs.Decode.{decodedIn};
-ghost use Rattle.network.specs.Cells.{gateWidth, maxGates, formAt, firstAt, countAt, gateAt, CellIs, lent, sizesFit, startAt, recordFits, recordsFit, validNode, allValid, isNetwork};
+ghost use Rattle.network.specs.Cells.{gateWidth, maxGates, maxPins, formAt, firstAt, countAt, gateAt, CellIs, lent, sizesFit, startAt, recordFits, recordsFit, validNode, allValid, isNetwork};
 
 pub const MAX_INPUTS: usize = 256;
 
@@ -102,6 +104,16 @@ pub fn count_at(gates: &[u32], g: usize) -> usize
     ensures { λ r. ⌜ CellIs (countAt (now (gates .entry)) g) r ⌝ }
 {
     gates[g * GATE_CELLS + 2] as usize
+}
+
+// Writes gate g's record.
+pub fn put_record(gates: &mut [u32], g: usize, form: u32, first: usize, count: usize)
+    requires { ⌜ (g * gateWidth + 2 < length (now gates)) × (g < maxGates) × (first ≤ maxPins) × (count ≤ maxPins) ⌝ }
+    ensures { λ r. ⌜ now (gates .exit) ≡ overAt (g * gateWidth) (form ∷ first ∷ count ∷ []) (now (gates .entry)) ⌝ }
+{
+    gates[g * GATE_CELLS] = form;
+    gates[g * GATE_CELLS + 1] = first as u32;
+    gates[g * GATE_CELLS + 2] = count as u32;
 }
 
 // Whether gate g has a known form, a pin count that it can have, and its pins from cell at on.

@@ -10,7 +10,6 @@ pub mod Uses
 pub mod Starting
 pub mod Visiting
 pub mod Finding
-pub mod Laying
 pub mod Moving
 pub mod Reading
 pub mod Ending

@@ -7,13 +7,13 @@ use native.Mathlib.Omega.{arith}
 use native.Mathlib.Numerals.{add-one}
 use lib.ListN.{length, getD, take, drop, set, length-set, length-map, drop-of-length-le}
 use lib.Seq.{getD-set-same, getD-set-other, getD-take, length-take-le}
-use Rattle.lists.specs.Lists.{over}
+use Rattle.lists.specs.Lists.{over, overAt}
 use Rattle.lists.proofs.Counting.{last-or}
 use Rattle.signal.specs.Cell.{gateCell, remapCell}
 use Rattle.network.specs.Cells.{gateWidth, maxGates, formAt, runAt}
-use Rattle.sort.specs.Steps.{overAt, Numbers, Tabled, movedGates, movedPins, pinsIn, RoomFor, GateMoved, Movable, Moved}
+use Rattle.sort.specs.Steps.{Numbers, Tabled, movedGates, movedPins, pinsIn, RoomFor, GateMoved, Movable, Moved}
 use Rattle.sort.proofs.Naming.{drop-next}
-use Rattle.sort.proofs.Laying.{length-overAt, overAt-nil, over-first, over-append}
+use Rattle.lists.proofs.OverAt.{length-overAt, overAt-nil, over-first, over-append}
 
 -- ---- the translation table
 

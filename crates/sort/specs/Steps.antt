@@ -6,7 +6,7 @@ use mathlib.Core.Option.{Option, none, some}
 use Prim.Native.Nat.{ℕ, zero, suc, _+_, _-_, _*_, _≤_, _<_}
 use lib.Dec.{eqb, ltb}
 use lib.ListN.{length, getD, getElem?, take, drop, set}
-use Rattle.lists.specs.Lists.{occ, sumTo, range, over}
+use Rattle.lists.specs.Lists.{occ, sumTo, range, over, overAt}
 use Rattle.signal.specs.Signal.{gateNode}
 use Rattle.signal.specs.Cell.{nodeOf, gateNumber, gateCell, remapCell}
 use Rattle.gates.specs.Gate.{Gate}
@@ -286,12 +286,6 @@ movedGates gates pins at (g ∷ o) = formAt gates g ∷ at ∷ length (runAt gat
 abbrev pub movedPins : List ℕ → List ℕ → List ℕ → List ℕ → List ℕ
 movedPins gates pins t [] = []
 movedPins gates pins t (g ∷ o) = map (remapCell t) (runAt gates pins g) ++ movedPins gates pins t o
-
--- the list t laid over o from cell k on, cut where o ends
-abbrev pub overAt : ℕ → List ℕ → List ℕ → List ℕ
-overAt zero t o = over t o
-overAt (suc k) t [] = []
-overAt (suc k) t (y ∷ o) = y ∷ overAt k t o
 
 -- gate i's record and a run of so many pins from cell `at` on have room in the new cells
 pub record RoomFor (i at count : ℕ) (ng np : List ℕ) : Type 0 where

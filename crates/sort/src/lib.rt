@@ -7,7 +7,7 @@ ghost use mathlib.Core.Path.{_≡_};
 ghost use mathlib.Core.List.{List, [], _∷_, map};
 ghost use Prim.Native.Nat.{ℕ, _+_, _-_, _*_, _≤_, _<_};
 ghost use lib.ListN.{length, getD, take, replicate};
-ghost use Rattle.lists.specs.Lists.{over};
+ghost use Rattle.lists.specs.Lists.{over, overAt};
 ghost use Rattle.signal.specs.Cell.{remapCell};
 ghost use Rattle.network.specs.Cells.{gateWidth, maxGates, maxPins, runAt, lent, netOf};
 ghost use Rattle.sort.specs.Order.{uses, sortOrder};
@@ -15,7 +15,7 @@ ghost use Rattle.sort.specs.Sorted.{sorted};
 ghost use Rattle.sort.specs.Into.{outcome, sortInto, Sortable, sortLent};
 ghost use Rattle.sort.specs.Steps.{named, gateIns, formComb, cellGraph, HasRun, Cells, Raised, Countable, Counted};
 ghost use Rattle.sort.specs.Steps.{down, Lowered, Lowers, Walks, Flopped, Started, Ready, Visited, Begins, Recorded, ordered};
-ghost use Rattle.sort.specs.Steps.{overAt, Numbers, Tabled, RoomFor, GateMoved, Movable, Moved, Renewed};
+ghost use Rattle.sort.specs.Steps.{Numbers, Tabled, RoomFor, GateMoved, Movable, Moved, Renewed};
 
 // Sorted, with the pins in use; or a combinational loop.
 pub enum Sorted {
@@ -296,16 +296,6 @@ fn move_pins(run: &[u32], table: &[u32], to: &mut [u32], at: usize)
     }
 }
 
-// Writes gate i's record into the new gates.
-fn put_record(to: &mut [u32], i: usize, form: u32, first: usize, count: usize)
-    requires { ⌜ (i * gateWidth + 2 < length (now to)) × (i < maxGates) × (first ≤ maxPins) × (count ≤ maxPins) ⌝ }
-    ensures { λ r. ⌜ now (to .exit) ≡ overAt (i * gateWidth) (form ∷ first ∷ count ∷ []) (now (to .entry)) ⌝ }
-{
-    to[i * GATE_CELLS] = form;
-    to[i * GATE_CELLS + 1] = first as u32;
-    to[i * GATE_CELLS + 2] = count as u32;
-}
-
 // Copies gate g to gate i of the new cells, with its pins from cell at on. Answers the cell after its pins.
 fn move_gate(
     gates: &[u32],
@@ -323,7 +313,7 @@ fn move_gate(
 {
     let run = gate_pins(gates, pins, g);
     let count = run.len();
-    put_record(new_gates, i, network::form_at(gates, g), at, count);
+    network::put_record(new_gates, i, network::form_at(gates, g), at, count);
     move_pins(run, table, new_pins, at);
     at + count
 }

@@ -4,8 +4,8 @@ use mathlib.Core.List.{List, [], _∷_, _++_}
 use Prim.Native.Nat.{ℕ, zero, suc, _+_}
 use native.Mathlib.Omega.{arith}
 use lib.ListN.{length, set}
+use Rattle.lists.specs.Lists.{overAt}
 use Rattle.lists.proofs.Over.{length-over}
-use Rattle.sort.specs.Steps.{overAt}
 
 pub length-overAt : (k : ℕ) (t o : List ℕ) → length (overAt k t o) ≡ length o
 length-overAt zero t o = length-over t o
