@@ -20,23 +20,23 @@ over-suc i (x ∷ s) [] h k = absurd (not-suc-le-zero k)
 over-suc zero (x ∷ s) (y ∷ o) h k = refl
 over-suc (suc i) (x ∷ s) (y ∷ o) h k = ap (λ (l : Bytes). x ∷ l) (over-suc i s o (le-of-suc-le-suc h) (le-of-suc-le-suc k))
 
--- the first i bytes of s, which has room in o, are copied to the front of o, which is p now
+-- the first i bytes of s are copied to the front of o, which is p now
 pub record Copied (s o p : Bytes) (i : ℕ) : Type 0 where
   pub of : i ≤ length s
-  pub room : length s ≤ length o
+  pub within : i ≤ length o
   pub is : p ≡ over (take i s) o
 
-pub copy-start : {s o : Bytes} → length s ≤ length o → Copied s o o 0
-copy-start h = record { of = omega arith; room = h; is = refl }
+pub copy-start : {s o : Bytes} → Copied s o o 0
+copy-start = record { of = omega arith; within = omega arith; is = refl }
 
 module _ {s o p : Bytes} {i : ℕ} where
   pub copy-kept : Copied s o p i → length p ≡ length o
   copy-kept c = ap length (c .is) ∙ length-over (take i s) o
 
-  pub copy-next : {v : ℕ} → v ≡ getD s i 0 → i < length s → Copied s o p i → Copied s o (set p i v) (i + 1)
-  copy-next {v} e h c =
-      let k : i < length o = omega (arith, c .room) in
-      record { of = omega arith; room = c .room; is = rw (e, c .is, add-one) (over-suc i s o h k) }
+  pub copy-next : {v : ℕ} → v ≡ getD s i 0 → i < length s → i < length p → Copied s o p i → Copied s o (set p i v) (i + 1)
+  copy-next e h k c =
+      let l : i < length o = omega (arith, copy-kept c) in
+      record { of = omega arith; within = omega arith; is = rw (e, c .is, add-one) (over-suc i s o h l) }
 
   pub copy-done : length s ≤ i → Copied s o p i → p ≡ over s o
   copy-done h c = c .is ∙ ap (λ (l : Bytes). over l o) (take-all i s h)
@@ -54,6 +54,16 @@ over-cut (x ∷ s) (y ∷ o) (suc i) h = ap (λ (l : Bytes). x ∷ l) (over-cut 
 
 pub wrote-cut : {s o p : Bytes} → length o < length s → p ≡ over (take (length o) s) o → Wrote s o p (length o + 1)
 wrote-cut {s} {o} {p} h e = record { out = e ∙ over-cut s o (length o) (omega arith); len = omega arith }
+
+-- the copy ends where there is no room, or where all is copied
+module _ {s o p : Bytes} {i : ℕ} where
+  pub copy-full : i < length s → length p ≤ i → Copied s o p i → Wrote s o p (i + 1)
+  copy-full h k c =
+      let l = copy-kept c in
+      record { out = c .is ∙ over-cut s o i (omega arith); len = omega (arith, c .within) }
+
+  pub copy-all : length s ≤ i → Copied s o p i → Wrote s o p i
+  copy-all h c = record { out = copy-done h c; len = omega (arith, c .of, c .within) }
 
 pub wrote-whole : {s o p : Bytes} → length s ≤ length o → p ≡ over s o → Wrote s o p (length s)
 wrote-whole h e = record { out = e; len = omega arith }
@@ -137,3 +147,59 @@ and-append {t} {s} {o} {p} {q} {a} {b} {r} w v =
 -- the same text in other words
 pub as-text : {t u o p : Bytes} {a r : ℕ} → t ≡ u → Appended t o a p r → Appended u o a p r
 as-text {o = o} {p = p} {a = a} {r = r} e v = subst (λ (l : Bytes). Appended l o a p r) e v
+
+-- ---- a loop that writes one part after the other
+
+-- of the text w, all but `left` is written from place a of o on, which is p now; `at` is the place after it
+pub record Going (w left o : Bytes) (a : ℕ) (p : Bytes) (at : ℕ) : Type 0 where
+  pub done : Bytes
+  pub whole : done ++ left ≡ w
+  pub wrote : Appended done o a p at
+
+pub going-start : {w left o : Bytes} {a : ℕ} → left ≡ w → a ≤ length o → Going w left o a o a
+going-start {w} {left} {o} {a} e h =
+    record { done = []; whole = e; wrote = record { out = sym (take-append-drop a o); len = omega arith } }
+
+module _ {w left o p : Bytes} {a at : ℕ} (g : Going w left o a p at) where
+  pub going-kept : length p ≡ length o
+  going-kept = append-kept (g .wrote)
+
+  pub going-append : {s rest q : Bytes} {r : ℕ} → left ≡ s ++ rest → Appended s p at q r → Going w rest o a q r
+  going-append {s} {rest} e v =
+      record {
+        done = g .done ++ s;
+        whole = append-assoc (g .done) s rest ∙ ap (λ (l : Bytes). g .done ++ l) (sym e) ∙ g .whole;
+        wrote = and-append (g .wrote) v;
+      }
+
+  pub going-part : {s rest q : Bytes} {r : ℕ} → left ≡ s ++ rest → at ≤ length p → Wrote s (take (length p - at) (drop at p)) q r
+      → Going w rest o a (take at p ++ (q ++ drop (length p - at) (drop at p))) (at + r)
+  going-part e h v = going-append e (append-room h v)
+
+  pub going-high : at ≤ length o + 1
+  going-high = omega (arith, g .wrote .len)
+
+  -- there is no room for what is left
+  pub going-full : length p < at → Appended w o a p at
+  going-full h =
+      let k : length p ≡ length o = going-kept in
+      let v : Appended left p at p at = record { out = sym (over-end at left p (omega arith)); len = omega (arith, g .wrote .len) } in
+      as-text (g .whole) (and-append (g .wrote) v)
+
+  -- nothing is left
+  pub going-done : left ≡ [] → Appended w o a p at
+  going-done e = as-text (sym (append-nil (g .done)) ∙ ap (λ (l : Bytes). g .done ++ l) (sym e) ∙ g .whole) (g .wrote)
+
+-- the place after a part is at most one past the end
+pub part-high : {s q : Bytes} {at r : ℕ} (p : Bytes) → at ≤ length p → Wrote s (take (length p - at) (drop at p)) q r → at + r ≤ length p + 1
+part-high {s} {q} {at} {r} p h v = omega (arith, v .len, length-take (length p - at) (drop at p), length-drop at p)
+
+pub to-start : {t o p : Bytes} {r : ℕ} → Wrote t o p r → Appended t o 0 p r
+to-start v = record { out = v .out; len = omega (arith, v .len) }
+
+pub wrote-nothing : {o : Bytes} → Wrote [] o o 0
+wrote-nothing = record { out = refl; len = omega arith }
+
+-- the same text in other words
+pub as-wrote : {t u o p : Bytes} {r : ℕ} → t ≡ u → Wrote t o p r → Wrote u o p r
+as-wrote {o = o} {p = p} {r = r} e v = subst (λ (l : Bytes). Wrote l o p r) e v

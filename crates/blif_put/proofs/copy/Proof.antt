@@ -14,13 +14,13 @@ abbrev μ-loop : tie.MeasureT-loop
 μ-loop out₀ s i₀ out i = length s - i
 
 loop-holds : tie.Need-loop-holds Inv-loop μ-loop
-loop-holds c = copy-start (c .pre)
+loop-holds c = copy-start
 
 shared-slice-read-out : tie.Need-shared-slice-read-out Inv-loop μ-loop
 shared-slice-read-out c = omega arith
 
 slice-write-out : tie.Need-slice-write-out Inv-loop μ-loop
-slice-write-out c = omega (arith, copy-kept (c .before .before .loop .inv), c .before .before .loop .inv .room)
+slice-write-out c = omega (arith, copy-kept (c .before .before .loop .inv), c .before .before .before .pre)
 
 add-i : tie.Need-add-i Inv-loop μ-loop
 add-i c = omega arith
@@ -29,7 +29,7 @@ loop-less : tie.Need-loop-less Inv-loop μ-loop
 loop-less c = omega arith
 
 loop-again : tie.Need-loop-again Inv-loop μ-loop
-loop-again c = copy-next refl (c .before .loop-test .taken) (c .before .before .loop .inv)
+loop-again c = copy-next refl (c .before .loop-test .taken) (omega (arith, copy-kept (c .before .before .loop .inv), c .before .before .before .pre, c .before .loop-test .taken)) (c .before .before .loop .inv)
 
 same-length : tie.Need-same-length Inv-loop μ-loop
 same-length c = copy-kept (c .before .loop .inv)
