@@ -1,1 +1,4 @@
 pub mod Texts
+pub mod Covers
+pub mod Walks
+pub mod Heads

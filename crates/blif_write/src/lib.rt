@@ -13,23 +13,24 @@ use gates::TernaryType;
 use network::Counts;
 use signal::Signal;
 ghost use mathlib.Core.Path.{_≡_};
-ghost use mathlib.Core.Bool.{true, false};
+ghost use mathlib.Core.Bool.{true, false, _&&_};
 ghost use mathlib.Core.List.{[], _∷_, _++_, map};
-ghost use Prim.Native.Nat.{_≤_, _<_};
+ghost use Prim.Native.Nat.{_+_, _≤_, _<_, min};
+ghost use lib.Dec.{ltb};
 ghost use lib.ListN.{length};
 ghost use Rattle.lists.specs.Lists.{any, range};
 ghost use Rattle.signal.specs.Signal.{plain, Gated, Input};
 ghost use Rattle.signal.specs.Cell.{sigOf};
 ghost use Rattle.gates.specs.Forms.{binaryForm, ternaryForm, naryForm};
 ghost use Rattle.gates.specs.Decode.{runOf, gateIn};
-ghost use Rattle.network.specs.Cells.{maxGates, lent, isNetwork, netOf};
+ghost use Rattle.network.specs.Cells.{maxGates, maxInputs, lent, isNetwork, netOf};
 ghost use Rattle.blif_model.specs.Names.{nameBytes};
 ghost use Rattle.blif_model.specs.Write.{isConst, gateName, formBlock, bufBlock};
 ghost use Rattle.blif_model.specs.Render.{spaced, line, latchLine, flopLine, storedLine, textOf};
 ghost use Rattle.blif_put.specs.Text.{Wrote, Appended};
 ghost use Rattle.blif_put.specs.Lines.{Narrow};
-ghost use Rattle.blif_write.specs.Into.{outcome, writeInto, wide};
-ghost use Rattle.blif_write.specs.Blocks.{Ends, blockText, latchText, coverText, fieldText, flopText, storedText};
+ghost use Rattle.blif_write.specs.Into.{outcome, writeInto, exclusive, wide};
+ghost use Rattle.blif_write.specs.Blocks.{blockText, latchText, coverText, latchesText, coversText, fieldText, flopText, storedText, inputNames, headText, held, Readable};
 
 // The text's length, or a refusal's number.
 pub enum WriteAnswer {
@@ -196,4 +197,172 @@ fn write_buf(out: &mut [u8], s: Signal, g: usize) -> usize
         return append(out, at, b"0 1\n");
     }
     append(out, at, b"1 1\n")
+}
+
+// Where a run starts among n pins.
+fn run_start(run: PinRun, n: usize) -> usize
+    ensures { λ r. ⌜ r ≡ min (run .first) n ⌝ }
+{
+    if run.first > n {
+        return n;
+    }
+    run.first
+}
+
+// Where a run ends among n pins.
+fn run_end(run: PinRun, n: usize) -> usize
+    ensures { λ r. ⌜ r ≡ min (min (run .first) n + run .count) n ⌝ }
+{
+    let start = run_start(run, n);
+    if run.count > n - start {
+        return n;
+    }
+    start + run.count
+}
+
+// Writes the cover of a combinational gate, and nothing for a flip-flop.
+fn write_cover(out: &mut [u8], gate: Gate, pins: &[u32], g: usize) -> usize
+    requires { ⌜ (g < maxGates) × (wide (gateIn gate (now pins)) ≡ false) ⌝ }
+    ensures { λ r. ⌜ Wrote (coverText g (gateIn gate (now (pins .entry)))) (now (out .entry)) (now (out .exit)) r ⌝ }
+{
+    match gate {
+        Gate::Binary(t, a, b) => write_binary(out, t, a, b, g),
+        Gate::Ternary(t, a, b, c) => write_ternary(out, t, a, b, c, g),
+        Gate::Nary(t, run) => {
+            let start = run_start(run, pins.len());
+            let end = run_end(run, pins.len());
+            write_nary(out, t, &pins[start..end], g)
+        }
+        Gate::Buf(s) => write_buf(out, s, g),
+        Gate::Dff(_, _, _) => 0,
+    }
+}
+
+// Writes the latches of n gates.
+fn append_latches(out: &mut [u8], at: usize, gates: &[u32], pins: &[u32], n: usize) -> usize
+    requires { ⌜ Readable (now gates) (now pins) n ⌝ }
+    ensures { λ r. ⌜ Appended (latchesText 0 (held (now (gates .entry)) (now (pins .entry)) 0 n)) (now (out .entry)) at (now (out .exit)) r ⌝ }
+{
+    if at > out.len() {
+        return out.len() + 1;
+    }
+    let mut end = at;
+    let mut g = 0;
+    while g < n {
+        if end > out.len() {
+            return end;
+        }
+        let Decoded::Good(gate) = network::gate_at(gates, pins, g) else {
+            return end;
+        };
+        end += write_latch(&mut out[end..], gate, g);
+        g += 1;
+    }
+    end
+}
+
+// Writes the covers of n gates.
+fn append_covers(out: &mut [u8], at: usize, gates: &[u32], pins: &[u32], n: usize) -> usize
+    requires { ⌜ Readable (now gates) (now pins) n × (any wide (held (now gates) (now pins) 0 n) ≡ false) ⌝ }
+    ensures { λ r. ⌜ Appended (coversText 0 (held (now (gates .entry)) (now (pins .entry)) 0 n)) (now (out .entry)) at (now (out .exit)) r ⌝ }
+{
+    if at > out.len() {
+        return out.len() + 1;
+    }
+    let mut end = at;
+    let mut g = 0;
+    while g < n {
+        if end > out.len() {
+            return end;
+        }
+        let Decoded::Good(gate) = network::gate_at(gates, pins, g) else {
+            return end;
+        };
+        end += write_cover(&mut out[end..], gate, pins, g);
+        g += 1;
+    }
+    end
+}
+
+// Writes the names of n inputs, each behind a blank.
+fn append_inputs(out: &mut [u8], at: usize, n: usize) -> usize
+    requires { ⌜ n ≤ maxInputs ⌝ }
+    ensures { λ r. ⌜ Appended (spaced (inputNames 0 n)) (now (out .entry)) at (now (out .exit)) r ⌝ }
+{
+    if at > out.len() {
+        return out.len() + 1;
+    }
+    let mut end = at;
+    let mut i = 0;
+    while i < n {
+        if end > out.len() {
+            return end;
+        }
+        end = append_name(out, end, b" ", Signal::from_input(i as u32));
+        i += 1;
+    }
+    end
+}
+
+// Writes the comment lines, the model, the inputs and the outputs, with their empty lines.
+fn write_head(out: &mut [u8], inputs: usize, outputs: &[u32]) -> usize
+    requires { ⌜ inputs ≤ maxInputs ⌝ }
+    ensures { λ r. ⌜ Wrote (headText inputs (map sigOf (now (outputs .entry)))) (now (out .entry)) (now (out .exit)) r ⌝ }
+{
+    let mut at = append(out, 0, b"# .blif file\n");
+    at = append(out, at, b"# Generated by quaigh\n\n");
+    at = append(out, at, b".model quaigh\n\n");
+    at = append(out, at, b".inputs");
+    at = append_inputs(out, at, inputs);
+    at = append(out, at, b"\n\n.outputs");
+    at = append_signals(out, at, outputs);
+    append(out, at, b"\n\n")
+}
+
+// Whether a Nary gate of this type and so many inputs has too many to be written.
+fn is_wide_type(t: NaryType, n: usize) -> bool
+    ensures { λ r. ⌜ r ≡ (exclusive (naryForm t) && ltb 12 n) ⌝ }
+{
+    match t {
+        NaryType::And => false,
+        NaryType::Or => false,
+        NaryType::Nand => false,
+        NaryType::Nor => false,
+        NaryType::Xor => n > 12,
+        NaryType::Xnor => n > 12,
+    }
+}
+
+// Whether a gate has too many inputs to be written.
+fn is_wide(gate: Gate, pins: &[u32]) -> bool
+    ensures { λ r. ⌜ r ≡ wide (gateIn gate (now (pins .entry))) ⌝ }
+{
+    match gate {
+        Gate::Binary(_, _, _) => false,
+        Gate::Ternary(_, _, _, _) => false,
+        Gate::Nary(t, run) => {
+            let start = run_start(run, pins.len());
+            is_wide_type(t, run_end(run, pins.len()) - start)
+        }
+        Gate::Buf(_) => false,
+        Gate::Dff(_, _, _) => false,
+    }
+}
+
+// Whether one of n gates has too many inputs to be written.
+fn any_wide(gates: &[u32], pins: &[u32], n: usize) -> bool
+    requires { ⌜ Readable (now gates) (now pins) n ⌝ }
+    ensures { λ r. ⌜ r ≡ any wide (held (now (gates .entry)) (now (pins .entry)) 0 n) ⌝ }
+{
+    let mut g = 0;
+    while g < n {
+        let Decoded::Good(gate) = network::gate_at(gates, pins, g) else {
+            return false;
+        };
+        if is_wide(gate, pins) {
+            return true;
+        }
+        g += 1;
+    }
+    false
 }
