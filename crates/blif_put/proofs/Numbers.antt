@@ -81,12 +81,12 @@ turned-name l n v e = ap (λ (s : Bytes). l ∷ s) (decimal-then n (bytes "_n") 
 pub plain-name : (l n : ℕ) (v : Bool) → v ≡ false → l ∷ decimal n [] ≡ l ∷ decimal n (suffix v)
 plain-name l n v e = ap (λ (b : Bool). l ∷ decimal n (suffix b)) (sym e)
 
-const-is : (n : Node) → constNode n ≡ true → n ≡ Const
+pub const-is : (n : Node) → constNode n ≡ true → n ≡ Const
 const-is Const e = refl
 const-is (Input i) e = absurd (false≢true e)
 const-is (Gated g) e = absurd (false≢true e)
 
-gate-left : (n : Node) → constNode n ≡ false → inputNode n ≡ false → gateNode n ≡ true
+pub gate-left : (n : Node) → constNode n ≡ false → inputNode n ≡ false → gateNode n ≡ true
 gate-left Const d e = absurd (true≢false d)
 gate-left (Input i) d e = absurd (true≢false e)
 gate-left (Gated g) d e = refl

@@ -2,3 +2,5 @@ pub mod Texts
 pub mod Covers
 pub mod Walks
 pub mod Heads
+pub mod Marking
+pub mod Inverters

@@ -17,7 +17,7 @@ ghost use mathlib.Core.Bool.{true, false, _&&_};
 ghost use mathlib.Core.List.{[], _∷_, _++_, map};
 ghost use Prim.Native.Nat.{_+_, _≤_, _<_, min};
 ghost use lib.Dec.{ltb};
-ghost use lib.ListN.{length};
+ghost use lib.ListN.{length, set};
 ghost use Rattle.lists.specs.Lists.{any, range};
 ghost use Rattle.signal.specs.Signal.{plain, Gated, Input};
 ghost use Rattle.signal.specs.Cell.{sigOf};
@@ -25,12 +25,13 @@ ghost use Rattle.gates.specs.Forms.{binaryForm, ternaryForm, naryForm};
 ghost use Rattle.gates.specs.Decode.{runOf, gateIn};
 ghost use Rattle.network.specs.Cells.{maxGates, maxInputs, lent, isNetwork, netOf};
 ghost use Rattle.blif_model.specs.Names.{nameBytes};
-ghost use Rattle.blif_model.specs.Write.{isConst, gateName, formBlock, bufBlock};
+ghost use Rattle.blif_model.specs.Write.{named, isConst, gateName, formBlock, bufBlock};
 ghost use Rattle.blif_model.specs.Render.{spaced, line, latchLine, flopLine, storedLine, textOf};
 ghost use Rattle.blif_put.specs.Text.{Wrote, Appended};
 ghost use Rattle.blif_put.specs.Lines.{Narrow};
 ghost use Rattle.blif_write.specs.Into.{outcome, writeInto, exclusive, wide};
 ghost use Rattle.blif_write.specs.Blocks.{blockText, latchText, coverText, latchesText, coversText, fieldText, flopText, storedText, inputNames, headText, held, Readable};
+ghost use Rattle.blif_write.specs.Marks.{Marked, namedIn, inverterAt, gateInverters, inputInverters};
 
 // The text's length, or a refusal's number.
 pub enum WriteAnswer {
@@ -365,4 +366,148 @@ fn any_wide(gates: &[u32], pins: &[u32], n: usize) -> bool
         g += 1;
     }
     false
+}
+
+// Sets mark n, if there is one.
+fn set_mark(marks: &mut [u8], n: u32)
+    ensures { λ _. ⌜ now (marks .exit) ≡ set (now (marks .entry)) n 1 ⌝ }
+{
+    let i = n as usize;
+    if i < marks.len() {
+        marks[i] = 1;
+    }
+}
+
+// Marks a signal that is inverted and no constant.
+fn mark_signal(gate_marks: &mut [u8], input_marks: &mut [u8], s: Signal)
+    ensures { λ _. ⌜ Marked (sigOf (s .a) ∷ []) (now («gate_marks» .entry)) (now («input_marks» .entry)) (now («gate_marks» .exit)) (now («input_marks» .exit)) ⌝ }
+{
+    if !s.is_inverted() {
+        return;
+    }
+    if s.is_input() {
+        set_mark(input_marks, s.input());
+        return;
+    }
+    if s.is_constant() {
+        return;
+    }
+    set_mark(gate_marks, s.var());
+}
+
+// Marks the signals of cells.
+fn mark_signals(gate_marks: &mut [u8], input_marks: &mut [u8], cells: &[u32])
+    ensures { λ _. ⌜ Marked (map sigOf (now (cells .entry))) (now («gate_marks» .entry)) (now («input_marks» .entry)) (now («gate_marks» .exit)) (now («input_marks» .exit)) ⌝ }
+{
+    let mut i = 0;
+    while i < cells.len() {
+        mark_signal(gate_marks, input_marks, Signal { a: cells[i] });
+        i += 1;
+    }
+}
+
+// Marks three signals.
+fn mark_three(gate_marks: &mut [u8], input_marks: &mut [u8], a: Signal, b: Signal, c: Signal)
+    ensures { λ _. ⌜ Marked (sigOf (a .a) ∷ sigOf (b .a) ∷ sigOf (c .a) ∷ []) (now («gate_marks» .entry)) (now («input_marks» .entry)) (now («gate_marks» .exit)) (now («input_marks» .exit)) ⌝ }
+{
+    mark_signal(gate_marks, input_marks, a);
+    mark_signal(gate_marks, input_marks, b);
+    mark_signal(gate_marks, input_marks, c);
+}
+
+// Marks the inputs of a gate, unless it is a Buf, which handles the inversion itself.
+fn mark_gate(gate_marks: &mut [u8], input_marks: &mut [u8], gate: Gate, pins: &[u32])
+    ensures { λ _. ⌜ Marked (named (gateIn gate (now (pins .entry)))) (now («gate_marks» .entry)) (now («input_marks» .entry)) (now («gate_marks» .exit)) (now («input_marks» .exit)) ⌝ }
+{
+    match gate {
+        Gate::Binary(_, a, b) => {
+            mark_signal(gate_marks, input_marks, a);
+            mark_signal(gate_marks, input_marks, b);
+        }
+        Gate::Ternary(_, a, b, c) => mark_three(gate_marks, input_marks, a, b, c),
+        Gate::Nary(_, run) => {
+            let start = run_start(run, pins.len());
+            let end = run_end(run, pins.len());
+            mark_signals(gate_marks, input_marks, &pins[start..end]);
+        }
+        Gate::Buf(_) => {}
+        Gate::Dff(d, e, r) => mark_three(gate_marks, input_marks, d, e, r),
+    }
+}
+
+// Marks the signals that are used inverted, at the outputs and at the inputs of n gates.
+fn get_inverted_signals(
+    gate_marks: &mut [u8],
+    input_marks: &mut [u8],
+    gates: &[u32],
+    pins: &[u32],
+    n: usize,
+    outputs: &[u32],
+)
+    requires { ⌜ Readable (now gates) (now pins) n ⌝ }
+    ensures { λ _. ⌜ Marked (map sigOf (now (outputs .entry)) ++ namedIn (held (now (gates .entry)) (now (pins .entry)) 0 n)) (now («gate_marks» .entry)) (now («input_marks» .entry)) (now («gate_marks» .exit)) (now («input_marks» .exit)) ⌝ }
+{
+    mark_signals(gate_marks, input_marks, outputs);
+    let mut g = 0;
+    while g < n {
+        let Decoded::Good(gate) = network::gate_at(gates, pins, g) else {
+            return;
+        };
+        mark_gate(gate_marks, input_marks, gate, pins);
+        g += 1;
+    }
+}
+
+// Writes the inverter of a signal that is marked, and nothing where the mark is zero.
+fn write_inverter(out: &mut [u8], mark: u8, s: Signal) -> usize
+    requires { ⌜ sigOf (s .a) .inv ≡ false ⌝ }
+    ensures { λ r. ⌜ Wrote (inverterAt mark (sigOf (s .a) .node)) (now (out .entry)) (now (out .exit)) r ⌝ }
+{
+    if mark == 0 {
+        return 0;
+    }
+    let mut at = append(out, 0, b".names");
+    at = append_name(out, at, b" ", s);
+    at = append_name(out, at, b" ", s.not());
+    append(out, at, b"\n0 1\n")
+}
+
+// Writes the inverters of n gates, upwards.
+fn append_gate_inverters(out: &mut [u8], at: usize, marks: &[u8], n: usize) -> usize
+    requires { ⌜ (n ≤ maxGates) × (n ≤ length (now marks)) ⌝ }
+    ensures { λ r. ⌜ Appended (gateInverters (now (marks .entry)) 0 n) (now (out .entry)) at (now (out .exit)) r ⌝ }
+{
+    if at > out.len() {
+        return out.len() + 1;
+    }
+    let mut end = at;
+    let mut g = 0;
+    while g < n {
+        if end > out.len() {
+            return end;
+        }
+        end += write_inverter(&mut out[end..], marks[g], Signal::from_var(g as u32));
+        g += 1;
+    }
+    end
+}
+
+// Writes the inverters of n inputs, downwards.
+fn append_input_inverters(out: &mut [u8], at: usize, marks: &[u8], n: usize) -> usize
+    requires { ⌜ (n ≤ maxInputs) × (n ≤ length (now marks)) ⌝ }
+    ensures { λ r. ⌜ Appended (inputInverters (now (marks .entry)) n) (now (out .entry)) at (now (out .exit)) r ⌝ }
+{
+    if at > out.len() {
+        return out.len() + 1;
+    }
+    let mut end = at;
+    let mut i = n;
+    while i > 0 {
+        if end > out.len() {
+            return end;
+        }
+        i -= 1;
+        end += write_inverter(&mut out[end..], marks[i], Signal::from_input(i as u32));
+    }
+    end
 }
