@@ -3,4 +3,5 @@ pub mod Covers
 pub mod Walks
 pub mod Heads
 pub mod Marking
+pub mod GateMarks
 pub mod Inverters

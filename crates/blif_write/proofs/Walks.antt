@@ -41,7 +41,7 @@ pub read-good : (cells ps : List ℕ) (g : ℕ) {r : Decoded} {x : code.Gate} �
     → gateAt cells ps g ≡ some (gateIn x ps)
 read-good cells ps g e h = sym e ∙ ap (λ (z : Decoded). decodedIn z ps) h
 
-held-cons : (cells ps : List ℕ) {n g : ℕ} {x : Gate} → g < n → gateAt cells ps g ≡ some x
+pub held-cons : (cells ps : List ℕ) {n g : ℕ} {x : Gate} → g < n → gateAt cells ps g ≡ some x
     → held cells ps g (n - g) ≡ x ∷ held cells ps (g + 1) (n - (g + 1))
 held-cons cells ps {n} {g} {x} h e =
     let k : n - g ≡ suc (n - (g + 1)) = omega arith in
@@ -49,7 +49,7 @@ held-cons cells ps {n} {g} {x} h e =
     ∙ ap (λ (y : Option Gate). orBuf y ∷ held cells ps (suc g) (n - (g + 1))) e
     ∙ ap (λ (i : ℕ). x ∷ held cells ps i (n - (g + 1))) (sym (add-one g))
 
-held-end : (cells ps : List ℕ) {n g : ℕ} → n ≤ g → held cells ps g (n - g) ≡ []
+pub held-end : (cells ps : List ℕ) {n g : ℕ} → n ≤ g → held cells ps g (n - g) ≡ []
 held-end cells ps {n} {g} h = let k : n - g ≡ 0 = omega arith in ap (held cells ps g) k
 
 -- the texts of the gates before g are written; f is the text of gates, the first of which has that number
