@@ -5,3 +5,5 @@ pub mod Heads
 pub mod Marking
 pub mod GateMarks
 pub mod Inverters
+pub mod Used
+pub mod Whole

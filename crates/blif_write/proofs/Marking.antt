@@ -76,7 +76,7 @@ marked-none = record { gated = refl; input = refl }
 pub as-marked : {a b : List Signal} {gs is gs' is' : List ℕ} → a ≡ b → Marked a gs is gs' is' → Marked b gs is gs' is'
 as-marked {gs = gs} {is = is} {gs' = gs'} {is' = is'} e v = mathlib.Core.Path.subst (λ (l : List Signal). Marked l gs is gs' is') e v
 
-marked-length : (v : Bool) (n : Option ℕ) (m : List ℕ) → length (marked v n m) ≡ length m
+pub marked-length : (v : Bool) (n : Option ℕ) (m : List ℕ) → length (marked v n m) ≡ length m
 marked-length false n m = refl
 marked-length true none m = refl
 marked-length true (some i) m = length-set m i 1

@@ -24,13 +24,14 @@ ghost use Rattle.signal.specs.Cell.{sigOf};
 ghost use Rattle.gates.specs.Forms.{binaryForm, ternaryForm, naryForm};
 ghost use Rattle.gates.specs.Decode.{runOf, gateIn};
 ghost use Rattle.network.specs.Cells.{maxGates, maxInputs, lent, isNetwork, netOf};
+ghost use Rattle.blif_text.specs.Places.{maxText};
 ghost use Rattle.blif_model.specs.Names.{nameBytes};
 ghost use Rattle.blif_model.specs.Write.{named, isConst, gateName, formBlock, bufBlock};
 ghost use Rattle.blif_model.specs.Render.{spaced, line, latchLine, flopLine, storedLine, textOf};
 ghost use Rattle.blif_put.specs.Text.{Wrote, Appended};
 ghost use Rattle.blif_put.specs.Lines.{Narrow};
-ghost use Rattle.blif_write.specs.Into.{outcome, writeInto, exclusive, wide};
-ghost use Rattle.blif_write.specs.Blocks.{blockText, latchText, coverText, latchesText, coversText, fieldText, flopText, storedText, inputNames, headText, held, Readable};
+ghost use Rattle.blif_write.specs.Into.{outcome, refusedText, writeInto, exclusive, wide};
+ghost use Rattle.blif_write.specs.Blocks.{blockText, latchText, coverText, latchesText, coversText, fieldText, flopText, storedText, inputNames, headText, held, Readable, netIn, invertersText, Writable};
 ghost use Rattle.blif_write.specs.Marks.{Marked, namedIn, inverterAt, gateInverters, inputInverters};
 
 // The text's length, or a refusal's number.
@@ -510,4 +511,110 @@ fn append_input_inverters(out: &mut [u8], at: usize, marks: &[u8], n: usize) -> 
         end += write_inverter(&mut out[end..], marks[i], Signal::from_input(i as u32));
     }
     end
+}
+
+// Writes an inverter for each signal that is used inverted.
+fn append_inverters(
+    out: &mut [u8],
+    at: usize,
+    inputs: usize,
+    gates: &[u32],
+    pins: &[u32],
+    n: usize,
+    outputs: &[u32],
+) -> usize
+    requires { ⌜ Readable (now gates) (now pins) n × (inputs ≤ maxInputs) ⌝ }
+    ensures { λ r. ⌜ Appended (invertersText (netIn inputs (now (gates .entry)) (now (pins .entry)) n (now (outputs .entry)))) (now (out .entry)) at (now (out .exit)) r ⌝ }
+{
+    let mut gate_marks = [0u8; 1024];
+    let mut input_marks = [0u8; 256];
+    get_inverted_signals(&mut gate_marks, &mut input_marks, gates, pins, n, outputs);
+    let end = append_gate_inverters(out, at, &gate_marks, n);
+    append_input_inverters(out, end, &input_marks, inputs)
+}
+
+// Writes the text of n gates with so many inputs and these outputs.
+fn write_text(
+    out: &mut [u8],
+    inputs: usize,
+    gates: &[u32],
+    pins: &[u32],
+    n: usize,
+    outputs: &[u32],
+) -> usize
+    requires { ⌜ Readable (now gates) (now pins) n × (inputs ≤ maxInputs) × (any wide (held (now gates) (now pins) 0 n) ≡ false) ⌝ }
+    ensures { λ r. ⌜ Wrote (textOf (netIn inputs (now (gates .entry)) (now (pins .entry)) n (now (outputs .entry)))) (now (out .entry)) (now (out .exit)) r ⌝ }
+{
+    let mut at = write_head(out, inputs, outputs);
+    at = append_latches(out, at, gates, pins, n);
+    at = append(out, at, b"\n");
+    at = append_covers(out, at, gates, pins, n);
+    at = append_inverters(out, at, inputs, gates, pins, n, outputs);
+    append(out, at, b".names vdd\n1\n.names gnd\n")
+}
+
+// Clears the output slice and refuses.
+fn refuse(out: &mut [u8], number: u32) -> WriteAnswer
+    ensures { λ r. ⌜ outcome r (now (out .exit)) ≡ refusedText number (length (now (out .entry))) ⌝ }
+{
+    lists::fill_zero_bytes(out);
+    WriteAnswer::Refused(number)
+}
+
+// How much of an output slice of this length a text may take.
+fn room_in(len: usize) -> usize
+    ensures { λ r. ⌜ r ≡ min len maxText ⌝ }
+{
+    if len > blif_text::MAX_TEXT {
+        return blif_text::MAX_TEXT;
+    }
+    len
+}
+
+// Writes the text of a network without wide gates, if it fits.
+fn write_network(
+    counts: Counts,
+    gates: &[u32],
+    pins: &[u32],
+    outputs: &[u32],
+    out: &mut [u8],
+) -> WriteAnswer
+    requires { ⌜ Writable (lent counts (now gates) (now pins) (now outputs)) ⌝ }
+    ensures { λ r. ⌜ outcome r (now (out .exit)) ≡ writeInto (lent counts (now (gates .entry)) (now (pins .entry)) (now (outputs .entry))) (length (now (out .entry))) ⌝ }
+{
+    let n = counts.gates;
+    let used = counts.outputs;
+    let room = room_in(out.len());
+    let end = write_text(
+        &mut out[..room],
+        counts.inputs,
+        gates,
+        pins,
+        n,
+        &outputs[..used],
+    );
+    if end > room {
+        return refuse(out, 22);
+    }
+    lists::fill_zero_bytes(&mut out[end..]);
+    WriteAnswer::Written(end)
+}
+
+// Writes the text of a lent network into the output slice.
+pub fn write_blif(
+    counts: Counts,
+    gates: &[u32],
+    pins: &[u32],
+    outputs: &[u32],
+    out: &mut [u8],
+) -> WriteAnswer
+    ensures { λ r. ⌜ outcome r (now (out .exit)) ≡ writeInto (lent counts (now (gates .entry)) (now (pins .entry)) (now (outputs .entry))) (length (now (out .entry))) ⌝ }
+{
+    if !network::check_layout(counts, gates, pins, outputs) {
+        return refuse(out, 20);
+    }
+    if any_wide(gates, pins, counts.gates) {
+        return refuse(out, 21);
+    }
+    write_network(counts, gates, pins, outputs, out)
 }
