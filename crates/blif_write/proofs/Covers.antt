@@ -1,4 +1,4 @@
--- Runs of pins, the cover of each kind of gate, and which gates are too wide. Assumes nothing.
+-- Runs of pins, the cover and the latch of each kind of gate, and which gates are too wide. Assumes nothing.
 use mathlib.Core.Path.{_≡_, refl, sym, _∙_, ap}
 use mathlib.Core.Bool.{Bool, false, _&&_}
 use mathlib.Core.List.{List, [], _∷_, map, flatMap, append-nil}
@@ -31,7 +31,8 @@ use Rattle.blif_model.specs.Write.{formBlock, bufBlock, combBlock}
 use Rattle.blif_model.specs.Render.{line, blockLines}
 use Rattle.blif_put.specs.Lines.{Narrow}
 use Rattle.blif_write.specs.Into.{exclusive, wide}
-use Rattle.blif_write.specs.Blocks.{blockText, blocksText, coverText}
+use Rattle.blif_put.specs.Blocks.{blockText, storedText}
+use Rattle.blif_write.specs.Parts.{blocksText, coverText, latchText}
 
 -- ---- runs of pins
 
@@ -162,3 +163,15 @@ module _ {x : code.Gate} (g : ℕ) (ps : List ℕ) where
   pub cover-dff : {d e r : signal.Signal} → x ≡ G.Dff d e r → [] ≡ coverText g (gateIn x ps)
   unfolding coverText flatMap
   cover-dff h = cover-at g ps h refl
+
+-- ---- a gate's latch
+
+-- a gate that an arm of a match knows
+pub latch-at : {x y : code.Gate} {t : Bytes} (g : ℕ) → x ≡ y → t ≡ latchText g (gateIn y []) → t ≡ latchText g (gateIn x [])
+latch-at g e h = h ∙ ap (λ (z : code.Gate). latchText g (gateIn z [])) (sym e)
+
+pub latch-of : {x : code.Gate} {d e r : signal.Signal} (g : ℕ) → x ≡ G.Dff d e r
+    → storedText (sigOf (d .a)) (sigOf (e .a)) (sigOf (r .a)) g ≡ latchText g (gateIn x [])
+unfolding latchText storedText flatMap
+latch-of {x} {d} {e} {r} g h =
+    latch-at g h (sym (append-nil (storedText (sigOf (d .a)) (sigOf (e .a)) (sigOf (r .a)) g)))

@@ -9,7 +9,7 @@ use Rattle.signal.specs.Signal.{Signal}
 use Rattle.gates.specs.Gate.{Gate}
 use Rattle.network.specs.Cells.{gateAt}
 use Rattle.blif_model.specs.Write.{named}
-use Rattle.blif_write.specs.Blocks.{held}
+use Rattle.blif_write.specs.Parts.{held}
 use Rattle.blif_write.specs.Marks.{Marked, namedIn}
 use Rattle.blif_write.proofs.Walks.{held-cons, held-end}
 use Rattle.blif_write.proofs.Marking.{Marking, marking-start, marking-next, marking-done}

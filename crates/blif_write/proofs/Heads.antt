@@ -13,8 +13,8 @@ use Rattle.blif_model.specs.Names.{nameBytes}
 use Rattle.blif_model.specs.Render.{spaced, line}
 use Rattle.blif_put.specs.Text.{Appended}
 use Rattle.blif_put.proofs.Laws.{Going, going-start, going-append, going-done}
-use Rattle.blif_write.specs.Blocks.{inputNames, headText}
-use Rattle.blif_write.proofs.Texts.{input-signal}
+use Rattle.blif_write.specs.Parts.{inputNames, headText}
+use Rattle.blif_put.proofs.Texts.{input-signal}
 
 -- the names of the inputs before i are written
 pub record Inputs (n : ℕ) (o : Bytes) (a : ℕ) (p : Bytes) (at i : ℕ) : Type 0 where

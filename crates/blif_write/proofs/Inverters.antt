@@ -18,9 +18,9 @@ use Rattle.blif_model.specs.Write.{inverterBlock}
 use Rattle.blif_model.specs.Render.{spaced, line}
 use Rattle.blif_put.specs.Text.{Wrote, Appended}
 use Rattle.blif_put.proofs.Laws.{as-wrote, Going, going-start, going-part, going-done}
-use Rattle.blif_write.specs.Blocks.{blockText}
+use Rattle.blif_put.specs.Blocks.{blockText}
 use Rattle.blif_write.specs.Marks.{inverterAt, gateInverters, inputInverters}
-use Rattle.blif_write.proofs.Texts.{gate-signal, input-signal, two-names}
+use Rattle.blif_put.proofs.Texts.{gate-signal, input-signal, two-names}
 
 -- ---- one inverter
 

@@ -1,4 +1,3 @@
-pub mod Texts
 pub mod Covers
 pub mod Walks
 pub mod Heads

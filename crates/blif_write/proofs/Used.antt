@@ -18,9 +18,10 @@ use Rattle.network.specs.Net.{Net}
 use Rattle.blif_model.specs.Names.{nameBytes}
 use Rattle.blif_model.specs.Write.{sameNode, usedAmong, named, usedIn, inverted, downTo, inverters, inverterBlock}
 use Rattle.blif_model.specs.Render.{line, blockLines, allLines}
-use Rattle.blif_write.specs.Blocks.{blockText, blocksText, invertersText}
+use Rattle.blif_put.specs.Blocks.{blockText}
+use Rattle.blif_write.specs.Parts.{blocksText, invertersText}
 use Rattle.blif_write.specs.Marks.{gateOf, inputOf, marked, markAll, namedIn, inverterAt, gateInverters, inputInverters}
-use Rattle.blif_write.proofs.Texts.{lines-append}
+use Rattle.blif_put.proofs.Texts.{lines-append}
 use Rattle.blif_write.proofs.Marking.{marked-length}
 
 -- ---- marks and uses

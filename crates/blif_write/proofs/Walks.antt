@@ -24,8 +24,8 @@ use Rattle.blif_model.specs.Render.{blockLines, allLines}
 use Rattle.blif_put.specs.Text.{Wrote, Appended}
 use Rattle.blif_put.proofs.Laws.{Going, going-start, going-part, going-done}
 use Rattle.blif_write.specs.Into.{wide}
-use Rattle.blif_write.specs.Blocks.{latchText, coverText, latchesText, coversText, held, Readable}
-use Rattle.blif_write.proofs.Texts.{lines-append}
+use Rattle.blif_write.specs.Parts.{latchText, coverText, latchesText, coversText, held, Readable}
+use Rattle.blif_put.proofs.Texts.{lines-append}
 use Rattle.blif_write.proofs.Covers.{block-alone}
 
 -- ---- gates read one after the other

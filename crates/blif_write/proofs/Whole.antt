@@ -25,8 +25,8 @@ use Rattle.blif_put.specs.Text.{Wrote}
 use Rattle.blif_put.proofs.Laws.{part-back, part-is}
 use Rattle.blif_write.specs.Into.{outcome, refusedText, writtenText, wide, tooLong, writeInto}
 use Rattle.blif_write.specs.declared.WriteAnswer.the-variants.{Written, Refused}
-use Rattle.blif_write.specs.Blocks.{blocksText, latchesText, coversText, headLines, headText, held, Readable, netIn, invertersText, Writable}
-use Rattle.blif_write.proofs.Texts.{lines-append}
+use Rattle.blif_write.specs.Parts.{blocksText, latchesText, coversText, headLines, headText, held, Readable, netIn, invertersText, Writable}
+use Rattle.blif_put.proofs.Texts.{lines-append}
 
 -- ---- the whole text
 

@@ -1,3 +1,3 @@
 pub mod Into
-pub mod Blocks
+pub mod Parts
 pub mod Marks

@@ -12,7 +12,7 @@ use Rattle.signal.specs.Signal.{Node, Const, Input, Gated, Signal}
 use Rattle.gates.specs.Gate.{Gate}
 use Rattle.blif_model.specs.Names.{nameBytes}
 use Rattle.blif_model.specs.Write.{named, inverterBlock}
-use Rattle.blif_write.specs.Blocks.{blockText}
+use Rattle.blif_put.specs.Blocks.{blockText}
 
 -- the number of a gate
 abbrev pub gateOf : Node → Option ℕ

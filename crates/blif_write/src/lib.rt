@@ -1,15 +1,10 @@
-// The BLIF writer (Quaigh's src/io/blif.rs: write_blif, and src/io/utils.rs).
+// The BLIF writer (Quaigh's src/io/blif.rs: write_blif, and src/io/utils.rs: get_inverted_signals).
 use blif_put::append;
-use blif_put::append_binary_lines;
 use blif_put::append_name;
-use blif_put::append_nary_lines;
-use blif_put::append_ternary_lines;
-use gates::BinaryType;
 use gates::Decoded;
 use gates::Gate;
 use gates::NaryType;
 use gates::PinRun;
-use gates::TernaryType;
 use network::Counts;
 use signal::Signal;
 ghost use mathlib.Core.Path.{_≡_};
@@ -18,95 +13,23 @@ ghost use mathlib.Core.List.{[], _∷_, _++_, map};
 ghost use Prim.Native.Nat.{_+_, _≤_, _<_, min};
 ghost use lib.Dec.{ltb};
 ghost use lib.ListN.{length, set};
-ghost use Rattle.lists.specs.Lists.{any, range};
-ghost use Rattle.signal.specs.Signal.{plain, Gated, Input};
+ghost use Rattle.lists.specs.Lists.{any};
 ghost use Rattle.signal.specs.Cell.{sigOf};
-ghost use Rattle.gates.specs.Forms.{binaryForm, ternaryForm, naryForm};
-ghost use Rattle.gates.specs.Decode.{runOf, gateIn};
-ghost use Rattle.network.specs.Cells.{maxGates, maxInputs, lent, isNetwork, netOf};
+ghost use Rattle.gates.specs.Forms.{naryForm};
+ghost use Rattle.gates.specs.Decode.{gateIn};
+ghost use Rattle.network.specs.Cells.{maxGates, maxInputs, lent};
 ghost use Rattle.blif_text.specs.Places.{maxText};
-ghost use Rattle.blif_model.specs.Names.{nameBytes};
-ghost use Rattle.blif_model.specs.Write.{named, isConst, gateName, formBlock, bufBlock};
-ghost use Rattle.blif_model.specs.Render.{spaced, line, latchLine, flopLine, storedLine, textOf};
+ghost use Rattle.blif_model.specs.Write.{named};
+ghost use Rattle.blif_model.specs.Render.{spaced, textOf};
 ghost use Rattle.blif_put.specs.Text.{Wrote, Appended};
-ghost use Rattle.blif_put.specs.Lines.{Narrow};
 ghost use Rattle.blif_write.specs.Into.{outcome, refusedText, writeInto, exclusive, wide};
-ghost use Rattle.blif_write.specs.Blocks.{blockText, latchText, coverText, latchesText, coversText, fieldText, flopText, storedText, inputNames, headText, held, Readable, netIn, invertersText, Writable};
+ghost use Rattle.blif_write.specs.Parts.{latchText, coverText, latchesText, coversText, inputNames, headText, held, Readable, netIn, invertersText, Writable};
 ghost use Rattle.blif_write.specs.Marks.{Marked, namedIn, inverterAt, gateInverters, inputInverters};
 
 // The text's length, or a refusal's number.
 pub enum WriteAnswer {
     Written(usize),
     Refused(u32),
-}
-
-// Writes what stands before a gate's name, and the name.
-fn append_gate(out: &mut [u8], at: usize, before: &[u8], g: usize) -> usize
-    requires { ⌜ g < maxGates ⌝ }
-    ensures { λ r. ⌜ Appended (now (before .entry) ++ gateName nameBytes g) (now (out .entry)) at (now (out .exit)) r ⌝ }
-{
-    append_name(out, at, before, Signal::from_var(g as u32))
-}
-
-// Whether a signal is the constant of this value.
-fn is_value(s: Signal, value: bool) -> bool
-    ensures { λ r. ⌜ r ≡ isConst value (sigOf (s .a)) ⌝ }
-{
-    if !s.is_constant() {
-        return false;
-    }
-    if value {
-        return s.is_inverted();
-    }
-    !s.is_inverted()
-}
-
-// Writes a field of a `.flop` line, unless the signal is the constant of this value.
-fn append_unless(out: &mut [u8], at: usize, value: bool, before: &[u8], s: Signal) -> usize
-    ensures { λ r. ⌜ Appended (fieldText value (now (before .entry)) (sigOf (s .a))) (now (out .entry)) at (now (out .exit)) r ⌝ }
-{
-    if is_value(s, value) {
-        return append(out, at, b"");
-    }
-    append_name(out, at, before, s)
-}
-
-// Writes a flip-flop that has its enable or its reset, with what it has.
-fn write_flop(out: &mut [u8], d: Signal, e: Signal, r: Signal, g: usize) -> usize
-    requires { ⌜ g < maxGates ⌝ }
-    ensures { λ n. ⌜ Wrote (flopText (sigOf (d .a)) (sigOf (e .a)) (sigOf (r .a)) g) (now (out .entry)) (now (out .exit)) n ⌝ }
-{
-    let mut at = append_name(out, 0, b".flop D=", d);
-    at = append_gate(out, at, b" Q=", g);
-    at = append(out, at, b" init=0");
-    at = append_unless(out, at, true, b" E=", e);
-    at = append_unless(out, at, false, b" R=", r);
-    append(out, at, b"\n")
-}
-
-// Writes a flip-flop that always takes its data.
-fn write_plain(out: &mut [u8], d: Signal, g: usize) -> usize
-    requires { ⌜ g < maxGates ⌝ }
-    ensures { λ n. ⌜ Wrote (line (latchLine (nameBytes (sigOf (d .a))) (gateName nameBytes g))) (now (out .entry)) (now (out .exit)) n ⌝ }
-{
-    let mut at = append(out, 0, b".latch");
-    at = append_name(out, at, b" ", d);
-    at = append_gate(out, at, b" ", g);
-    append(out, at, b" 0\n")
-}
-
-// Writes a flip-flop.
-fn write_stored(out: &mut [u8], d: Signal, e: Signal, r: Signal, g: usize) -> usize
-    requires { ⌜ g < maxGates ⌝ }
-    ensures { λ n. ⌜ Wrote (storedText (sigOf (d .a)) (sigOf (e .a)) (sigOf (r .a)) g) (now (out .entry)) (now (out .exit)) n ⌝ }
-{
-    if !is_value(e, true) {
-        return write_flop(out, d, e, r, g);
-    }
-    if !is_value(r, false) {
-        return write_flop(out, d, e, r, g);
-    }
-    write_plain(out, d, g)
 }
 
 // Writes the latch of a flip-flop, and nothing for another gate.
@@ -119,86 +42,8 @@ fn write_latch(out: &mut [u8], gate: Gate, g: usize) -> usize
         Gate::Ternary(_, _, _, _) => 0,
         Gate::Nary(_, _) => 0,
         Gate::Buf(_) => 0,
-        Gate::Dff(d, e, r) => write_stored(out, d, e, r, g),
+        Gate::Dff(d, e, r) => blif_put::write_stored(out, d, e, r, g),
     }
-}
-
-// Writes the end of a `.names` line: the gate's name.
-fn append_end(out: &mut [u8], at: usize, g: usize) -> usize
-    requires { ⌜ g < maxGates ⌝ }
-    ensures { λ r. ⌜ Appended (line (spaced (gateName nameBytes g ∷ []))) (now (out .entry)) at (now (out .exit)) r ⌝ }
-{
-    let end = append_gate(out, at, b" ", g);
-    append(out, end, b"\n")
-}
-
-// Writes the cover of a Binary gate.
-fn write_binary(out: &mut [u8], t: BinaryType, a: Signal, b: Signal, g: usize) -> usize
-    requires { ⌜ g < maxGates ⌝ }
-    ensures { λ r. ⌜ Wrote (blockText (formBlock nameBytes g (binaryForm t) (sigOf (a .a) ∷ sigOf (b .a) ∷ []))) (now (out .entry)) (now (out .exit)) r ⌝ }
-{
-    let mut at = append(out, 0, b".names");
-    at = append_name(out, at, b" ", a);
-    at = append_name(out, at, b" ", b);
-    at = append_end(out, at, g);
-    append_binary_lines(out, at, t)
-}
-
-// Writes the cover of a Ternary gate.
-fn write_ternary(out: &mut [u8], t: TernaryType, a: Signal, b: Signal, c: Signal, g: usize) -> usize
-    requires { ⌜ g < maxGates ⌝ }
-    ensures { λ r. ⌜ Wrote (blockText (formBlock nameBytes g (ternaryForm t) (sigOf (a .a) ∷ sigOf (b .a) ∷ sigOf (c .a) ∷ []))) (now (out .entry)) (now (out .exit)) r ⌝ }
-{
-    let mut at = append(out, 0, b".names");
-    at = append_name(out, at, b" ", a);
-    at = append_name(out, at, b" ", b);
-    at = append_name(out, at, b" ", c);
-    at = append_end(out, at, g);
-    append_ternary_lines(out, at, t)
-}
-
-// Writes the names of signals, each behind a blank.
-fn append_signals(out: &mut [u8], at: usize, cells: &[u32]) -> usize
-    ensures { λ r. ⌜ Appended (spaced (map nameBytes (map sigOf (now (cells .entry))))) (now (out .entry)) at (now (out .exit)) r ⌝ }
-{
-    if at > out.len() {
-        return out.len() + 1;
-    }
-    let mut end = at;
-    let mut i = 0;
-    while i < cells.len() {
-        if end > out.len() {
-            return end;
-        }
-        end = append_name(out, end, b" ", Signal { a: cells[i] });
-        i += 1;
-    }
-    end
-}
-
-// Writes the cover of a Nary gate.
-fn write_nary(out: &mut [u8], t: NaryType, run: &[u32], g: usize) -> usize
-    requires { ⌜ (g < maxGates) × Narrow t (length (now run)) ⌝ }
-    ensures { λ r. ⌜ Wrote (blockText (formBlock nameBytes g (naryForm t) (map sigOf (now (run .entry))))) (now (out .entry)) (now (out .exit)) r ⌝ }
-{
-    let mut at = append(out, 0, b".names");
-    at = append_signals(out, at, run);
-    at = append_end(out, at, g);
-    append_nary_lines(out, at, t, run.len())
-}
-
-// Writes the cover of a Buf gate: its signal without inversion, and the inversion in the cube line.
-fn write_buf(out: &mut [u8], s: Signal, g: usize) -> usize
-    requires { ⌜ g < maxGates ⌝ }
-    ensures { λ r. ⌜ Wrote (blockText (bufBlock nameBytes g (sigOf (s .a) ∷ []))) (now (out .entry)) (now (out .exit)) r ⌝ }
-{
-    let mut at = append(out, 0, b".names");
-    at = append_name(out, at, b" ", s.without_inversion());
-    at = append_end(out, at, g);
-    if s.is_inverted() {
-        return append(out, at, b"0 1\n");
-    }
-    append(out, at, b"1 1\n")
 }
 
 // Where a run starts among n pins.
@@ -228,14 +73,14 @@ fn write_cover(out: &mut [u8], gate: Gate, pins: &[u32], g: usize) -> usize
     ensures { λ r. ⌜ Wrote (coverText g (gateIn gate (now (pins .entry)))) (now (out .entry)) (now (out .exit)) r ⌝ }
 {
     match gate {
-        Gate::Binary(t, a, b) => write_binary(out, t, a, b, g),
-        Gate::Ternary(t, a, b, c) => write_ternary(out, t, a, b, c, g),
+        Gate::Binary(t, a, b) => blif_put::write_binary(out, t, a, b, g),
+        Gate::Ternary(t, a, b, c) => blif_put::write_ternary(out, t, a, b, c, g),
         Gate::Nary(t, run) => {
             let start = run_start(run, pins.len());
             let end = run_end(run, pins.len());
-            write_nary(out, t, &pins[start..end], g)
+            blif_put::write_nary(out, t, &pins[start..end], g)
         }
-        Gate::Buf(s) => write_buf(out, s, g),
+        Gate::Buf(s) => blif_put::write_buf(out, s, g),
         Gate::Dff(_, _, _) => 0,
     }
 }
@@ -317,7 +162,7 @@ fn write_head(out: &mut [u8], inputs: usize, outputs: &[u32]) -> usize
     at = append(out, at, b".inputs");
     at = append_inputs(out, at, inputs);
     at = append(out, at, b"\n\n.outputs");
-    at = append_signals(out, at, outputs);
+    at = blif_put::append_signals(out, at, outputs);
     append(out, at, b"\n\n")
 }
 

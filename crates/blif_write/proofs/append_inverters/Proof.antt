@@ -4,7 +4,7 @@ use mathlib.Core.Path.{sym}
 use Rattle.blif_put.proofs.Laws.{and-append, as-text}
 use Rattle.blif_write.proofs.Whole.{held-length}
 use Rattle.blif_write.proofs.Used.{inverters-written}
-use Rattle.blif_write.specs.Blocks.{netIn}
+use Rattle.blif_write.specs.Parts.{netIn}
 use Rattle.blif_write.proofs.append_inverters.Statement.{statement}
 use Rattle.blif_write.proofs.append_inverters.Tie as tie
 

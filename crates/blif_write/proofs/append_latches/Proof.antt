@@ -4,7 +4,7 @@ use borrow.Author.Needs.{needs}
 use Prim.Native.Nat.{_-_}
 use mathlib.Core.Path.{refl}
 use mathlib.Core.List.{flatMap}
-use Rattle.blif_write.specs.Blocks.{latchesText}
+use Rattle.blif_write.specs.Parts.{latchesText}
 use Rattle.blif_put.proofs.Laws.{append-past, going-kept, going-full, part-high}
 use Rattle.blif_write.proofs.Walks.{Walking, walking-start, walking-next, walking-done, read-bad, read-good, latch-step}
 use Rattle.blif_write.proofs.append_latches.Statement.{statement}

@@ -3,10 +3,10 @@ use borrow.Author.Needs.{needs}
 use Rattle.signal.specs.Cell.{sigOf}
 use Rattle.blif_model.specs.Names.{nameBytes}
 use Rattle.blif_model.specs.Write.{gateName}
 use Rattle.blif_put.proofs.Laws.{and-append, as-text, from-start}
-use Rattle.blif_write.proofs.Texts.{plain-text}
-use Rattle.blif_write.proofs.write_plain.Statement.{statement}
-use Rattle.blif_write.proofs.write_plain.Tie as tie
+use Rattle.blif_put.proofs.Texts.{plain-text}
+use Rattle.blif_put.proofs.write_plain.Statement.{statement}
+use Rattle.blif_put.proofs.write_plain.Tie as tie
 
 slice-aggregate-append : tie.Need-slice-aggregate-append
 slice-aggregate-append c = search needs

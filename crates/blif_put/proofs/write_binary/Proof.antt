@@ -6,10 +6,10 @@ use Rattle.blif_model.specs.Names.{nameBytes}
 use Rattle.blif_model.specs.Write.{gateName}
 use Rattle.gates.specs.Forms.{binaryForm}
 use Rattle.blif_model.specs.Write.{linesOf}
 use Rattle.blif_put.proofs.Laws.{and-append, as-text, from-start}
-use Rattle.blif_write.proofs.Texts.{names-then, two-names}
-use Rattle.blif_write.proofs.write_binary.Statement.{statement}
-use Rattle.blif_write.proofs.write_binary.Tie as tie
+use Rattle.blif_put.proofs.Texts.{names-then, two-names}
+use Rattle.blif_put.proofs.write_binary.Statement.{statement}
+use Rattle.blif_put.proofs.write_binary.Tie as tie
 
 slice-aggregate-append : tie.Need-slice-aggregate-append
 slice-aggregate-append c = search needs

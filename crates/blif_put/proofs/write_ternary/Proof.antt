@@ -6,10 +6,10 @@ use Rattle.blif_model.specs.Names.{nameBytes}
 use Rattle.blif_model.specs.Write.{gateName}
 use Rattle.gates.specs.Forms.{ternaryForm}
 use Rattle.blif_model.specs.Write.{linesOf}
 use Rattle.blif_put.proofs.Laws.{and-append, as-text, from-start}
-use Rattle.blif_write.proofs.Texts.{names-then, three-names}
-use Rattle.blif_write.proofs.write_ternary.Statement.{statement}
-use Rattle.blif_write.proofs.write_ternary.Tie as tie
+use Rattle.blif_put.proofs.Texts.{names-then, three-names}
+use Rattle.blif_put.proofs.write_ternary.Statement.{statement}
+use Rattle.blif_put.proofs.write_ternary.Tie as tie
 
 slice-aggregate-append : tie.Need-slice-aggregate-append
 slice-aggregate-append c = search needs

@@ -7,10 +7,10 @@ use Rattle.blif_model.specs.Names.{nameBytes}
 use Rattle.blif_model.specs.Write.{gateName}
 use Rattle.gates.specs.Forms.{naryForm}
 use Rattle.blif_model.specs.Write.{linesOf}
 use Rattle.blif_put.proofs.Laws.{and-append, as-text, from-start}
-use Rattle.blif_write.proofs.Texts.{nary-text}
-use Rattle.blif_write.proofs.write_nary.Statement.{statement}
-use Rattle.blif_write.proofs.write_nary.Tie as tie
+use Rattle.blif_put.proofs.Texts.{nary-text}
+use Rattle.blif_put.proofs.write_nary.Statement.{statement}
+use Rattle.blif_put.proofs.write_nary.Tie as tie
 
 slice-aggregate-append : tie.Need-slice-aggregate-append
 slice-aggregate-append c = search needs

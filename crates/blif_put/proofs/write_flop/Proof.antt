@@ -1,10 +1,10 @@
 -- `write_flop` writes its six parts. Assumes nothing.
 use borrow.Author.Needs.{needs}
 use Rattle.signal.specs.Cell.{sigOf}
 use Rattle.blif_put.proofs.Laws.{and-append, as-text, from-start}
-use Rattle.blif_write.proofs.Texts.{flop-text}
-use Rattle.blif_write.proofs.write_flop.Statement.{statement}
-use Rattle.blif_write.proofs.write_flop.Tie as tie
+use Rattle.blif_put.proofs.Texts.{flop-text}
+use Rattle.blif_put.proofs.write_flop.Statement.{statement}
+use Rattle.blif_put.proofs.write_flop.Tie as tie
 
 slice-aggregate-append-name : tie.Need-slice-aggregate-append-name
 slice-aggregate-append-name c = search needs

@@ -3,10 +3,10 @@ use native.Mathlib.Omega.{arith}
 use borrow.Author.Needs.{needs}
 use Prim.Native.Nat.{_-_}
 use lib.ListN.{length}
 use Rattle.blif_put.proofs.Laws.{append-past, going-kept, going-full}
-use Rattle.blif_write.proofs.Texts.{Naming, naming-start, naming-next, naming-done}
-use Rattle.blif_write.proofs.append_signals.Statement.{statement}
-use Rattle.blif_write.proofs.append_signals.Tie as tie
+use Rattle.blif_put.proofs.Texts.{Naming, naming-start, naming-next, naming-done}
+use Rattle.blif_put.proofs.append_signals.Statement.{statement}
+use Rattle.blif_put.proofs.append_signals.Tie as tie
 
 abbrev Inv-loop : tie.InvT-loop
 Inv-loop out₀ at cells end₀ i₀ t6 out end i = Naming cells out₀ at out end i

@@ -2,9 +2,9 @@
 use borrow.Author.Needs.{needs}
 use borrow.Author.Tests.{not-true, not-false}
 use Rattle.signal.specs.Cell.{sigOf}
-use Rattle.blif_write.proofs.Texts.{value-other, value-one, value-zero}
-use Rattle.blif_write.proofs.is_value.Statement.{statement}
-use Rattle.blif_write.proofs.is_value.Tie as tie
+use Rattle.blif_put.proofs.Texts.{value-other, value-one, value-zero}
+use Rattle.blif_put.proofs.is_value.Statement.{statement}
+use Rattle.blif_put.proofs.is_value.Tie as tie
 
 is-constant-requires : tie.Need-is-constant-requires
 is-constant-requires c κs = search needs

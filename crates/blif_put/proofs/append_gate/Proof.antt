@@ -4,10 +4,10 @@ use mathlib.Core.Path.{ap}
 use mathlib.Core.List.{_++_}
 use Rattle.signal.specs.Signal.{Signal}
 use Rattle.blif_model.specs.Names.{nameBytes}
 use Rattle.blif_put.proofs.Laws.{as-text}
-use Rattle.blif_write.proofs.Texts.{gate-signal}
-use Rattle.blif_write.proofs.append_gate.Statement.{statement}
-use Rattle.blif_write.proofs.append_gate.Tie as tie
+use Rattle.blif_put.proofs.Texts.{gate-signal}
+use Rattle.blif_put.proofs.append_gate.Statement.{statement}
+use Rattle.blif_put.proofs.append_gate.Tie as tie
 
 cast-from-var : tie.Need-cast-from-var
 cast-from-var c = search needs

@@ -12,21 +12,17 @@ use Rattle.lists.specs.Lists.{Bytes, bytes}
 use Rattle.signal.specs.Signal.{Gated, Input, Signal, plain, constNode}
 use Rattle.signal.specs.Cell.{sigCell, nodeOf, sigOf, gateCell, inputCell}
 use Rattle.signal.proofs.Cells.{signal-again, small-node, gate-cell, input-cell}
-use Rattle.signal.specs.declared.Signal as signal
-use Rattle.gates.specs.declared.Gate as code
-use Rattle.gates.specs.declared.Gate.the-variants as G
 use Rattle.gates.specs.declared.NaryType.{NaryType}
 use Rattle.gates.specs.Forms.{naryForm}
-use Rattle.gates.specs.Decode.{gateIn}
 use Rattle.blif_model.specs.Blif.{Col, C0, C1, Line, Cover}
 use Rattle.blif_model.specs.Names.{nameBytes}
 use Rattle.blif_model.specs.Write as write
 use Rattle.blif_model.specs.Write.{colOf, linesOf, formBlock, isConst, unless, gateName, bare, bufBlock}
 use Rattle.blif_model.specs.Render.{spaced, line, cubeLine, field, latchLine, flopLine, storedLine}
 use Rattle.blif_put.specs.Text.{Appended}
 use Rattle.blif_put.specs.Lines.{linesText}
 use Rattle.blif_put.proofs.Laws.{Going, going-start, going-append, going-done}
-use Rattle.blif_write.specs.Blocks.{blockText, latchText, fieldText, flopText, storedText}
+use Rattle.blif_put.specs.Blocks.{blockText, fieldText, flopText, storedText}
 
 -- ---- signals that the code makes
 
@@ -214,18 +210,6 @@ module _ {cells o p : Bytes} {a at i : ℕ} (c : Naming cells o a p at i) where
   pub naming-done : length cells ≤ i → Appended (spaced (map nameBytes (map sigOf cells))) o a p at
   unfolding spaced flatMap
   naming-done h = going-done (c .going) (ap (λ (l : List ℕ). spaced (map nameBytes (map sigOf l))) (drop-of-length-le cells h))
-
--- ---- a gate's latch
-
--- a gate that an arm of a match knows
-pub latch-at : {x y : code.Gate} {t : Bytes} (g : ℕ) → x ≡ y → t ≡ latchText g (gateIn y []) → t ≡ latchText g (gateIn x [])
-latch-at g e h = h ∙ ap (λ (z : code.Gate). latchText g (gateIn z [])) (sym e)
-
-pub latch-of : {x : code.Gate} {d e r : signal.Signal} (g : ℕ) → x ≡ G.Dff d e r
-    → storedText (sigOf (d .a)) (sigOf (e .a)) (sigOf (r .a)) g ≡ latchText g (gateIn x [])
-unfolding latchText storedText flatMap
-latch-of {x} {d} {e} {r} g h =
-    latch-at g h (sym (append-nil (storedText (sigOf (d .a)) (sigOf (e .a)) (sigOf (r .a)) g)))
 
 -- ---- the covers of Nary and Buf gates
 

@@ -2,10 +2,10 @@
 use borrow.Author.Needs.{needs}
 use Rattle.blif_model.specs.Names.{nameBytes}
 use Rattle.blif_model.specs.Write.{gateName}
 use Rattle.blif_put.proofs.Laws.{and-append, as-text}
-use Rattle.blif_write.proofs.Texts.{end-text}
-use Rattle.blif_write.proofs.append_end.Statement.{statement}
-use Rattle.blif_write.proofs.append_end.Tie as tie
+use Rattle.blif_put.proofs.Texts.{end-text}
+use Rattle.blif_put.proofs.append_end.Statement.{statement}
+use Rattle.blif_put.proofs.append_end.Tie as tie
 
 slice-aggregate-append-gate : tie.Need-slice-aggregate-append-gate
 slice-aggregate-append-gate c = search needs

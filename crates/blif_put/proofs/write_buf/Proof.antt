@@ -3,10 +3,10 @@ use native.Mathlib.Omega.{arith}
 use borrow.Author.Needs.{needs}
 use mathlib.Core.Path.{sym, _∙_}
 use Rattle.signal.specs.Cell.{sigOf}
 use Rattle.blif_put.proofs.Laws.{and-append, as-text, from-start}
-use Rattle.blif_write.proofs.Texts.{bare-signal, buf-text, buf-inverted, buf-plain}
-use Rattle.blif_write.proofs.write_buf.Statement.{statement}
-use Rattle.blif_write.proofs.write_buf.Tie as tie
+use Rattle.blif_put.proofs.Texts.{bare-signal, buf-text, buf-inverted, buf-plain}
+use Rattle.blif_put.proofs.write_buf.Statement.{statement}
+use Rattle.blif_put.proofs.write_buf.Tie as tie
 
 slice-aggregate-append : tie.Need-slice-aggregate-append
 slice-aggregate-append c = search needs

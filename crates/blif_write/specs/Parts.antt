@@ -1,6 +1,6 @@
--- The texts of blocks, as the code writes them (document 01, "The text"). Assumes nothing: these are definitions.
+-- The parts of the text of a lent network (document 01, "The text"). Assumes nothing: these are definitions.
 use mathlib.Core.Path.{_≡_}
-use mathlib.Core.Bool.{Bool, true, false, cond}
+use mathlib.Core.Bool.{true, false}
 use mathlib.Core.List.{List, [], _∷_, _++_, map, flatMap}
 use mathlib.Core.Option.{some}
 use Prim.Native.Nat.{ℕ, _≤_, _<_}
@@ -12,13 +12,9 @@ use Rattle.network.specs.Net.{Net}
 use Rattle.network.specs.Cells.{maxGates, gateAt, orBuf, Lent, isNetwork, netOf}
 use Rattle.blif_model.specs.Blif.{Block}
 use Rattle.blif_model.specs.Names.{nameBytes}
-use Rattle.blif_model.specs.Write.{isConst, unless, gateName, latchBlocks, combBlocks, inverterBlock, inverters}
+use Rattle.blif_model.specs.Write.{latchBlocks, combBlocks, inverterBlock, inverters}
+use Rattle.blif_model.specs.Render.{spaced, line, allLines}
 use Rattle.blif_write.specs.Into.{wide}
-use Rattle.blif_model.specs.Render.{spaced, line, flopLine, storedLine, blockLines, allLines}
-
--- the lines of a block, each with its end
-abbrev pub blockText : Block Bytes → Bytes
-blockText b = flatMap line (blockLines b)
 
 -- the lines of blocks, each with its end
 abbrev pub blocksText : List (Block Bytes) → Bytes
@@ -31,18 +27,6 @@ latchText g x = blocksText (latchBlocks nameBytes g (x ∷ []))
 -- gate g's cover, if it is combinational
 unfoldable pub coverText : ℕ → Gate → Bytes
 coverText g x = blocksText (combBlocks nameBytes g (x ∷ []))
-
--- a field of a `.flop` line with the signal's name, "unless enable is one" or "unless reset is zero"
-unfoldable pub fieldText : Bool → Bytes → Signal → Bytes
-fieldText v key s = cond (isConst v s) [] (key ++ nameBytes s)
-
--- "`.flop D=d Q=xN init=0`, then ` E=e` unless enable is one, then ` R=r` unless reset is zero"
-unfoldable pub flopText : Signal → Signal → Signal → ℕ → Bytes
-flopText d e r g = line (flopLine (nameBytes d) (unless nameBytes true e) (unless nameBytes false r) (gateName nameBytes g))
-
--- the line of a flip-flop
-unfoldable pub storedText : Signal → Signal → Signal → ℕ → Bytes
-storedText d e r g = line (storedLine (nameBytes d) (unless nameBytes true e) (unless nameBytes false r) (gateName nameBytes g))
 
 -- ---- the gates in lent cells
 

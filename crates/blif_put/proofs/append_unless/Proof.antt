@@ -1,10 +1,10 @@
 -- `append_unless` writes the field or nothing. Assumes nothing.
 use borrow.Author.Needs.{needs}
 use Rattle.signal.specs.Cell.{sigOf}
 use Rattle.blif_put.proofs.Laws.{as-text}
-use Rattle.blif_write.proofs.Texts.{field-none, field-some}
-use Rattle.blif_write.proofs.append_unless.Statement.{statement}
-use Rattle.blif_write.proofs.append_unless.Tie as tie
+use Rattle.blif_put.proofs.Texts.{field-none, field-some}
+use Rattle.blif_put.proofs.append_unless.Statement.{statement}
+use Rattle.blif_put.proofs.append_unless.Tie as tie
 
 is-value-requires : tie.Need-is-value-requires
 is-value-requires c κs = search needs
