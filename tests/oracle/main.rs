@@ -4,6 +4,7 @@
 //        oracle texts SEED COUNT GIVEN WANTED      files of texts and of the statements that `read_statements` finds
 //        oracle reads SEED COUNT GIVEN WANTED      files of texts and of what `read_blif` answers, as document 01 has it
 //        oracle compare SEED COUNT DEPTH PROGRAM   such texts, with every sequence of up to DEPTH fragments, read by a program
+//        oracle files PROGRAM FILE..               the same for files of one text each, cut behind 32,769 bytes
 mod compare;
 mod generate;
 mod io;
@@ -154,9 +155,12 @@ fn run(a: &[String]) {
             let texts = reads::texts(a[2].parse().unwrap(), a[3].parse().unwrap(), a[4].parse().unwrap());
             let (wanted, seen) = reads::answers(&texts);
             reads::table(&texts, &seen);
-            if !compare::compare(&a[5], &texts, &wanted) {
-                std::process::exit(1);
-            }
+            std::process::exit(!compare::compare(&a[5], &texts, &wanted) as i32);
+        }
+        "files" => {
+            let texts: Vec<Vec<u8>> = a[3..].iter().map(|f| std::fs::read(f).unwrap().into_iter().take(32769).collect()).collect();
+            let wanted = reads::answers(&texts).0;
+            std::process::exit(!compare::compare(&a[2], &texts, &wanted) as i32);
         }
         "checks" => println!("{}", models::checks(a[2].parse().unwrap(), a[3].parse().unwrap())),
         other => panic!("no list {other}"),

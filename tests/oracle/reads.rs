@@ -75,8 +75,8 @@ fn shown(w: &Wanted) -> String {
     }
 }
 
-// What the program prints after the texts: each slice one cell short.
-const SHORT: &str = "short\nrefused=1\nrefused=1\nrefused=1\nrefused=1\nrefused=1\n";
+// What the program prints after the texts: each slice one cell short, then no cells and a text that is too long.
+const SHORT: &str = "short\nrefused=1\nrefused=1\nrefused=1\nrefused=1\nrefused=1\nrefused=1\n";
 
 // The texts by hand, every short sequence of fragments, and so many from a seed.
 pub fn texts(seed: u64, count: usize, depth: usize) -> Vec<Vec<u8>> {
@@ -95,6 +95,7 @@ pub fn texts(seed: u64, count: usize, depth: usize) -> Vec<Vec<u8>> {
 pub fn given(texts: &[Vec<u8>]) -> Vec<u8> {
     let mut g = format!("{:08x}\n", texts.len()).into_bytes();
     for t in texts {
+        assert!(t.len() <= MAX_TEXT + 1, "a text that the program has no room for");
         g.extend(format!("{:08x}\n", t.len()).into_bytes());
         g.extend(t);
     }

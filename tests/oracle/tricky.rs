@@ -192,30 +192,41 @@ fn damaged(r: &mut Numbers, mut t: Vec<u8>) -> Vec<u8> {
     t
 }
 
-// A model about as large as the sizes allow: covers of many columns or many lines, and flip-flops, until a size is about to be passed.
-fn near_limit(r: &mut Numbers) -> Vec<u8> {
-    let inputs = 200 + r.below(58);
-    let mut t = ".inputs".to_string() + &(0..inputs).map(|k| format!(" i{k}")).collect::<String>() + "\n";
-    let (mut gates, mut pins, mut k) = (0, 0, 0);
-    let (most_gates, most_pins) = (1015 + r.below(12), 16300 + r.below(110));
-    let wide = 1 + r.below(40);
-    while gates < most_gates && pins < most_pins && t.len() < 32000 {
-        let n = r.below(wide);
-        let rows = r.below(4);
-        if r.below(5) == 0 {
-            t += &format!(".latch i{} x{k}\n", r.below(inputs));
-            (gates, pins) = (gates + 1, pins + 3);
-        } else {
-            let used: String = (0..n).map(|_| if k > 0 && r.below(2) == 0 { format!("x{} ", r.below(k)) } else { format!("i{} ", r.below(inputs)) }).collect();
-            let column: String = (0..n).map(|_| ['0', '1', '-'][r.below(3)]).collect();
-            t += &format!(".names {used}x{k}\n");
-            t += &format!("{column} {}\n", r.below(2)).repeat(rows);
-            (gates, pins) = (gates + 1 + if rows > 1 { rows } else { 0 }, pins + (rows + 1) * (n + 2));
-        }
-        k += 1;
+// A short name by number.
+fn short(k: usize) -> String {
+    let letter = |d: usize| (b'A' + d as u8) as char;
+    format!("{}{}", letter(k / 36 % 58), std::char::from_digit((k % 36) as u32, 36).unwrap())
+}
+
+// A latch or a cover that is the k-th gate, behind so many inputs, with its gates and pins.
+fn definition(r: &mut Numbers, inputs: usize, k: usize, wide: usize, most: usize) -> (String, usize, usize) {
+    let out = short(inputs + k);
+    if r.below(5) == 0 {
+        return (format!(".latch {} {out}\n", short(r.below(inputs + k + 1))), 1, 3);
     }
-    let outs = if k == 0 { 0 } else { 200 + r.below(58) };
-    t += &(".outputs".to_string() + &(0..outs).map(|_| format!(" x{}", r.below(k))).collect::<String>() + "\n");
+    let (n, rows) = (r.below(wide), r.below(most));
+    let used: String = (0..n).map(|_| short(r.below(inputs + k)) + " ").collect();
+    let column: String = (0..n).map(|_| ['0', '1', '-'][r.below(3)]).collect();
+    let row = format!("{column} {}\n", r.below(2));
+    (format!(".names {used}{out}\n{}", row.repeat(rows)), 1 + if rows > 1 { rows } else { 0 }, (rows + 1) * (n + 2))
+}
+
+// A model about as large as the sizes allow, one or a few over them or below.
+fn near_limit(r: &mut Numbers) -> Vec<u8> {
+    let inputs = 1 + r.below(258);
+    let mut t = ".inputs".to_string() + &(0..inputs).map(|k| " ".to_string() + &short(k)).collect::<String>() + "\n";
+    let (most_gates, most_pins) = (1020 + r.below(7), 16378 + r.below(10));
+    let (wide, rows) = (1 + r.below(60), 1 + r.below(24));
+    let (mut gates, mut pins, mut k) = (0, 0, 0);
+    while gates < most_gates && pins < most_pins && t.len() < 31800 {
+        let close = gates + 24 > most_gates || pins + 1500 > most_pins;
+        let (d, g, p) = definition(r, inputs, k, if close { 1 } else { wide }, if close { 2 } else { rows });
+        t += &d;
+        (gates, pins, k) = (gates + g, pins + p, k + 1);
+    }
+    let outputs = r.below(258);
+    t += &(".outputs".to_string() + &(0..outputs).map(|_| " ".to_string() + &short(r.below(inputs + k))).collect::<String>() + "\n");
+    t.truncate(32769);
     t.into_bytes()
 }
 
