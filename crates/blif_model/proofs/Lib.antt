@@ -9,6 +9,7 @@ pub mod ReadBack
 pub mod CoverPins
 pub mod BuiltValid
 pub mod BuiltFree
+pub mod BuiltCounts
 pub mod Meaning
 pub mod Blocks
 pub mod Writing
@@ -18,6 +19,9 @@ pub mod WrittenMeans
 pub mod Masks
 pub mod Rendered
 pub mod NoFault
+pub mod Passed
+pub mod BuiltNet
 pub mod Accepted
 pub mod RoundTrip
 pub mod Summary
+pub mod WorkingLaws

@@ -5,5 +5,7 @@ pub mod Write
 pub mod Names
 pub mod Render
 pub mod Read
+pub mod Working
+pub mod Built
 pub mod Demand
 pub mod Cases

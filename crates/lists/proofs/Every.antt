@@ -1,7 +1,11 @@
 -- A property of every element of a list. Assumes nothing.
-use mathlib.Core.Path.{_≡_, refl, ap₂}
+use mathlib.Core.Path.{_≡_, refl, ap₂, subst}
 use mathlib.Core.Bool.{Bool, true, false, _||_}
 use mathlib.Core.List.{List, [], _∷_, _++_, map}
+use mathlib.Core.Option.{some}
+use Prim.Native.Nat.{ℕ, zero, suc}
+use native.Mathlib.Omega.{arith}
+use lib.ListN.{getElem?}
 use Rattle.lists.specs.Lists.{all, any}
 use Rattle.lists.proofs.Tests.{and-left, and-right, or-left, or-right}
 
@@ -21,6 +25,12 @@ module _ {A : Type 0} {P : A → Type 0} where
   pub every-map : {B : Type 0} (f : B → A) (l : List B) → ((x : B) → P (f x)) → Every P (map f l)
   every-map f [] h = every-nil
   every-map f (x ∷ l) h = every-cons (h x) (every-map f l h)
+
+  -- what every element has, the one at a place has
+  pub every-place : {l : List A} → Every P l → (i : ℕ) (x : A) → getElem? l i ≡ some x → P x
+  every-place every-nil i x e = absurd (let z : _≡_ {A = ℕ} 0 1 = cc in omega arith)
+  every-place (every-cons {x = y} h hs) zero x e = let q : y ≡ x = cc in subst P q h
+  every-place (every-cons h hs) (suc i) x e = every-place hs i x e
 
   -- a test of every element gives what the test means
   pub every-test : (p : A → Bool) → ((x : A) → p x ≡ true → P x) → (l : List A) → all p l ≡ true → Every P l

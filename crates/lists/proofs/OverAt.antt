@@ -1,11 +1,13 @@
 -- A list laid over another from a cell on, and the stores that lay it. Assumes nothing.
 use mathlib.Core.Path.{_≡_, refl, sym, ap, _∙_}
-use mathlib.Core.List.{List, [], _∷_, _++_}
-use Prim.Native.Nat.{ℕ, zero, suc, _+_}
+use mathlib.Core.List.{List, [], _∷_, _++_, append-nil}
+use Prim.Native.Nat.{ℕ, zero, suc, _+_, _-_, _≤_, _<_}
 use native.Mathlib.Omega.{arith}
-use lib.ListN.{length, set}
-use Rattle.lists.specs.Lists.{overAt}
-use Rattle.lists.proofs.Over.{length-over}
+use native.Mathlib.Nat.{suc-add}
+use lib.ListN.{length, getD, take, drop, set, length-drop, drop-of-length-le}
+use lib.Seq.{take-all}
+use Rattle.lists.specs.Lists.{over, overAt}
+use Rattle.lists.proofs.Over.{length-over, take-over}
 
 pub length-overAt : (k : ℕ) (t o : List ℕ) → length (overAt k t o) ≡ length o
 length-overAt zero t o = length-over t o
@@ -44,3 +46,72 @@ over-three k x y z o =
     (sym
     (over-first k x (y ∷ z ∷ []) o ∙ over-first (suc k) y (z ∷ []) (set o k x) ∙ over-first (suc (suc k)) z [] (set (set o k x) (suc k) y)
     ∙ overAt-nil (suc (suc (suc k))) (set (set (set o k x) (suc k) y) (suc (suc k)) z)))
+
+-- ---- cells read back
+
+-- a cell before what is laid
+pub overAt-before : (k : ℕ) (t o : List ℕ) (j d : ℕ) → j < k → getD (overAt k t o) j d ≡ getD o j d
+overAt-before zero t o j d h = absurd (omega arith)
+overAt-before (suc k) t [] j d h = refl
+overAt-before (suc k) t (y ∷ o) zero d h = refl
+overAt-before (suc k) t (y ∷ o) (suc j) d h = overAt-before k t o j d (omega arith)
+
+-- a cell behind it
+pub overAt-behind : (k : ℕ) (t o : List ℕ) (j d : ℕ) → k + length t ≤ j → getD (overAt k t o) j d ≡ getD o j d
+overAt-behind zero [] o j d h = refl
+overAt-behind zero (x ∷ t) [] j d h = refl
+overAt-behind zero (x ∷ t) (y ∷ o) zero d h = absurd (omega arith)
+overAt-behind zero (x ∷ t) (y ∷ o) (suc j) d h = overAt-behind zero t o j d (omega arith)
+overAt-behind (suc k) t [] j d h = refl
+overAt-behind (suc k) t (y ∷ o) zero d h = absurd (omega arith)
+overAt-behind (suc k) t (y ∷ o) (suc j) d h = overAt-behind k t o j d (omega arith)
+
+-- a cell of it
+pub overAt-inside : (k : ℕ) (t o : List ℕ) (i d : ℕ) → i < length t → k + i < length o → getD (overAt k t o) (k + i) d ≡ getD t i d
+overAt-inside zero [] o i d h l = absurd (omega arith)
+overAt-inside zero (x ∷ t) [] i d h l = absurd (omega arith)
+overAt-inside zero (x ∷ t) (y ∷ o) zero d h l = refl
+overAt-inside zero (x ∷ t) (y ∷ o) (suc i) d h l =
+    let e : zero + suc i ≡ suc (zero + i) = omega arith in
+    ap (λ (j : ℕ). getD (x ∷ over t o) j d) e ∙ overAt-inside zero t o i d (omega arith) (omega arith)
+overAt-inside (suc k) t [] i d h l = absurd (omega arith)
+overAt-inside (suc k) t (y ∷ o) i d h l = rw (suc-add k i) (overAt-inside k t o i d h (omega arith))
+
+-- a run of cells before it
+pub run-before : (k : ℕ) (t o : List ℕ) (a n : ℕ) → a + n ≤ k → take n (drop a (overAt k t o)) ≡ take n (drop a o)
+run-before k t o a zero h = refl
+run-before zero t o a (suc n) h = absurd (omega arith)
+run-before (suc k) t [] a (suc n) h = refl
+run-before (suc k) t (y ∷ o) zero (suc n) h = ap (λ (l : List ℕ). y ∷ l) (run-before k t o zero n (omega arith))
+run-before (suc k) t (y ∷ o) (suc a) (suc n) h = run-before k t o a (suc n) (omega arith)
+
+-- the cells behind it
+pub drop-behind : (k : ℕ) (t o : List ℕ) (a : ℕ) → k + length t ≤ a → drop a (overAt k t o) ≡ drop a o
+drop-behind zero [] o a h = refl
+drop-behind zero (x ∷ t) [] a h = refl
+drop-behind zero (x ∷ t) (y ∷ o) zero h = absurd (omega arith)
+drop-behind zero (x ∷ t) (y ∷ o) (suc a) h = drop-behind zero t o a (omega arith)
+drop-behind (suc k) t [] a h = refl
+drop-behind (suc k) t (y ∷ o) zero h = absurd (omega arith)
+drop-behind (suc k) t (y ∷ o) (suc a) h = drop-behind k t o a (omega arith)
+
+-- it can be read back
+pub run-overAt : (k : ℕ) (t o : List ℕ) → k + length t ≤ length o → take (length t) (drop k (overAt k t o)) ≡ t
+run-overAt zero t o h = take-over t o (omega arith)
+run-overAt (suc k) t [] h = absurd (omega arith)
+run-overAt (suc k) t (y ∷ o) h = run-overAt k t o (omega arith)
+
+-- the cells from k on, with a list laid over their front
+pub overAt-rest : (k : ℕ) (t o : List ℕ) → k ≤ length o → take k o ++ over t (drop k o) ≡ overAt k t o
+overAt-rest zero t o h = refl
+overAt-rest (suc k) t [] h = absurd (omega arith)
+overAt-rest (suc k) t (y ∷ o) h = ap (λ (l : List ℕ). y ∷ l) (overAt-rest k t o (omega arith))
+
+-- the cells from k on, lent as a part (`&mut o[k..]`), with a list laid over their front
+pub part-laid : (k : ℕ) (t o : List ℕ) {q : List ℕ} → k ≤ length o → q ≡ over t (take (length o - k) (drop k o))
+    → take k o ++ (q ++ drop (length o - k) (drop k o)) ≡ overAt k t o
+part-laid k t o {q} h e =
+    let g : length (drop k o) ≤ length o - k = omega (arith, length-drop k o) in
+    let d : drop (length o - k) (drop k o) ≡ [] = drop-of-length-le (drop k o) g in
+    let x : take (length o - k) (drop k o) ≡ drop k o = take-all (length o - k) (drop k o) g in
+    ap (λ (l : List ℕ). take k o ++ l) (ap (λ (l : List ℕ). q ++ l) d ∙ append-nil q ∙ e ∙ ap (over t) x) ∙ overAt-rest k t o h

@@ -38,7 +38,7 @@ is-valid net (Input i) h = lt-ltb i (net .inputs) h
 is-valid net (Gated g) h = lt-ltb g (length (net .gates)) h
 
 -- the limits leave room in a cell
-valid-small : (net : Net) (n : Node) → net .inputs ≤ 256 → length (net .gates) ≤ 1024 → ValidNode net n → Small n
+pub valid-small : (net : Net) (n : Node) → net .inputs ≤ 256 → length (net .gates) ≤ 1024 → ValidNode net n → Small n
 valid-small net Const a b h = tt
 valid-small net (Input i) a b h = omega arith
 valid-small net (Gated g) a b h = omega arith

@@ -1,0 +1,11 @@
+pub mod RowStarts
+pub mod LineWalk
+pub mod SizeLaws
+pub mod Counting
+pub mod Entering
+pub mod Tabling
+pub mod Refusing
+pub mod Defining
+pub mod DefiningGates
+pub mod Walking
+pub mod EntryLaws

@@ -1,0 +1,115 @@
+-- The walk over the cube lines that stand directly at a place. Assumes nothing.
+use mathlib.Core.Path.{_≡_, refl, sym, ap, _∙_}
+use mathlib.Core.Bool.{true, false}
+use mathlib.Core.List.{List, [], _∷_, _++_, append-nil}
+use Prim.Native.Nat.{ℕ, _+_, _≤_}
+use native.Mathlib.Omega.{arith}
+use lib.ListN.{length, take, length-append}
+use lib.Seq.{slice, append-snoc, take-at}
+use Rattle.lists.specs.Lists.{Bytes}
+use Rattle.blif_text.specs.Decls.{cubes, decls}
+use Rattle.blif_text.specs.Places.{tokensOf}
+use Rattle.blif_text.specs.Walk.{rowsFrom, stmtsFrom, StmtsAt}
+use Rattle.blif_text.specs.declared.Statement.{Statement}
+use Rattle.blif_text.specs.declared.Statement.the-variants as place
+use Rattle.blif_text.proofs.RefusalLaws.{stmts-end}
+use Rattle.blif_decls.specs.Rows.{Starts, RowIs, isCube, LinesAt}
+
+-- ---- a statement that is a cube line, and one that is none
+
+module _ (text tokens : List ℕ) (n at end : ℕ) where
+  cube-lines : (s : Statement) → Starts text tokens n at end s → isCube s ≡ true
+      → cubes (stmtsFrom text tokens n at) ≡ tokensOf text (slice at end tokens) ∷ cubes (stmtsFrom text tokens n end)
+  unfolding cubes
+  cube-lines place.Model e t = let z : _≡_ {A = ℕ} 0 1 = cc in absurd (omega arith)
+  cube-lines place.End e t = let z : _≡_ {A = ℕ} 0 1 = cc in absurd (omega arith)
+  cube-lines place.Exdc e t = let z : _≡_ {A = ℕ} 0 1 = cc in absurd (omega arith)
+  cube-lines (place.Inputs run) e t = let z : _≡_ {A = ℕ} 0 1 = cc in absurd (omega arith)
+  cube-lines (place.Outputs run) e t = let z : _≡_ {A = ℕ} 0 1 = cc in absurd (omega arith)
+  cube-lines (place.Names run) e t = let z : _≡_ {A = ℕ} 0 1 = cc in absurd (omega arith)
+  cube-lines (place.Latch first) e t = let z : _≡_ {A = ℕ} 0 1 = cc in absurd (omega arith)
+  cube-lines (place.Cube run) e t = ap cubes e
+  cube-lines (place.Refused m) e t = absurd e
+
+  cube-decls : (s : Statement) → Starts text tokens n at end s → isCube s ≡ true → decls (stmtsFrom text tokens n end) ≡ decls (stmtsFrom text tokens n at)
+  unfolding decls
+  cube-decls place.Model e t = let z : _≡_ {A = ℕ} 0 1 = cc in absurd (omega arith)
+  cube-decls place.End e t = let z : _≡_ {A = ℕ} 0 1 = cc in absurd (omega arith)
+  cube-decls place.Exdc e t = let z : _≡_ {A = ℕ} 0 1 = cc in absurd (omega arith)
+  cube-decls (place.Inputs run) e t = let z : _≡_ {A = ℕ} 0 1 = cc in absurd (omega arith)
+  cube-decls (place.Outputs run) e t = let z : _≡_ {A = ℕ} 0 1 = cc in absurd (omega arith)
+  cube-decls (place.Names run) e t = let z : _≡_ {A = ℕ} 0 1 = cc in absurd (omega arith)
+  cube-decls (place.Latch first) e t = let z : _≡_ {A = ℕ} 0 1 = cc in absurd (omega arith)
+  cube-decls (place.Cube run) e t = sym (ap decls e)
+  cube-decls (place.Refused m) e t = absurd e
+
+  no-cube : (s : Statement) → Starts text tokens n at end s → isCube s ≡ false → cubes (stmtsFrom text tokens n at) ≡ []
+  unfolding cubes
+  no-cube place.Model e t = ap cubes e
+  no-cube place.End e t = ap cubes e
+  no-cube place.Exdc e t = ap cubes e
+  no-cube (place.Inputs run) e t = ap cubes e
+  no-cube (place.Outputs run) e t = ap cubes e
+  no-cube (place.Names run) e t = ap cubes e
+  no-cube (place.Latch first) e t = ap cubes (e .0)
+  no-cube (place.Cube run) e t = let z : _≡_ {A = ℕ} 0 1 = cc in absurd (omega arith)
+  no-cube (place.Refused m) e t = absurd e
+
+-- no statement, no cube line
+no-lines : cubes [] ≡ []
+unfolding cubes
+no-lines = refl
+
+-- ---- one line after the other
+
+-- the rows from at to i are cube lines, count of them
+pub record Passed (text tokens : List ℕ) (n at count i : ℕ) : Type 0 where
+  pub seen : List (List Bytes)
+  pub low : at + count ≤ i
+  pub rest : StmtsAt text tokens n i
+  pub rows : rowsFrom text tokens n at ≡ seen ++ rowsFrom text tokens n i
+  pub lines : cubes (stmtsFrom text tokens n at) ≡ seen ++ cubes (stmtsFrom text tokens n i)
+  pub counted : count ≡ length seen
+  pub same : decls (stmtsFrom text tokens n i) ≡ decls (stmtsFrom text tokens n at)
+
+-- before the first
+pub passed-start : {text tokens : List ℕ} {n at : ℕ} → StmtsAt text tokens n at → Passed text tokens n at 0 at
+passed-start c = record { seen = []; low = omega arith; rest = c; rows = refl; lines = refl; counted = refl; same = refl }
+
+module _ {text tokens : List ℕ} {n at count i : ℕ} (c : Passed text tokens n at count i) where
+  -- one more
+  pub passed-next : {end : ℕ} {s : Statement} → RowIs text tokens n i end s → isCube s ≡ true → Passed text tokens n at (count + 1) end
+  passed-next {end} {s} w t =
+      let row = tokensOf text (slice i end tokens) in
+      record {
+        seen = c .seen ++ (row ∷ []);
+        low = omega (arith, c .low, w .low);
+        rest = w .rest;
+        rows = c .rows ∙ ap (λ (x : List (List Bytes)). c .seen ++ x) (w .rows) ∙ sym (append-snoc (c .seen) row (rowsFrom text tokens n end));
+        lines =
+            c .lines ∙ ap (λ (x : List (List Bytes)). c .seen ++ x) (cube-lines text tokens n i end s (w .starts) t)
+            ∙ sym (append-snoc (c .seen) row (cubes (stmtsFrom text tokens n end)));
+        counted = omega (arith, c .counted, length-append (c .seen) (row ∷ []));
+        same = cube-decls text tokens n i end s (w .starts) t ∙ c .same;
+      }
+
+  -- no more
+  none-left : cubes (stmtsFrom text tokens n i) ≡ [] → LinesAt text tokens n at count i
+  none-left e =
+      let are : cubes (stmtsFrom text tokens n at) ≡ c .seen = c .lines ∙ ap (λ (x : List (List Bytes)). c .seen ++ x) e ∙ append-nil (c .seen) in
+      record {
+        low = c .low;
+        rest = c .rest;
+        lines = are ∙ sym (ap (take count) (c .rows) ∙ take-at (c .seen) (rowsFrom text tokens n i) count (sym (c .counted)));
+        enough = omega (arith, c .counted, ap length (c .rows), length-append (c .seen) (rowsFrom text tokens n i));
+        counted = c .counted ∙ sym (ap length are);
+        same = c .same;
+      }
+
+  -- another statement stands behind the last
+  pub passed-stop : {end : ℕ} {s : Statement} → RowIs text tokens n i end s → isCube s ≡ false → LinesAt text tokens n at count i
+  passed-stop {end} {s} w t = none-left (no-cube text tokens n i end s (w .starts) t)
+
+  -- nothing stands there
+  pub passed-end : n ≤ i → LinesAt text tokens n at count i
+  passed-end h = none-left (ap cubes (stmts-end (c .rest) h) ∙ no-lines)

@@ -1,0 +1,239 @@
+-- The tables of declarations, one declaration after the other. Assumes nothing.
+use mathlib.Core.Path.{_≡_, sym, ap, ap₂, _∙_, subst}
+use mathlib.Core.List.{List, [], _∷_, _++_, map-append, flatMap, append-assoc}
+use Prim.Native.Nat.{ℕ, _+_, _-_, _*_, _≤_, _<_}
+use native.Mathlib.Omega.{arith}
+use native.Mathlib.Numerals.{add-one}
+use lib.ListN.{length, getD, take, set, length-set, length-append, length-map, List·getD-append}
+use lib.Seq.{slice, getD-take, getD-drop, getD-append-add, getD-set-same, getD-set-other, length-take-le}
+use Rattle.lists.specs.Lists.{Bytes, overAt}
+use Rattle.lists.proofs.Tests.{by-order}
+use Rattle.lists.proofs.OverAt.{over-three, length-overAt}
+use Rattle.signal.specs.Signal.{Gated, plain}
+use Rattle.signal.specs.Cell.{sigCell}
+use Rattle.blif_text.specs.Decls.{Def, Decl, model, end, inputs, outputs, gate, insOf, outsOf, defsOf, ins, outs, defs, defines}
+use Rattle.blif_text.specs.Places.{tokenStart, tokenLength, tokenOf, tokensOf}
+use Rattle.blif_text.specs.Walk.{Inside}
+use Rattle.blif_text.specs.Blocks.{blockWidth, firstName, nameCount, lineCount, defFrom, defAt, defsAt, BlockIn, Blocks}
+use Rattle.name_index.specs.Search.{Entry, entry}
+use Rattle.name_index.specs.Index.{entriesOf, Index}
+use Rattle.name_index.proofs.EntryLaws.{map-range-last, map-range-same}
+use Rattle.blif_decls.specs.Entries.{inputEntries, entries}
+use Rattle.blif_decls.specs.Naming.{Tabled}
+
+-- ---- a record behind the others
+
+module _ (blocks : List ℕ) (g a b c : ℕ) (h : g * 3 + 2 < length blocks) where
+  abbrev put : List ℕ
+  put = set (set (set blocks (g * 3) a) (g * 3 + 1) b) (g * 3 + 2) c
+
+  -- the cells before it stay
+  put-before : (k : ℕ) → k < g * 3 → getD put k 0 ≡ getD blocks k 0
+  put-before k l =
+      getD-set-other (set (set blocks (g * 3) a) (g * 3 + 1) b) (g * 3 + 2) k c 0 (λ e. omega arith)
+      ∙ getD-set-other (set blocks (g * 3) a) (g * 3 + 1) k b 0 (λ e. omega arith)
+      ∙ getD-set-other blocks (g * 3) k a 0 (λ e. omega arith)
+
+  put-first : getD put (g * 3) 0 ≡ a
+  put-first =
+      getD-set-other (set (set blocks (g * 3) a) (g * 3 + 1) b) (g * 3 + 2) (g * 3) c 0 (λ e. omega arith)
+      ∙ getD-set-other (set blocks (g * 3) a) (g * 3 + 1) (g * 3) b 0 (λ e. omega arith)
+      ∙ getD-set-same blocks (g * 3) a 0 (omega arith)
+
+  put-second : getD put (g * 3 + 1) 0 ≡ b
+  put-second =
+      getD-set-other (set (set blocks (g * 3) a) (g * 3 + 1) b) (g * 3 + 2) (g * 3 + 1) c 0 (λ e. omega arith)
+      ∙ getD-set-same (set blocks (g * 3) a) (g * 3 + 1) b 0 (omega (arith, length-set blocks (g * 3) a))
+
+  put-third : getD put (g * 3 + 2) 0 ≡ c
+  put-third =
+      getD-set-same (set (set blocks (g * 3) a) (g * 3 + 1) b) (g * 3 + 2) c 0
+      (omega (arith, length-set (set blocks (g * 3) a) (g * 3 + 1) b, length-set blocks (g * 3) a))
+
+-- a block behind the others
+module _ {text tokens : List ℕ} {n : ℕ} {blocks blocks′ : List ℕ} (g a b c : ℕ) (h : g * 3 + 2 < length blocks)
+    (w : Blocks text tokens n blocks g) (e : blocks′ ≡ overAt (g * blockWidth) (a ∷ b ∷ c ∷ []) blocks) where
+  is-put : blocks′ ≡ set (set (set blocks (g * 3) a) (g * 3 + 1) b) (g * 3 + 2) c
+  is-put = e ∙ sym (over-three (g * 3) a b c blocks)
+
+  cell-before : (k : ℕ) → k < g * 3 → getD blocks′ k 0 ≡ getD blocks k 0
+  cell-before k l = ap (λ (x : List ℕ). getD x k 0) is-put ∙ put-before blocks g a b c h k l
+
+  first-is : firstName blocks′ g ≡ a
+  first-is = ap (λ (x : List ℕ). getD x (g * 3) 0) is-put ∙ put-first blocks g a b c h
+
+  names-is : nameCount blocks′ g ≡ b
+  names-is = ap (λ (x : List ℕ). getD x (g * 3 + 1) 0) is-put ∙ put-second blocks g a b c h
+
+  lines-is : lineCount blocks′ g ≡ c
+  lines-is = ap (λ (x : List ℕ). getD x (g * 3 + 2) 0) is-put ∙ put-third blocks g a b c h
+
+  -- the records place blocks
+  pub blocks-more : BlockIn text tokens n a b c → Blocks text tokens n blocks′ (g + 1)
+  blocks-more i =
+      record {
+        few = w .few;
+        places = w .places;
+        room = omega (arith, ap length e ∙ length-overAt (g * 3) (a ∷ b ∷ c ∷ []) blocks);
+        each = λ j l.
+            by-order g j
+            (λ m.
+            let q : j ≡ g = omega arith in
+            subst (λ (k : ℕ). BlockIn text tokens n (firstName blocks′ k) (nameCount blocks′ k) (lineCount blocks′ k)) (sym q)
+            (in-as (sym first-is) (sym names-is) (sym lines-is) i))
+            (λ m. in-as (sym (cell-before (j * 3) (omega arith))) (sym (cell-before (j * 3 + 1) (omega arith))) (sym (cell-before (j * 3 + 2) (omega arith))) (w .each j m));
+      }
+    where
+      in-as : {a b c a′ b′ c′ : ℕ} → a ≡ a′ → b ≡ b′ → c ≡ c′ → BlockIn text tokens n a b c → BlockIn text tokens n a′ b′ c′
+      in-as {a} {b} {c} {a′} {b′} {c′} p q r x =
+          subst (λ (k : ℕ). BlockIn text tokens n a′ b′ k) r (subst (λ (k : ℕ). BlockIn text tokens n a′ k c) q (subst (λ (k : ℕ). BlockIn text tokens n k b c) p x))
+
+  -- the last is this one
+  pub defs-more : defsAt text tokens n blocks′ (g + 1) ≡ defsAt text tokens n blocks g ++ (defFrom text tokens n a b c ∷ [])
+  defs-more =
+      ap (λ (k : ℕ). defsAt text tokens n blocks′ k) (add-one g)
+      ∙ map-range-last (defAt text tokens n blocks′) 0 g
+      ∙ ap₂ (λ (x : List Def) (y : Def). x ++ (y ∷ []))
+      (map-range-same (defAt text tokens n blocks′) (defAt text tokens n blocks) 0 g
+      (λ j l m. def-as (cell-before (j * 3) (omega arith)) (cell-before (j * 3 + 1) (omega arith)) (cell-before (j * 3 + 2) (omega arith))))
+      (let z : 0 + g ≡ g = omega arith in ap (defAt text tokens n blocks′) z ∙ def-as first-is names-is lines-is)
+    where
+      def-as : {a b c a′ b′ c′ : ℕ} → a ≡ a′ → b ≡ b′ → c ≡ c′ → defFrom text tokens n a b c ≡ defFrom text tokens n a′ b′ c′
+      def-as {a} {b} {c} {a′} {b′} {c′} p q r =
+          ap (λ (k : ℕ). defFrom text tokens n k b c) p ∙ ap (λ (k : ℕ). defFrom text tokens n a′ k c) q ∙ ap (λ (k : ℕ). defFrom text tokens n a′ b′ k) r
+
+-- ---- copied names
+
+-- cells behind others are within the text
+pub inside-more : {text tokens out out′ : List ℕ} {first end o : ℕ} → Inside text tokens end → first ≤ end → Inside text out o
+    → take (o + (end - first)) out′ ≡ take o out ++ slice first end tokens → o + (end - first) ≤ length out′ → Inside text out′ (o + (end - first))
+inside-more {text} {tokens} {out} {out′} {first} {end} {o} p h w e k =
+    record {
+      room = k;
+      inside = λ j l.
+          let q : getD out′ j 0 ≡ getD (take o out ++ slice first end tokens) j 0 = sym (getD-take (o + (end - first)) out′ j 0 l) ∙ ap (λ (x : List ℕ). getD x j 0) e in
+          let m : length (take o out) ≡ o = length-take-le o out (w .room) in
+          by-order o j
+          (λ b.
+          let s : j ≡ length (take o out) + (j - o) = omega arith in
+          let u : getD out′ j 0 ≡ getD tokens (first + (j - o)) 0 =
+          q ∙ ap (λ (i : ℕ). getD (take o out ++ slice first end tokens) i 0) s ∙ getD-append-add (take o out) (slice first end tokens) (j - o) 0
+          ∙ getD-drop first (take end tokens) (j - o) 0 ∙ getD-take end tokens (first + (j - o)) 0 (omega arith) in
+          subst (λ (x : ℕ). tokenStart x + tokenLength x ≤ length text) (sym u) (p .inside (first + (j - o)) (omega arith)))
+          (λ b.
+          let u : getD out′ j 0 ≡ getD out j 0 = q ∙ List·getD-append (take o out) (slice first end tokens) 0 j (omega arith) ∙ getD-take o out j 0 b in
+          subst (λ (x : ℕ). tokenStart x + tokenLength x ≤ length text) (sym u) (w .inside j b));
+    }
+
+-- ---- one declaration more
+
+module _ {ds l : List Decl} {text tokens : List ℕ} {n : ℕ} {index out blocks : List ℕ} {i g o : ℕ} where
+  pub tabled-model : Tabled ds (model ∷ l) text tokens n index out blocks i g o → Tabled ds l text tokens n index out blocks i g o
+  unfolding ins outs defs flatMap insOf outsOf defsOf
+  tabled-model t =
+      record {
+        inputs = t .inputs;
+        gates = t .gates;
+        outputs = t .outputs;
+        index-is = t .index-is;
+        entries-are = t .entries-are;
+        outputs-are = t .outputs-are;
+        outputs-in = t .outputs-in;
+        blocks-in = t .blocks-in;
+        blocks-are = t .blocks-are;
+      }
+
+  pub tabled-end : Tabled ds (end ∷ l) text tokens n index out blocks i g o → Tabled ds l text tokens n index out blocks i g o
+  unfolding ins outs defs flatMap insOf outsOf defsOf
+  tabled-end t =
+      record {
+        inputs = t .inputs;
+        gates = t .gates;
+        outputs = t .outputs;
+        index-is = t .index-is;
+        entries-are = t .entries-are;
+        outputs-are = t .outputs-are;
+        outputs-in = t .outputs-in;
+        blocks-in = t .blocks-in;
+        blocks-are = t .blocks-are;
+      }
+
+  pub tabled-inputs : {ns : List Bytes} {index′ : List ℕ} {m : ℕ} → Tabled ds (inputs ns ∷ l) text tokens n index out blocks i g o → length ns ≡ m
+      → Index text index′ (i + m + g) → entriesOf text index′ (i + m + g) ≡ entriesOf text index (i + g) ++ inputEntries i ns
+      → Tabled ds l text tokens n index′ out blocks (i + m) g o
+  unfolding ins outs defs flatMap insOf outsOf defsOf
+  tabled-inputs {ns} {index′} {m} t q x a =
+      record {
+        inputs = omega (arith, t .inputs, length-append ns (flatMap insOf l));
+        gates = t .gates;
+        outputs = t .outputs;
+        index-is = x;
+        entries-are =
+            t .entries-are
+            ∙ ap (λ (k : ℕ). entriesOf text index (i + g) ++ (inputEntries i ns ++ entries (i + k) g l)) q
+            ∙ sym (append-assoc (entriesOf text index (i + g)) (inputEntries i ns) (entries (i + m) g l))
+            ∙ ap (λ (y : List Entry). y ++ entries (i + m) g l) (sym a);
+        outputs-are = t .outputs-are;
+        outputs-in = t .outputs-in;
+        blocks-in = t .blocks-in;
+        blocks-are = t .blocks-are;
+      }
+
+  pub tabled-outputs : (cs : List ℕ) {out′ : List ℕ} {m : ℕ} → Tabled ds (outputs (tokensOf text cs) ∷ l) text tokens n index out blocks i g o → length cs ≡ m
+      → take (o + m) out′ ≡ take o out ++ cs → Inside text out′ (o + m) → Tabled ds l text tokens n index out′ blocks i g (o + m)
+  unfolding ins outs defs flatMap insOf outsOf defsOf
+  tabled-outputs cs {out′} {m} t q e p =
+      record {
+        inputs = t .inputs;
+        gates = t .gates;
+        outputs = omega (arith, t .outputs, length-append (tokensOf text cs) (flatMap outsOf l), length-map cs (tokenOf text));
+        index-is = t .index-is;
+        entries-are = t .entries-are;
+        outputs-are =
+            t .outputs-are
+            ∙ sym (append-assoc (tokensOf text (take o out)) (tokensOf text cs) (flatMap outsOf l))
+            ∙ ap (λ (y : List Bytes). y ++ flatMap outsOf l) (sym (ap (tokensOf text) e ∙ map-append (tokenOf text) (take o out) cs));
+        outputs-in = p;
+        blocks-in = t .blocks-in;
+        blocks-are = t .blocks-are;
+      }
+
+  pub tabled-gate : {d : Def} {x : Bytes} {index′ blocks′ : List ℕ} → Tabled ds (gate d ∷ l) text tokens n index out blocks i g o → x ≡ defines d
+      → Index text index′ (i + (g + 1)) → entriesOf text index′ (i + (g + 1)) ≡ entriesOf text index (i + g) ++ (entry x (sigCell (plain (Gated g))) ∷ [])
+      → Blocks text tokens n blocks′ (g + 1) → defsAt text tokens n blocks′ (g + 1) ≡ defsAt text tokens n blocks g ++ (d ∷ [])
+      → Tabled ds l text tokens n index′ out blocks′ i (g + 1) o
+  unfolding ins outs defs flatMap insOf outsOf defsOf
+  tabled-gate {d} {x} {index′} {blocks′} t q ix a b e =
+      record {
+        inputs = t .inputs;
+        gates = omega (arith, t .gates);
+        outputs = t .outputs;
+        index-is = ix;
+        entries-are =
+            t .entries-are
+            ∙ ap₂ (λ (y : Bytes) (k : ℕ). entriesOf text index (i + g) ++ (entry y (sigCell (plain (Gated g))) ∷ entries i k l)) (sym q) (sym (add-one g))
+            ∙ sym (append-assoc (entriesOf text index (i + g)) (entry x (sigCell (plain (Gated g))) ∷ []) (entries i (g + 1) l))
+            ∙ ap (λ (y : List Entry). y ++ entries i (g + 1) l) (sym a);
+        outputs-are = t .outputs-are;
+        outputs-in = t .outputs-in;
+        blocks-in = b;
+        blocks-are =
+            t .blocks-are
+            ∙ sym (append-assoc (defsAt text tokens n blocks g) (d ∷ []) (flatMap defsOf l))
+            ∙ ap (λ (y : List Def). y ++ flatMap defsOf l) (sym e);
+      }
+
+  -- no more inputs than there are
+  pub inputs-few : {ns : List Bytes} → Tabled ds (inputs ns ∷ l) text tokens n index out blocks i g o → i + length ns ≤ length (ins ds)
+  unfolding ins flatMap insOf
+  inputs-few {ns} t = omega (arith, t .inputs, length-append ns (flatMap insOf l))
+
+  -- no more outputs
+  pub outputs-few : {ns : List Bytes} → Tabled ds (outputs ns ∷ l) text tokens n index out blocks i g o → o + length ns ≤ length (outs ds)
+  unfolding outs flatMap outsOf
+  outputs-few {ns} t = omega (arith, t .outputs, length-append ns (flatMap outsOf l))
+
+  -- no more gates
+  pub gate-few : {d : Def} → Tabled ds (gate d ∷ l) text tokens n index out blocks i g o → g < length (defs ds)
+  unfolding defs flatMap defsOf
+  gate-few {d} t = omega (arith, t .gates)

@@ -1,0 +1,171 @@
+-- `define_row` passes a statement. Assumes nothing.
+use Rattle.blif_decls.proofs.RowStarts.{row-as}
+use Rattle.blif_decls.proofs.Defining.{go-cube, go-exdc, go-model, go-end, go-inputs, go-outputs}
+use Rattle.blif_decls.proofs.DefiningGates.{go-latch, go-cover}
+use Rattle.blif_decls.proofs.Walking.{inputs-fit, outputs-fit, latch-fit, cover-fit}
+use borrow.Author.Needs.{needs}
+use Rattle.blif_decls.proofs.define_row.Statement.{statement}
+use Rattle.blif_decls.proofs.define_row.Tie as tie
+
+row-at-requires : tie.Need-row-at-requires
+row-at-requires c κs = search needs
+
+enum-told : tie.Need-enum-told
+enum-told c = search needs
+
+model-refusal-requires : tie.Need-model-refusal-requires
+model-refusal-requires c κs = search needs
+
+enum-told-2 : tie.Need-enum-told-2
+enum-told-2 c = search needs
+
+end-refusal-requires : tie.Need-end-refusal-requires
+end-refusal-requires c κs = search needs
+
+enum-told-3 : tie.Need-enum-told-3
+enum-told-3 c = search needs
+
+add-enter-inputs : tie.Need-add-enter-inputs
+add-enter-inputs c = search needs
+
+enter-inputs-requires : tie.Need-enter-inputs-requires
+enter-inputs-requires c κs = inputs-fit (c .before .before .before .before .before .before .before .before .before .pre .0) (row-as (c .before .before .before .row-at .ensures) (c .before .enum-told3 .given .1))
+
+sub-next : tie.Need-sub-next
+sub-next c = search needs
+
+sub-next-2 : tie.Need-sub-next-2
+sub-next-2 c = search needs
+
+add-next : tie.Need-add-next
+add-next c = search needs
+
+enum-told-4 : tie.Need-enum-told-4
+enum-told-4 c = search needs
+
+add-copy-outputs : tie.Need-add-copy-outputs
+add-copy-outputs c = search needs
+
+copy-outputs-requires : tie.Need-copy-outputs-requires
+copy-outputs-requires c κs = outputs-fit (c .before .before .before .before .before .before .before .before .before .pre .0) (row-as (c .before .before .before .row-at .ensures) (c .before .enum-told4 .given .1))
+
+sub-next-3 : tie.Need-sub-next-3
+sub-next-3 c = search needs
+
+sub-next-4 : tie.Need-sub-next-4
+sub-next-4 c = search needs
+
+add-next-2 : tie.Need-add-next-2
+add-next-2 c = search needs
+
+enum-told-5 : tie.Need-enum-told-5
+enum-told-5 c = search needs
+
+define-latch-requires : tie.Need-define-latch-requires
+define-latch-requires c κs = latch-fit (c .before .before .before .before .before .before .before .before .before .before .pre .0) (row-as (c .before .before .before .before .row-at .ensures) (c .before .before .enum-told5 .given .1))
+
+enum-told-6 : tie.Need-enum-told-6
+enum-told-6 c = search needs
+
+define-cover-requires : tie.Need-define-cover-requires
+define-cover-requires c κs =
+    let w = c .before .before .before .before .row-at .ensures in
+    (cover-fit (c .before .before .before .before .before .before .before .before .before .before .pre .0) (row-as (c .before .before .before .before .row-at .ensures) (c .before .before .enum-told6 .given .1)), (w .rest, c .before .before .before .before .before .before .before .before .before .before .pre .0 .few, w .low))
+
+enum-told-7 : tie.Need-enum-told-7
+enum-told-7 c = search needs
+
+enum-told-8 : tie.Need-enum-told-8
+enum-told-8 c = search needs
+
+enum-told-9 : tie.Need-enum-told-9
+enum-told-9 c = search needs
+
+returns : tie.Need-returns
+returns c = go-model (c .before .before .before .before .before .before .before .before .before .pre .0) (row-as (c .before .before .before .row-at .ensures) (c .before .enum-told .given .1)) (c .model-refusal .ensures)
+
+returns-2 : tie.Need-returns-2
+returns-2 c = go-end (c .before .before .before .before .before .before .before .before .before .pre .0) (row-as (c .before .before .before .row-at .ensures) (c .before .enum-told2 .given .1)) (c .end-refusal .ensures)
+
+same-length : tie.Need-same-length
+same-length c = search needs
+
+returns-3 : tie.Need-returns-3
+returns-3 c = go-inputs (c .before .before .before .before .before .before .before .before .before .before .before .before .before .pre .0) (row-as (c .before .before .before .before .before .before .before .row-at .ensures) (c .before .before .before .before .before .enum-told3 .given .1)) (c .before .before .before .enter-inputs .ensures)
+
+same-length-2 : tie.Need-same-length-2
+same-length-2 c = search needs
+
+returns-4 : tie.Need-returns-4
+returns-4 c = go-outputs (c .before .before .before .before .before .before .before .before .before .before .before .before .before .pre .0) (row-as (c .before .before .before .before .before .before .before .row-at .ensures) (c .before .before .before .before .before .enum-told4 .given .1)) (c .before .before .before .copy-outputs .ensures) (c .before .before .before .copy-outputs .kept .1 .1 .1 .0)
+
+same-length-3 : tie.Need-same-length-3
+same-length-3 c = search needs
+
+same-length-4 : tie.Need-same-length-4
+same-length-4 c = search needs
+
+returns-5 : tie.Need-returns-5
+returns-5 c = go-latch (c .before .before .before .before .before .before .before .before .before .before .before .before .before .before .before .pre .0) (row-as (c .before .before .before .before .before .before .before .before .before .row-at .ensures) (c .before .before .before .before .before .before .before .enum-told5 .given .1)) (c .before .before .before .before .define-latch .ensures) (c .before .before .before .before .define-latch .kept .1 .1 .1 .0)
+
+same-length-5 : tie.Need-same-length-5
+same-length-5 c = search needs
+
+same-length-6 : tie.Need-same-length-6
+same-length-6 c = search needs
+
+returns-6 : tie.Need-returns-6
+returns-6 c = go-cover (c .before .before .before .before .before .before .before .before .before .before .before .before .before .before .before .pre .0) (row-as (c .before .before .before .before .before .before .before .before .before .row-at .ensures) (c .before .before .before .before .before .before .before .enum-told6 .given .1)) (c .before .before .before .before .define-cover .ensures) (c .before .before .before .before .define-cover .kept .1 .1 .1 .1 .0)
+
+returns-7 : tie.Need-returns-7
+returns-7 c = go-exdc (c .before .before .before .before .before .before .before .before .pre .0) (row-as (c .before .before .row-at .ensures) (c .enum-told7 .given .1))
+
+returns-8 : tie.Need-returns-8
+returns-8 c = go-cube (c .before .before .before .before .before .before .before .before .pre .0) (row-as (c .before .before .row-at .ensures) (c .enum-told8 .given .1))
+
+returns-9 : tie.Need-returns-9
+returns-9 c = absurd ((row-as (c .before .before .row-at .ensures) (c .enum-told9 .given .1)) .starts)
+
+pub define-row-spec : {M : Type 1} → statement M
+define-row-spec =
+    tie.close
+    (tie.spec
+    row-at-requires
+    enum-told
+    model-refusal-requires
+    enum-told-2
+    end-refusal-requires
+    enum-told-3
+    add-enter-inputs
+    enter-inputs-requires
+    sub-next
+    sub-next-2
+    add-next
+    enum-told-4
+    add-copy-outputs
+    copy-outputs-requires
+    sub-next-3
+    sub-next-4
+    add-next-2
+    enum-told-5
+    define-latch-requires
+    enum-told-6
+    define-cover-requires
+    enum-told-7
+    enum-told-8
+    enum-told-9
+    returns
+    returns-2
+    same-length
+    returns-3
+    same-length-2
+    returns-4
+    same-length-3
+    same-length-4
+    returns-5
+    same-length-5
+    same-length-6
+    returns-6
+    returns-7
+    returns-8
+    returns-9)

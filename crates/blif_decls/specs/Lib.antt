@@ -1,0 +1,5 @@
+pub mod Rows
+pub mod Sizes
+pub mod Entries
+pub mod Tables
+pub mod Naming

@@ -1,0 +1,10 @@
+pub mod CellLaws
+pub mod LiteralLaws
+pub mod JoinLaws
+pub mod RowLaws
+pub mod GateLaws
+pub mod LinesLaws
+pub mod CoverLaws
+pub mod BlockLaws
+pub mod Counting
+pub mod Building

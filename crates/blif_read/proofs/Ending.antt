@@ -1,0 +1,202 @@
+-- The covers' gates and the sort: refusal 14, and the network read. Assumes nothing.
+use mathlib.Core.Path.{_≡_, refl, sym, ap, ap₂, _∙_, subst}
+use mathlib.Core.Bool.{Bool, true, false, true≢false, false≢true}
+use mathlib.Core.List.{List, [], _∷_, _++_, map}
+use mathlib.Core.Option.{Option, none, some}
+use Prim.Native.Nat.{ℕ, zero, suc, _+_, _*_, _≤_, _<_}
+use native.Mathlib.Omega.{arith}
+use lib.ListN.{length, take, length-map}
+use lib.Seq.{length-take-le}
+use Rattle.lists.specs.Lists.{Bytes, over, range}
+use Rattle.lists.proofs.Range.{length-range}
+use Rattle.signal.specs.Cell.{sigCell, sigOf}
+use Rattle.gates.specs.Gate.{Gate}
+use Rattle.network.specs.Net.{Net, Valid}
+use Rattle.network.specs.Cells.{maxGates, maxPins, maxOutputs, gateWidth, gateCells, pinCells, lent, netOf, countsOf, Laid}
+use Rattle.network.specs.declared.Counts.{Counts}
+use Rattle.network.proofs.Laying.{laid-over}
+use Rattle.sort.specs.Sorted.{sorted, Preserved}
+use Rattle.sort.specs.Into.{Outcome, outcome, sortInto, Sortable}
+use Rattle.sort.specs.declared.Sorted.{Sorted}
+use Rattle.sort.specs.declared.Sorted.the-variants.{Order, Loop}
+use Rattle.sort.proofs.Summary.{sorted-keeps}
+use Rattle.blif_text.specs.Statements.{parsed, firstBad}
+use Rattle.blif_text.specs.Decls.{Def, Decl, ins, outs, defs}
+use Rattle.blif_text.specs.Blocks.{defsAt, Blocks}
+use Rattle.blif_model.specs.Lookup.{lookup}
+use Rattle.blif_model.specs.Names.{byte-names}
+use Rattle.blif_model.specs.Render.{modelOf}
+use Rattle.blif_model.specs.Read.{_then_, when, tooLarge, naming, undefined, coverFaults, declFault, declsOf, readFault, Result, read, refused, answer, builtFrom, readText}
+use Rattle.blif_model.specs.Working.{GatesIn, placed, builtGates, WorkRoom}
+use Rattle.blif_gates.specs.Covers.{Buildable, BuiltBy}
+use Rattle.blif_gates.specs.declared.Built.{Built}
+use Rattle.blif_read.specs.Stages.{Holds, Enough, Placing}
+use Rattle.blif_read.specs.declared.ReadAnswer.{ReadAnswer}
+use Rattle.blif_read.specs.declared.ReadAnswer.the-variants.{Read, Refused}
+use Rattle.blif_decls.proofs.Counting.{sizes-within}
+use Rattle.blif_model.specs.Built.{BuiltIn}
+use Rattle.blif_model.proofs.BuiltNet.{built-net, built-sortable}
+use Rattle.blif_read.proofs.Refusing.{sorted-or-loop}
+
+-- ---- no refusal took the text
+
+-- of two refusals none takes it, the second does not
+second-none : (a b : ℕ) → (a then b) ≡ 0 → b ≡ 0
+unfolding _then_
+second-none zero b e = e
+second-none (suc k) b e = absurd (let z : ⊥ = omega (arith, e) in z)
+
+-- nor does the first
+first-none : (a b : ℕ) → (a then b) ≡ 0 → a ≡ 0
+unfolding _then_
+first-none zero b e = refl
+first-none (suc k) b e = e
+
+module _ (text : Bytes) (e : readFault text ≡ 0) where
+  decls-none : declFault (declsOf text) ≡ 0
+  unfolding readFault
+  decls-none = second-none (firstBad (parsed text)) _ (second-none _ _ (second-none _ _ e))
+
+  covers-none : coverFaults (defs (declsOf text)) ≡ 0
+  unfolding declFault
+  covers-none = second-none (when (undefined (declsOf text)) 11) _ (second-none (naming false [] (declsOf text)) _ (second-none _ _ decls-none))
+
+  size-none : tooLarge (declsOf text) ≡ false
+  unfolding declFault when
+  size-none = go (tooLarge (declsOf text)) (first-none (when (tooLarge (declsOf text)) 6) _ decls-none)
+    where
+      go : (b : Bool) → when b 6 ≡ 0 → b ≡ false
+      go true z = absurd (let w : ⊥ = omega (arith, z) in w)
+      go false z = refl
+
+-- ---- what the sort answers
+
+-- the gate count of an answer
+gatesIn : ReadAnswer → ℕ
+gatesIn (Read n) = n .gates
+gatesIn (Refused k) = 0
+
+-- the output count of an answer
+outputsIn : ReadAnswer → ℕ
+outputsIn (Read n) = n .outputs
+outputsIn (Refused k) = 0
+
+-- whether an answer is a loop
+isLoop : Sorted → Bool
+isLoop (Order k) = false
+isLoop Loop = true
+
+-- the pins of an order
+orderPins : Sorted → ℕ
+orderPins (Order k) = k
+orderPins Loop = 0
+
+-- none at a loop
+loop-answer : (m : Option Net) (gs ps os : List ℕ) → sortInto m gs ps os .answer ≡ Loop → answer 0 m ≡ refused 14
+unfolding sortInto answer isLoop
+loop-answer none gs ps os e = refl
+loop-answer (some x) gs ps os e = absurd (false≢true (ap isLoop e))
+
+-- a network and its pin count otherwise
+order-some : (m : Option Net) (gs ps os : List ℕ) (k : ℕ) → sortInto m gs ps os .answer ≡ Order k
+    → (x : Net) × (m ≡ some x) × (k ≡ length (pinCells (x .gates)))
+unfolding sortInto isLoop orderPins
+order-some none gs ps os k e = absurd (true≢false (ap isLoop e))
+order-some (some x) gs ps os k e = (x, refl, sym (ap orderPins e))
+
+-- which is what is read
+some-answer : {m : Option Net} {x : Net} → m ≡ some x → answer 0 m ≡ read x
+unfolding answer
+some-answer e = ap (answer 0) e
+
+-- ---- building
+
+module _ {text tokens : List ℕ} {n : ℕ} {blocks : List ℕ} {i g o : ℕ} {gates pinsIn os : List ℕ} {used : ℕ} (c : Placing text tokens n blocks i g o gates pinsIn os used) where
+  -- what building asks
+  pub buildable : WorkRoom gates pinsIn → Buildable (defsAt text tokens n blocks g) gates pinsIn used
+  buildable w =
+      let s = sizes-within (declsOf text) (size-none text (c .none)) in
+      subst (λ (ds : List Def). Buildable ds gates pinsIn used) (sym (c .blocks-are))
+      (record {
+        room = w;
+        fewGates = s .2;
+        fewPins = s .3;
+        good = covers-none text (c .none);
+        start = c .used-is;
+        first = (lookup byte-names (modelOf (declsOf text)), c .gates-in);
+      })
+
+  module _ {gates′ pinsIn′ : List ℕ} {b : Built} (h : BuiltBy (defsAt text tokens n blocks g) gates pinsIn used gates′ pinsIn′ b)
+      (gr : 3072 ≤ length gates′) (pr : 16384 ≤ length pinsIn′) (or : 256 ≤ length os) where
+    -- the counts with which the sort is called
+    abbrev counts : Counts
+    counts = record { inputs = i; gates = b .gates; pins = b .pins; outputs = o }
+
+    -- the cells hold what is built
+    cells-built : BuiltIn (declsOf text) counts gates′ pinsIn′ os (b .pins)
+    cells-built =
+        let look = lookup byte-names (modelOf (declsOf text)) in
+        record {
+          held =
+              subst (λ (ds : List Def). GatesIn gates′ pinsIn′ (b .pins) (builtGates look ds)) (c .blocks-are)
+              (h .gates-in look (subst (λ (ds : List Def). GatesIn gates pinsIn used (map (placed look) ds)) (sym (c .blocks-are)) (c .gates-in)));
+          pinsRoom = omega (arith, h .fewPins, pr);
+          gatesRoom = omega (arith, h .fewGates, gr);
+          inputsCounted = c .inputs;
+          gatesCounted = h .counted look ∙ ap (λ (ds : List Def). length (builtGates look ds)) (c .blocks-are);
+          outputsCounted = c .outputs;
+          outsHeld = c .outs-are;
+        }
+
+    -- the outputs have room
+    outs-room : o ≤ length os
+    outs-room = omega (arith, c .outputs, sizes-within (declsOf text) (size-none text (c .none)) .1, or)
+
+    -- what the sort asks
+    pub sortable : (newGates newPins : ℕ) → 3072 ≤ newGates → 16384 ≤ newPins → Sortable (lent counts gates′ pinsIn′ os) newGates newPins
+    sortable newGates newPins = built-sortable (decls-none text (c .none)) cells-built
+
+    module _ (gs ps : List ℕ) {gs′ ps′ os′ : List ℕ} {r : Sorted} (ng : 3072 ≤ length gs) (np : 16384 ≤ length ps)
+        (q : outcome r gs′ ps′ os′ ≡ sortInto (sorted (netOf (lent counts gates′ pinsIn′ os))) gs ps os) where
+      is-built : netOf (lent counts gates′ pinsIn′ os) ≡ builtFrom (declsOf text)
+      is-built = built-net (decls-none text (c .none)) cells-built
+
+      sorts : outcome r gs′ ps′ os′ ≡ sortInto (sorted (builtFrom (declsOf text))) gs ps os
+      sorts = q ∙ ap (λ (x : Net). sortInto (sorted x) gs ps os) is-built
+
+      -- "14 at a combinational loop among the gates as built"
+      pub loop-refused : r ≡ Loop → readText text ≡ refused 14
+      loop-refused e =
+          sorted-or-loop text (c .none)
+          ∙ loop-answer (sorted (builtFrom (declsOf text))) gs ps os (sym (ap (λ (x : Outcome Sorted). x .answer) sorts) ∙ e)
+
+      -- the counts are the sorted network's
+      counts-are : (new : Net) (k : ℕ) → Preserved (netOf (lent counts gates′ pinsIn′ os)) new → k ≡ length (pinCells (new .gates))
+          → Read (record { inputs = i; gates = b .gates; pins = k; outputs = o }) ≡ Read (countsOf new)
+      unfolding netOf
+      counts-are new k kept e =
+          let ei : i ≡ new .inputs = sym (kept .inputs) in
+          let eg : b .gates ≡ length (new .gates) = sym (kept .gates ∙ length-map (range 0 (b .gates)) _ ∙ length-range 0 (b .gates)) in
+          let eo : o ≡ length (new .outputs) = sym (kept .outputs ∙ length-map (take o os) sigOf ∙ length-take-le o os (outs-room)) in
+          λ j. Read (record { inputs = ei j; gates = eg j; pins = e j; outputs = eo j })
+
+      -- the network read
+      pub order-read : (k : ℕ) → r ≡ Order k → Holds (readText text) (Read (record { inputs = i; gates = b .gates; pins = k; outputs = o })) gs′ ps′ os′
+      unfolding sortInto gatesIn outputsIn
+      order-read k e =
+          let f = order-some (sorted (builtFrom (declsOf text))) gs ps os k (sym (ap (λ (x : Outcome Sorted). x .answer) sorts) ∙ e) in
+          let new = f .0 in
+          let s = sorts ∙ ap (λ (m : Option Net). sortInto m gs ps os) (f .1) in
+          let room = sortable (length gs) (length ps) ng np in
+          let kept = sorted-keeps (netOf (lent counts gates′ pinsIn′ os)) new (room .valid) (ap sorted is-built ∙ f .1) in
+          let hg : length (new .gates) * gateWidth ≤ length gs = omega (arith, ap (λ (a : ReadAnswer). gatesIn a) (counts-are new k kept (f .2)), h .fewGates, ng) in
+          let hp : length (pinCells (new .gates)) ≤ length ps = omega (arith, kept .pins, room .pinRoom) in
+          let ho : length (new .outputs) ≤ length os = omega (arith, ap (λ (a : ReadAnswer). outputsIn a) (counts-are new k kept (f .2)), outs-room) in
+          let pg : over (gateCells 0 (new .gates)) gs ≡ gs′ = sym (ap (λ (x : Outcome Sorted). x .gates) s) in
+          let pp : over (pinCells (new .gates)) ps ≡ ps′ = sym (ap (λ (x : Outcome Sorted). x .pins) s) in
+          let po : over (map sigCell (new .outputs)) os ≡ os′ = sym (ap (λ (x : Outcome Sorted). x .outs) s) in
+          let laid : Laid new (lent (countsOf new) gs′ ps′ os′) =
+          subst (Laid new) (λ j. lent (countsOf new) (pg j) (pp j) (po j)) (laid-over new gs ps os hg hp ho) in
+          subst (λ (x : Result). Holds x (Read (record { inputs = i; gates = b .gates; pins = k; outputs = o })) gs′ ps′ os′)
+          (sym (sorted-or-loop text (c .none) ∙ some-answer (f .1)))
+          (counts-are new k kept (f .2), laid)

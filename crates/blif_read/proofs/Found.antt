@@ -1,0 +1,93 @@
+-- Names that are used: what is found in the index is defined, and what is not found is refusal 11. Assumes nothing.
+use mathlib.Core.Path.{_≡_, refl, sym, ap, ap₂, _∙_, subst}
+use mathlib.Core.Bool.{Bool, true, false, not, _&&_, cond, false≢true, true≢false}
+use mathlib.Core.List.{List, [], _∷_, _++_, map, flatMap}
+use Prim.Native.Nat.{ℕ, zero, suc, _≤_}
+use native.Mathlib.Omega.{arith}
+use lib.Dec.{eqb}
+use Rattle.lists.specs.Lists.{Bytes, all, known}
+use Rattle.lists.proofs.Tests.{by-test, and-left, and-right, and-false}
+use Rattle.signal.specs.Signal.{Signal}
+use Rattle.signal.specs.Cell.{sigCell}
+use Rattle.blif_text.specs.Decls.{Decl, ins, outs, defs, defines, uses}
+use Rattle.name_index.specs.Search.{Entry, signalIn}
+use Rattle.blif_model.specs.Lookup.{lookup}
+use Rattle.blif_model.specs.Names.{byte-names}
+use Rattle.blif_model.specs.Render.{modelOf}
+use Rattle.blif_model.specs.Read.{tooLarge, naming, undefined}
+use Rattle.blif_decls.specs.Entries.{entries}
+use Rattle.blif_uses.specs.Resolve.{isFound, Signals}
+use Rattle.blif_decls.proofs.EntryLaws.{entry-signal, entry-found}
+
+-- ---- a test of every element
+
+all-map : {A B : Type 0} (p : B → Bool) (f : A → B) (l : List A) → all p (map f l) ≡ all (λ (x : A). p (f x)) l
+all-map p f [] = refl
+all-map p f (x ∷ l) = ap (λ (b : Bool). p (f x) && b) (all-map p f l)
+
+all-same : {A : Type 0} (p q : A → Bool) → ((x : A) → p x ≡ q x) → (l : List A) → all p l ≡ all q l
+all-same p q h [] = refl
+all-same p q h (x ∷ l) = ap₂ (λ (a b : Bool). a && b) (h x) (all-same p q h l)
+
+and-assoc : (a b c : Bool) → (a && (b && c)) ≡ ((a && b) && c)
+and-assoc true b c = refl
+and-assoc false b c = refl
+
+all-append : {A : Type 0} (p : A → Bool) (l k : List A) → all p (l ++ k) ≡ (all p l && all p k)
+all-append p [] k = refl
+all-append p (x ∷ l) k = ap (λ (b : Bool). p x && b) (all-append p l k) ∙ and-assoc (p x) (all p l) (all p k)
+
+-- what is laid of elements that each have their own is laid of the others
+map-where : {A B : Type 0} (p : A → Bool) (f g : A → B) → ((x : A) → p x ≡ true → f x ≡ g x) → (l : List A) → all p l ≡ true → map f l ≡ map g l
+map-where p f g h [] e = refl
+map-where p f g h (x ∷ l) e = ap₂ (λ y (ys : List _). y ∷ ys) (h x (and-left (p x) (all p l) e)) (map-where p f g h l (and-right (p x) (all p l) e))
+
+-- ---- the index's answers
+
+module _ (ds : List Decl) (named : naming false [] ds ≡ 0) (sized : tooLarge ds ≡ false) where
+  -- the cell of a name's signal in the index
+  abbrev sig : Bytes → ℕ
+  sig x = signalIn (entries 0 0 ds) x
+
+  -- whether it is defined
+  abbrev isKnown : Bytes → Bool
+  isKnown x = known x (ins ds ++ map defines (defs ds))
+
+  -- its signal
+  abbrev look : Bytes → Signal
+  look = lookup byte-names (modelOf ds)
+
+  -- a name is found where it is defined
+  pub found-known : (x : Bytes) → isFound (sig x) ≡ isKnown x
+  found-known x =
+      by-test (isKnown x)
+      (λ t. entry-found ds named sized x t ∙ sym t)
+      (λ t. ap isFound (entry-signal ds named x ∙ ap (λ (b : Bool). cond b (sigCell (look x)) 0) t) ∙ sym t)
+
+  -- and what is found is its signal
+  pub found-signal : Signals sig look
+  found-signal x e = entry-signal ds named x ∙ ap (λ (b : Bool). cond b (sigCell (look x)) 0) (sym (found-known x) ∙ e)
+
+  -- names are all found where all are defined
+  pub found-all : (xs : List Bytes) → all isFound (map sig xs) ≡ all isKnown xs
+  found-all xs = all-map isFound sig xs ∙ all-same (λ (x : Bytes). isFound (sig x)) isKnown found-known xs
+
+  -- their signals
+  pub found-signals : (xs : List Bytes) → all isKnown xs ≡ true → map sig xs ≡ map (λ (x : Bytes). sigCell (look x)) xs
+  found-signals xs e = map-where isKnown sig (λ (x : Bytes). sigCell (look x)) (λ x t. found-signal x (found-known x ∙ t)) xs e
+
+  undefined-is : undefined ds ≡ not (all isKnown (outs ds) && all isKnown (flatMap uses (defs ds)))
+  unfolding undefined
+  undefined-is = ap not (all-append isKnown (outs ds) (flatMap uses (defs ds)))
+
+  -- an output is undefined
+  pub output-missing : all isKnown (outs ds) ≡ false → undefined ds ≡ true
+  output-missing e = undefined-is ∙ ap (λ (b : Bool). not (b && all isKnown (flatMap uses (defs ds)))) e
+
+  -- a latch's input or a cover's is undefined
+  pub use-missing : all isKnown (flatMap uses (defs ds)) ≡ false → undefined ds ≡ true
+  use-missing e = undefined-is ∙ ap (λ (b : Bool). not (all isKnown (outs ds) && b)) e ∙ ap not (and-false (all isKnown (outs ds)))
+
+  -- none is
+  pub none-missing : all isKnown (outs ds) ≡ true → all isKnown (flatMap uses (defs ds)) ≡ true → undefined ds ≡ false
+  none-missing e f = undefined-is ∙ ap₂ (λ (a b : Bool). not (a && b)) e f

@@ -1,0 +1,119 @@
+-- Refusal 1, the search for a byte of 128 or more, and cells cleared from a place on. Assumes nothing.
+use mathlib.Core.Path.{_≡_, refl, sym, ap, _∙_, subst}
+use mathlib.Core.Bool.{Bool, true, false, _&&_, _||_}
+use mathlib.Core.List.{List, [], _∷_, _++_, append-nil}
+use Prim.Native.Nat.{ℕ, zero, suc, _+_, _-_, _*_, _≤_, _<_}
+use native.Mathlib.Omega.{arith}
+use native.Mathlib.Numerals.{add-one}
+use lib.Dec.{leb}
+use lib.ListN.{length, getD, take, drop, replicate, length-drop, drop-of-length-le}
+use lib.Seq.{drop-cons, take-all}
+use borrow.Rule.Slice.PartMut.{midOf, putMid, post-is, mid-len}
+use borrow.Author.Tests.{le-leb, lt-leb, leb-true}
+use Rattle.lists.specs.Lists.{Bytes, any, zeros, over}
+use Rattle.lists.proofs.Tests.{and-false, and-left, and-right}
+use Rattle.network.specs.Cells.{gateWidth, maxGates, maxPins, maxOutputs}
+use Rattle.blif_read.specs.Into.{Lengths, lengths, enough}
+use Rattle.blif_read.specs.Stages.{Enough}
+
+-- ---- refusal 1
+
+module _ (n : Lengths) where
+  pub few-gates : n .gates < 3072 → false ≡ enough n
+  unfolding enough
+  few-gates h = sym (simp (lt-leb 3072 (n .gates) h))
+
+  pub few-pins : n .pins < 16384 → false ≡ enough n
+  unfolding enough
+  few-pins h = sym (simp (lt-leb 16384 (n .pins) h, and-false))
+
+  pub few-outputs : n .outputs < 256 → false ≡ enough n
+  unfolding enough
+  few-outputs h = sym (simp (lt-leb 256 (n .outputs) h, and-false))
+
+  pub few-work-gates : n .workGates < 3072 → false ≡ enough n
+  unfolding enough
+  few-work-gates h = sym (simp (lt-leb 3072 (n .workGates) h, and-false))
+
+  pub the-last : 3072 ≤ n .gates → 16384 ≤ n .pins → 256 ≤ n .outputs → 3072 ≤ n .workGates → leb 16384 (n .workPins) ≡ enough n
+  unfolding enough
+  the-last a b c d = sym (simp (le-leb 3072 (n .gates) a, le-leb 16384 (n .pins) b, le-leb 256 (n .outputs) c, le-leb 3072 (n .workGates) d))
+
+-- the cells that refusal 1 asks for are there
+pub enough-cells : (gs ps os wgs wps : List ℕ) → enough (lengths (length gs) (length ps) (length os) (length wgs) (length wps)) ≡ true → Enough gs ps os wgs wps
+unfolding enough
+enough-cells gs ps os wgs wps e =
+    let a = leb 3072 (length gs) in
+    let b = leb 16384 (length ps) in
+    let c = leb 256 (length os) in
+    let d = leb 3072 (length wgs) in
+    let f = leb 16384 (length wps) in
+    let e1 = and-left (a && b && c && d) f e in
+    let e2 = and-left (a && b && c) d e1 in
+    let e3 = and-left (a && b) c e2 in
+    record {
+      gates = leb-true 3072 (length gs) (and-left a b e3);
+      pins = leb-true 16384 (length ps) (and-right a b e3);
+      outputs = leb-true 256 (length os) (and-right (a && b) c e2);
+      workGates = leb-true 3072 (length wgs) (and-right (a && b && c) d e1);
+      workPins = leb-true 16384 (length wps) (and-right (a && b && c && d) f e);
+    }
+
+-- slices of the same lengths have the same room
+pub enough-same : {gs ps os wgs wps gs′ ps′ os′ wgs′ wps′ : List ℕ} → Enough gs ps os wgs wps → length gs′ ≡ length gs → length ps′ ≡ length ps
+    → length os′ ≡ length os → length wgs′ ≡ length wgs → length wps′ ≡ length wps → Enough gs′ ps′ os′ wgs′ wps′
+enough-same h a b c d e =
+    record {
+      gates = omega (arith, h .gates, a);
+      pins = omega (arith, h .pins, b);
+      outputs = omega (arith, h .outputs, c);
+      workGates = omega (arith, h .workGates, d);
+      workPins = omega (arith, h .workPins, e);
+    }
+
+-- ---- a search for one that passes the test
+
+-- none of the first i passes: what is left tests as the whole does
+pub record Seeking (p : ℕ → Bool) (l : List ℕ) (i : ℕ) : Type 0 where
+  pub within : i ≤ length l
+  pub rest : any p (drop i l) ≡ any p l
+
+pub seek-start : {p : ℕ → Bool} {l : List ℕ} → Seeking p l 0
+seek-start = record { within = omega arith; rest = refl }
+
+module _ {p : ℕ → Bool} {l : List ℕ} {i : ℕ} (c : Seeking p l i) where
+  pub seek-next : i < length l → p (getD l i 0) ≡ false → Seeking p l (i + 1)
+  seek-next h t =
+      let e : any p (drop (i + 1) l) ≡ any p (drop i l) = rw (add-one, drop-cons l i 0 h, t) in
+      record { within = omega arith; rest = e ∙ c .rest }
+
+  pub seek-found : i < length l → p (getD l i 0) ≡ true → true ≡ any p l
+  seek-found h t = let e : any p (drop i l) ≡ true = rw (drop-cons l i 0 h, t) in sym e ∙ c .rest
+
+  pub seek-none : length l ≤ i → false ≡ any p l
+  seek-none h = let e : any p (drop i l) ≡ false = rw (drop-of-length-le l h) in sym e ∙ c .rest
+
+-- ---- cells cleared
+
+-- the cells before a place over zeros, where zeros stand from the place on
+pub clear-rest : (at : ℕ) (l : List ℕ) → at ≤ length l → take at l ++ zeros (length (drop at l)) ≡ over (take at l) (zeros (length l))
+clear-rest zero l h = refl
+clear-rest (suc at) [] h = absurd (omega arith)
+clear-rest (suc at) (x ∷ l) h = ap (λ (t : List ℕ). x ∷ t) (clear-rest at l (omega arith))
+
+-- there is none beyond the end
+pub clear-none : (at : ℕ) (l : List ℕ) → length l ≤ at → l ≡ over (take at l) (zeros (length l))
+clear-none zero [] h = refl
+clear-none zero (x ∷ l) h = absurd (omega arith)
+clear-none (suc at) [] h = refl
+clear-none (suc at) (x ∷ l) h = ap (λ (t : List ℕ). x ∷ t) (clear-none at l (omega arith))
+
+-- the part from a place on, filled with zeros and put back
+pub clear-part : (at : ℕ) (l p : List ℕ) → at < length l → p ≡ zeros (length (midOf at (length l - at) l))
+    → putMid at (length l - at) l p ≡ over (take at l) (zeros (length l))
+clear-part at l p h e =
+    let k : at ≤ length l = omega arith in
+    let m : length (midOf at (length l - at) l) ≡ length (drop at l) = mid-len at (length l) l (omega arith) ∙ sym (length-drop at l) in
+    ap (λ (x : List ℕ). take at l ++ (p ++ x)) (post-is at (length l) l k ∙ drop-of-length-le l {i = length l} (omega arith))
+    ∙ ap (λ (x : List ℕ). take at l ++ x) (append-nil p ∙ e ∙ ap zeros m)
+    ∙ clear-rest at l k

@@ -1,0 +1,80 @@
+-- `read_blif` clears what `read_cells` leaves beyond the counts. Assumes nothing.
+use mathlib.Core.Path.{ap, _∙_}
+use native.Mathlib.Omega.{arith}
+use Rattle.lists.specs.Lists.{zeros}
+use Rattle.blif_read.proofs.Leaving.{counts-fit, all-cleared}
+use borrow.Author.Needs.{needs}
+use Rattle.blif_read.proofs.read_blif.Statement.{statement}
+use Rattle.blif_read.proofs.read_blif.Tie as tie
+use Rattle.blif_read.proofs.read_blif.Reads as reads
+use Rattle.blif_read.proofs.read_blif.Lts as lts
+use Rattle.blif_read.proofs.clear_from.Reads as clear-from-reads
+use Rattle.blif_read.proofs.counts_of.Reads as counts-of-reads
+use Rattle.blif_read.proofs.read_cells.Reads as read-cells-reads
+use Rattle.lists.proofs.fill_zero.Reads as fill-zero-reads
+
+read-cells-requires : tie.Need-read-cells-requires
+read-cells-requires c κs = search needs
+
+counts-of-requires : tie.Need-counts-of-requires
+counts-of-requires c κs = search needs
+
+mul-clear-from : tie.Need-mul-clear-from
+mul-clear-from c =
+    let z = counts-fit _ _ (c .before .before .before .before .before .before .before .before .before .before .before .before .before .read-cells .result) (c .before .before .counts-of .result) (c .before .before .before .before .before .before .before .before .before .before .before .before .before .read-cells .last .1 .0) (c .before .before .before .before .before .before .before .before .before .before .before .before .before .read-cells .last .1 .1 .0) (c .before .before .before .before .before .before .before .before .before .before .before .before .before .read-cells .last .1 .1 .1 .0) _ (c .before .before .before .before .before .before .before .before .before .before .before .before .before .read-cells .ensures) (c .before .before .counts-of .ensures) (c .before .before .before .before .before .before .before .before .before .before .before .before .before .read-cells .kept .1 .0) (c .before .before .before .before .before .before .before .before .before .before .before .before .before .before .before .before .before .before .before .before .before .before .before .before .before .good .1 .0 .0) in
+    omega (arith, z)
+
+clear-from-requires : tie.Need-clear-from-requires
+clear-from-requires c κs = search needs
+
+clear-from-requires-2 : tie.Need-clear-from-requires-2
+clear-from-requires-2 c κs = search needs
+
+clear-from-requires-3 : tie.Need-clear-from-requires-3
+clear-from-requires-3 c κs = search needs
+
+fill-zero-requires : tie.Need-fill-zero-requires
+fill-zero-requires c κs = search needs
+
+fill-zero-requires-2 : tie.Need-fill-zero-requires-2
+fill-zero-requires-2 c κs = search needs
+
+same-length : tie.Need-same-length
+same-length c = search needs
+
+same-length-2 : tie.Need-same-length-2
+same-length-2 c = search needs
+
+same-length-3 : tie.Need-same-length-3
+same-length-3 c = search needs
+
+same-length-4 : tie.Need-same-length-4
+same-length-4 c = search needs
+
+same-length-5 : tie.Need-same-length-5
+same-length-5 c = search needs
+
+returns : tie.Need-returns
+returns c =
+    all-cleared _ _ _ _ _ _ _ _ _ _ _ _ (c .before .before .before .before .before .before .before .before .before .before .before .before .before .before .before .before .before .before .before .before .before .before .before .before .before .before .before .before .before .before .before .before .read-cells .ensures) (c .before .before .before .before .before .before .before .before .before .before .before .before .before .before .before .before .before .before .before .before .before .counts-of .ensures) (c .before .before .before .before .before .before .before .before .before .before .before .before .before .before .before .before .before .before .before .before .before .before .before .before .before .before .before .before .before .before .before .before .read-cells .kept .1 .0) (c .before .before .before .before .before .before .before .before .before .before .before .before .before .before .before .before .before .before .before .before .before .before .before .before .before .before .before .before .before .before .before .before .read-cells .kept .1 .1 .0) (c .before .before .before .before .before .before .before .before .before .before .before .before .before .before .before .before .before .before .before .before .before .before .before .before .before .before .before .before .before .before .before .before .read-cells .kept .1 .1 .1 .0)
+    (c .before .before .before .before .before .before .before .before .before .before .before .before .before .before .before .before .before .before .clear-from .ensures) (c .before .before .before .before .before .before .before .before .before .before .before .before .before .before .clear-from2 .ensures) (c .before .before .before .before .before .before .before .before .before .before .clear-from3 .ensures) (c .before .before .before .before .before .before .fill-zero .ensures ∙ ap zeros (c .before .before .before .before .before .before .before .before .before .before .before .before .before .before .before .before .before .before .before .before .before .before .before .before .before .before .before .before .before .before .before .before .read-cells .kept .1 .1 .1 .1 .0))
+    (c .before .before .fill-zero2 .ensures ∙ ap zeros (c .before .before .before .before .before .before .before .before .before .before .before .before .before .before .before .before .before .before .before .before .before .before .before .before .before .before .before .before .before .before .before .before .read-cells .kept .1 .1 .1 .1 .1 .0))
+
+pub read-blif-spec : {M : Type 1} → statement M
+read-blif-spec =
+    tie.close
+    (tie.spec
+    read-cells-requires
+    counts-of-requires
+    mul-clear-from
+    clear-from-requires
+    clear-from-requires-2
+    clear-from-requires-3
+    fill-zero-requires
+    fill-zero-requires-2
+    same-length
+    same-length-2
+    same-length-3
+    same-length-4
+    same-length-5
+    returns)

@@ -1,0 +1,80 @@
+-- `read_built` builds the covers' gates and sorts. Assumes nothing.
+use native.Mathlib.Omega.{arith}
+use Rattle.blif_read.proofs.Refusing.{holds-refused}
+use Rattle.blif_read.proofs.Ending.{buildable, sortable, loop-refused, order-read}
+use borrow.Author.Needs.{needs}
+use Rattle.blif_read.proofs.read_built.Statement.{statement}
+use Rattle.blif_read.proofs.read_built.Tie as tie
+use Rattle.blif_read.proofs.read_built.Reads as reads
+use Rattle.blif_read.proofs.read_built.Lts as lts
+use Rattle.blif_gates.proofs.build_covers.Reads as build-covers-reads
+use Rattle.sort.proofs.topo_sort.Reads as topo-sort-reads
+
+build-covers-requires : tie.Need-build-covers-requires
+build-covers-requires c κs = (c .before .before .before .before .before .before .before .before .before .before .pre .1 .blocks-in, buildable (c .before .before .before .before .before .before .before .before .before .before .pre .1) (record { gateRoom = c .before .before .before .before .before .before .before .before .before .before .pre .0 .workGates; pinRoom = c .before .before .before .before .before .before .before .before .before .before .pre .0 .workPins }))
+
+topo-sort-requires : tie.Need-topo-sort-requires
+topo-sort-requires c κs = sortable (c .before .before .before .before .before .before .before .before .before .before .before .before .before .before .before .before .before .before .before .before .pre .1) (c .before .before .before .before .before .before .before .before .before .build-covers .ensures) (omega (arith, c .before .before .before .before .before .before .before .before .before .before .before .before .before .before .before .before .before .before .before .before .pre .0 .workGates, c .before .before .before .before .before .before .before .before .before .build-covers .kept .1 .1 .1 .1 .1 .0)) (omega (arith, c .before .before .before .before .before .before .before .before .before .before .before .before .before .before .before .before .before .before .before .before .pre .0 .workPins, c .before .before .before .before .before .before .before .before .before .build-covers .kept .1 .1 .1 .1 .1 .1 .0)) (c .before .before .before .before .before .before .before .before .before .before .before .before .before .before .before .before .before .before .before .before .pre .0 .outputs) _ _ (c .before .before .before .before .before .before .before .before .before .before .before .before .before .before .before .before .before .before .before .before .pre .0 .gates) (c .before .before .before .before .before .before .before .before .before .before .before .before .before .before .before .before .before .before .before .before .pre .0 .pins)
+
+enum-told : tie.Need-enum-told
+enum-told c = search needs
+
+enum-known-used-pins : tie.Need-enum-known-used-pins
+enum-known-used-pins c = search needs
+
+same-length : tie.Need-same-length
+same-length c = search needs
+
+same-length-2 : tie.Need-same-length-2
+same-length-2 c = search needs
+
+same-length-3 : tie.Need-same-length-3
+same-length-3 c = search needs
+
+same-length-4 : tie.Need-same-length-4
+same-length-4 c = search needs
+
+same-length-5 : tie.Need-same-length-5
+same-length-5 c = search needs
+
+returns : tie.Need-returns
+returns c = holds-refused _ _ _ _ _ (loop-refused (c .before .before .before .before .before .before .before .before .before .before .before .before .before .before .before .before .before .before .before .before .before .before .before .before .before .before .before .before .before .pre .1) (c .before .before .before .before .before .before .before .before .before .before .before .before .before .before .before .before .before .before .build-covers .ensures) (omega (arith, c .before .before .before .before .before .before .before .before .before .before .before .before .before .before .before .before .before .before .before .before .before .before .before .before .before .before .before .before .before .pre .0 .workGates, c .before .before .before .before .before .before .before .before .before .before .before .before .before .before .before .before .before .before .build-covers .kept .1 .1 .1 .1 .1 .0)) (omega (arith, c .before .before .before .before .before .before .before .before .before .before .before .before .before .before .before .before .before .before .before .before .before .before .before .before .before .before .before .before .before .pre .0 .workPins, c .before .before .before .before .before .before .before .before .before .before .before .before .before .before .before .before .before .before .build-covers .kept .1 .1 .1 .1 .1 .1 .0)) (c .before .before .before .before .before .before .before .before .before .before .before .before .before .before .before .before .before .before .before .before .before .before .before .before .before .before .before .before .before .pre .0 .outputs) _ _ (c .before .before .before .before .before .before .before .before .before .before .before .before .before .before .before .before .before .before .before .before .before .before .before .before .before .before .before .before .before .pre .0 .gates) (c .before .before .before .before .before .before .before .before .before .before .before .before .before .before .before .before .before .before .before .before .before .before .before .before .before .before .before .before .before .pre .0 .pins) (c .before .before .before .before .before .before .before .before .topo-sort .ensures) (c .enum-told .given .1))
+
+same-length-6 : tie.Need-same-length-6
+same-length-6 c = search needs
+
+same-length-7 : tie.Need-same-length-7
+same-length-7 c = search needs
+
+same-length-8 : tie.Need-same-length-8
+same-length-8 c = search needs
+
+same-length-9 : tie.Need-same-length-9
+same-length-9 c = search needs
+
+same-length-10 : tie.Need-same-length-10
+same-length-10 c = search needs
+
+returns-2 : tie.Need-returns-2
+returns-2 c = order-read (c .before .before .before .before .before .before .before .before .before .before .before .before .before .before .before .before .before .before .before .before .before .before .before .before .before .before .before .before .before .before .pre .1) (c .before .before .before .before .before .before .before .before .before .before .before .before .before .before .before .before .before .before .before .build-covers .ensures) (omega (arith, c .before .before .before .before .before .before .before .before .before .before .before .before .before .before .before .before .before .before .before .before .before .before .before .before .before .before .before .before .before .before .pre .0 .workGates, c .before .before .before .before .before .before .before .before .before .before .before .before .before .before .before .before .before .before .before .build-covers .kept .1 .1 .1 .1 .1 .0)) (omega (arith, c .before .before .before .before .before .before .before .before .before .before .before .before .before .before .before .before .before .before .before .before .before .before .before .before .before .before .before .before .before .before .pre .0 .workPins, c .before .before .before .before .before .before .before .before .before .before .before .before .before .before .before .before .before .before .before .build-covers .kept .1 .1 .1 .1 .1 .1 .0)) (c .before .before .before .before .before .before .before .before .before .before .before .before .before .before .before .before .before .before .before .before .before .before .before .before .before .before .before .before .before .before .pre .0 .outputs) _ _ (c .before .before .before .before .before .before .before .before .before .before .before .before .before .before .before .before .before .before .before .before .before .before .before .before .before .before .before .before .before .before .pre .0 .gates) (c .before .before .before .before .before .before .before .before .before .before .before .before .before .before .before .before .before .before .before .before .before .before .before .before .before .before .before .before .before .before .pre .0 .pins) (c .before .before .before .before .before .before .before .before .before .topo-sort .ensures) _ (c .before .used-pins .given .1)
+
+pub read-built-spec : {M : Type 1} → statement M
+read-built-spec =
+    tie.close
+    (tie.spec
+    build-covers-requires
+    topo-sort-requires
+    enum-told
+    enum-known-used-pins
+    same-length
+    same-length-2
+    same-length-3
+    same-length-4
+    same-length-5
+    returns
+    same-length-6
+    same-length-7
+    same-length-8
+    same-length-9
+    same-length-10
+    returns-2)

@@ -1,0 +1,53 @@
+-- `read_cells` tests the lent cells first. Assumes nothing.
+use mathlib.Core.Path.{sym, _∙_}
+use borrow.Author.Tests.{not-true, not-false}
+use Rattle.blif_read.proofs.Lending.{enough-cells}
+use Rattle.blif_read.proofs.Leaving.{few-refused, enough-answered}
+use borrow.Author.Needs.{needs}
+use Rattle.blif_read.proofs.read_cells.Statement.{statement}
+use Rattle.blif_read.proofs.read_cells.Tie as tie
+use Rattle.blif_read.proofs.read_cells.Reads as reads
+use Rattle.blif_read.proofs.read_cells.Lts as lts
+use Rattle.blif_read.proofs.enough_cells.Reads as enough-cells-reads
+use Rattle.blif_read.proofs.read_text.Reads as read-text-reads
+
+enough-cells-requires : tie.Need-enough-cells-requires
+enough-cells-requires c κs = search needs
+
+returns : tie.Need-returns
+returns c = few-refused _ _ _ _ _ (sym (c .before .enough-cells .ensures) ∙ not-true _ (c .if1 .taken))
+
+read-text-requires : tie.Need-read-text-requires
+read-text-requires c κs = enough-cells _ _ _ _ _ (sym (c .before .before .before .before .before .before .enough-cells .ensures) ∙ not-false _ (c .before .before .before .before .before .if1 .left))
+
+same-length : tie.Need-same-length
+same-length c = search needs
+
+same-length-2 : tie.Need-same-length-2
+same-length-2 c = search needs
+
+same-length-3 : tie.Need-same-length-3
+same-length-3 c = search needs
+
+same-length-4 : tie.Need-same-length-4
+same-length-4 c = search needs
+
+same-length-5 : tie.Need-same-length-5
+same-length-5 c = search needs
+
+returns-2 : tie.Need-returns-2
+returns-2 c = enough-answered _ _ _ _ _ _ (sym (c .before .before .before .before .before .before .before .before .before .before .before .before .before .before .before .before .before .enough-cells .ensures) ∙ not-false _ (c .before .before .before .before .before .before .before .before .before .before .before .before .before .before .before .before .if1 .left)) (c .before .before .before .before .before .before .before .before .before .before .read-text .ensures)
+
+pub read-cells-spec : {M : Type 1} → statement M
+read-cells-spec =
+    tie.close
+    (tie.spec
+    enough-cells-requires
+    returns
+    read-text-requires
+    same-length
+    same-length-2
+    same-length-3
+    same-length-4
+    same-length-5
+    returns-2)

@@ -1,0 +1,71 @@
+-- What `read_blif` answers and leaves in the lent cells (document 01, "Reading refuses, in order"). Assumes nothing: these are
+-- definitions.
+use mathlib.Core.Bool.{Bool, _&&_}
+use mathlib.Core.List.{List, [], map}
+use Prim.Native.Nat.{ℕ, _*_}
+use lib.Dec.{leb}
+use Rattle.lists.specs.Lists.{if_then_else_, Bytes, zeros, over}
+use Rattle.signal.specs.Cell.{sigCell}
+use Rattle.network.specs.Net.{Net}
+use Rattle.network.specs.Cells.{gateWidth, maxGates, maxPins, maxOutputs, gateCells, pinCells, countsOf}
+use Rattle.blif_model.specs.Read.{Result, read, refused, readText}
+use Rattle.blif_read.specs.declared.ReadAnswer.{ReadAnswer}
+use Rattle.blif_read.specs.declared.ReadAnswer.the-variants.{Read, Refused}
+
+-- the lengths of the five lent slices
+pub record Lengths : Type 0 where
+  -- the gates'
+  pub gates : ℕ
+  -- the pins'
+  pub pins : ℕ
+  -- the outputs'
+  pub outputs : ℕ
+  -- the working gates'
+  pub workGates : ℕ
+  -- the working pins'
+  pub workPins : ℕ
+
+-- the same, from its parts
+abbrev pub lengths : ℕ → ℕ → ℕ → ℕ → ℕ → Lengths
+lengths g p o wg wp = record { gates = g; pins = p; outputs = o; workGates = wg; workPins = wp }
+
+-- "1 when fewer 32-bit cells are lent than 3,072 for gates .., 16,384 for pins and 256 for outputs, or than 3,072 and 16,384 again as
+-- working cells"
+unfoldable pub enough : Lengths → Bool
+enough n =
+    leb (maxGates * gateWidth) (n .gates) && leb maxPins (n .pins) && leb maxOutputs (n .outputs)
+    && leb (maxGates * gateWidth) (n .workGates) && leb maxPins (n .workPins)
+
+-- an answer, and what the five slices hold then
+pub record Outcome : Type 0 where
+  -- what was answered: the counts, or a refusal's number
+  pub answer : ReadAnswer
+  -- the gates' cells
+  pub gates : List ℕ
+  -- the pins' cells
+  pub pins : List ℕ
+  -- the outputs' cells
+  pub outputs : List ℕ
+  -- the working gates' cells
+  pub workGates : List ℕ
+  -- the working pins' cells
+  pub workPins : List ℕ
+
+-- the same, from its parts
+abbrev pub outcome : ReadAnswer → List ℕ → List ℕ → List ℕ → List ℕ → List ℕ → Outcome
+outcome a gs ps os wgs wps = record { answer = a; gates = gs; pins = ps; outputs = os; workGates = wgs; workPins = wps }
+
+-- an answer with the cells of gates, pins and outputs, "cells beyond them and working cells are zero"
+abbrev pub leaving : ReadAnswer → List ℕ → List ℕ → List ℕ → Lengths → Outcome
+leaving a gs ps os n =
+    outcome a (over gs (zeros (n .gates))) (over ps (zeros (n .pins))) (over os (zeros (n .outputs))) (zeros (n .workGates)) (zeros (n .workPins))
+
+-- "A refusal gives its number; all lent cells are then zero. Success gives the input, gate, pin and output counts .. Pins here are the
+-- sorted gates' inputs, laid in gate order"
+abbrev pub filled : Result → Lengths → Outcome
+filled (refused k) n = leaving (Refused k) [] [] [] n
+filled (read net) n = leaving (Read (countsOf net)) (gateCells 0 (net .gates)) (pinCells (net .gates)) (map sigCell (net .outputs)) n
+
+-- what reading a text answers and leaves in lent slices of these lengths
+unfoldable pub readInto : Bytes → Lengths → Outcome
+readInto text n = filled (if enough n then readText text else refused 1) n

@@ -1,0 +1,316 @@
+// The BLIF reader (Quaigh's src/io/blif.rs: read_blif).
+use blif_covers::check_covers;
+use blif_decls::Defined;
+use blif_decls::build_name_to_sig;
+use blif_decls::too_large;
+use blif_gates::build_covers;
+use blif_text::MAX_TEXT;
+use blif_text::first_bad;
+use blif_text::mark_tokens;
+use blif_uses::place_gates;
+use blif_uses::resolve_names;
+use lists::fill_zero;
+use network::Counts;
+use network::GATE_CELLS;
+use network::MAX_GATES;
+use network::MAX_OUTPUTS;
+use network::MAX_PINS;
+use sort::Sorted;
+use sort::topo_sort;
+ghost use mathlib.Core.Path.{_≡_};
+ghost use mathlib.Core.Bool.{false};
+ghost use mathlib.Core.List.{map};
+ghost use Prim.Native.Nat.{_+_, _*_, _≤_};
+ghost use lib.Dec.{leb};
+ghost use lib.ListN.{length, take, drop};
+ghost use Rattle.lists.specs.Lists.{any, over, zeros, sumOf};
+ghost use Rattle.network.specs.Cells.{gateWidth, maxGates, maxPins, maxOutputs};
+ghost use Rattle.blif_text.specs.Decls.{decls};
+ghost use Rattle.blif_text.specs.Places.{maxTokens, tokensOf};
+ghost use Rattle.blif_text.specs.Walk.{stmtsFrom, StmtsAt, Inside};
+ghost use Rattle.blif_text.specs.Blocks.{blockWidth, defsAt, Blocks};
+ghost use Rattle.name_index.specs.Search.{signalIn};
+ghost use Rattle.name_index.specs.Index.{indexCells, entriesOf, Index};
+ghost use Rattle.blif_model.specs.Read.{tooLarge, coverFaults, Result, refused, readText};
+ghost use Rattle.blif_model.specs.Working.{placedCount, WorkRoom};
+ghost use Rattle.blif_decls.specs.Tables.{DefinedBy};
+ghost use Rattle.blif_uses.specs.Resolve.{Resolved, PlacedBy};
+ghost use Rattle.blif_gates.specs.Covers.{Buildable, BuiltBy};
+ghost use Rattle.blif_read.specs.Into.{lengths, enough, outcome, readInto};
+ghost use Rattle.blif_read.specs.Stages.{answered, countsIn, Holds, Enough, Readable, Sized, Resolving, Placing};
+
+// The network's counts, or a refusal's number.
+pub enum ReadAnswer {
+    Read(Counts),
+    Refused(u32),
+}
+
+// Whether slices of these lengths have as many cells as reading may need.
+fn enough_cells(
+    gates: usize,
+    pins: usize,
+    outputs: usize,
+    work_gates: usize,
+    work_pins: usize,
+) -> bool
+    ensures { λ r. ⌜ r ≡ enough (lengths gates pins outputs «work_gates» «work_pins») ⌝ }
+{
+    if gates < MAX_GATES * GATE_CELLS {
+        return false;
+    }
+    if pins < MAX_PINS {
+        return false;
+    }
+    if outputs < MAX_OUTPUTS {
+        return false;
+    }
+    if work_gates < MAX_GATES * GATE_CELLS {
+        return false;
+    }
+    work_pins >= MAX_PINS
+}
+
+// Whether the text has a byte of 128 or more.
+fn has_high_byte(text: &[u8]) -> bool
+    ensures { λ r. ⌜ r ≡ any (leb 128) (now (text .entry)) ⌝ }
+{
+    let mut i = 0;
+    while i < text.len() {
+        if text[i] >= 128 {
+            return true;
+        }
+        i += 1;
+    }
+    false
+}
+
+// Builds the covers' gates and sorts the network: refusal 14.
+fn read_built(
+    text: &[u8],
+    n: usize,
+    used: usize,
+    d: Defined,
+    gates: &mut [u32],
+    pins: &mut [u32],
+    outputs: &mut [u32],
+    work_gates: &mut [u32],
+    work_pins: &mut [u32],
+) -> ReadAnswer
+    requires { ⌜ Enough (now gates) (now pins) (now outputs) (now «work_gates») (now «work_pins») ⌝ }
+    requires { ⌜ Placing (now text) (now pins) n (now gates) (d .inputs) (d .gates) (d .outputs) (now «work_gates») (now «work_pins») (now outputs) used ⌝ }
+    ensures { λ r. ⌜ Holds (readText (now (text .entry))) r (now (gates .exit)) (now (pins .exit)) (now (outputs .exit)) ⌝ }
+{
+    let b = build_covers(text, pins, n, gates, d.gates, work_gates, work_pins, used);
+    let counts = Counts {
+        inputs: d.inputs,
+        gates: b.gates,
+        pins: b.pins,
+        outputs: d.outputs,
+    };
+    match topo_sort(counts, work_gates, work_pins, outputs, gates, pins) {
+        Sorted::Loop => ReadAnswer::Refused(14),
+        Sorted::Order(used_pins) => ReadAnswer::Read(Counts {
+            inputs: d.inputs,
+            gates: b.gates,
+            pins: used_pins,
+            outputs: d.outputs,
+        }),
+    }
+}
+
+// Places the gates and checks the covers: refusals 11 to 13.
+fn read_blocks(
+    text: &[u8],
+    n: usize,
+    index: &[u32],
+    d: Defined,
+    gates: &mut [u32],
+    pins: &mut [u32],
+    outputs: &mut [u32],
+    work_gates: &mut [u32],
+    work_pins: &mut [u32],
+) -> ReadAnswer
+    requires { ⌜ Enough (now gates) (now pins) (now outputs) (now «work_gates») (now «work_pins») ⌝ }
+    requires { ⌜ Resolving (now text) (now pins) n (now index) (now outputs) (now gates) (d .inputs) (d .gates) (d .outputs) ⌝ }
+    ensures { λ r. ⌜ Holds (readText (now (text .entry))) r (now (gates .exit)) (now (pins .exit)) (now (outputs .exit)) ⌝ }
+{
+    let g = d.gates;
+    let placed = place_gates(
+        text,
+        pins,
+        n,
+        index,
+        d.inputs + g,
+        gates,
+        g,
+        work_gates,
+        work_pins,
+    );
+    if !placed.found {
+        return ReadAnswer::Refused(11);
+    }
+    let bad = check_covers(text, pins, n, gates, g);
+    if bad != 0 {
+        return ReadAnswer::Refused(bad);
+    }
+    read_built(
+        text,
+        n,
+        placed.pins,
+        d,
+        gates,
+        pins,
+        outputs,
+        work_gates,
+        work_pins,
+    )
+}
+
+// Enters the names and gives each output its signal: refusals 7 to 11.
+fn read_names(
+    text: &[u8],
+    n: usize,
+    gates: &mut [u32],
+    pins: &mut [u32],
+    outputs: &mut [u32],
+    work_gates: &mut [u32],
+    work_pins: &mut [u32],
+) -> ReadAnswer
+    requires { ⌜ Enough (now gates) (now pins) (now outputs) (now «work_gates») (now «work_pins») ⌝ }
+    requires { ⌜ Sized (now text) (now pins) n ⌝ }
+    ensures { λ r. ⌜ Holds (readText (now (text .entry))) r (now (gates .exit)) (now (pins .exit)) (now (outputs .exit)) ⌝ }
+{
+    let mut index = [0u32; 4864];
+    let d = build_name_to_sig(text, pins, n, &mut index, work_pins, gates);
+    if d.refused != 0 {
+        return ReadAnswer::Refused(d.refused);
+    }
+    let o = d.outputs;
+    if !resolve_names(text, &index, d.inputs + d.gates, &work_pins[..o], outputs) {
+        return ReadAnswer::Refused(11);
+    }
+    read_blocks(
+        text,
+        n,
+        &index,
+        d,
+        gates,
+        pins,
+        outputs,
+        work_gates,
+        work_pins,
+    )
+}
+
+// Marks the tokens: refusals 4 to 6.
+fn read_tokens(
+    text: &[u8],
+    gates: &mut [u32],
+    pins: &mut [u32],
+    outputs: &mut [u32],
+    work_gates: &mut [u32],
+    work_pins: &mut [u32],
+) -> ReadAnswer
+    requires { ⌜ Enough (now gates) (now pins) (now outputs) (now «work_gates») (now «work_pins») ⌝ }
+    requires { ⌜ Readable (now text) ⌝ }
+    ensures { λ r. ⌜ Holds (readText (now (text .entry))) r (now (gates .exit)) (now (pins .exit)) (now (outputs .exit)) ⌝ }
+{
+    let n = mark_tokens(text, pins);
+    let bad = first_bad(text, pins, n);
+    if bad != 0 {
+        return ReadAnswer::Refused(bad);
+    }
+    if too_large(text, pins, n) {
+        return ReadAnswer::Refused(6);
+    }
+    read_names(text, n, gates, pins, outputs, work_gates, work_pins)
+}
+
+// Reads into cells that suffice: refusals 2 and 3.
+fn read_text(
+    text: &[u8],
+    gates: &mut [u32],
+    pins: &mut [u32],
+    outputs: &mut [u32],
+    work_gates: &mut [u32],
+    work_pins: &mut [u32],
+) -> ReadAnswer
+    requires { ⌜ Enough (now gates) (now pins) (now outputs) (now «work_gates») (now «work_pins») ⌝ }
+    ensures { λ r. ⌜ Holds (readText (now (text .entry))) r (now (gates .exit)) (now (pins .exit)) (now (outputs .exit)) ⌝ }
+{
+    if text.len() > MAX_TEXT {
+        return ReadAnswer::Refused(2);
+    }
+    if has_high_byte(text) {
+        return ReadAnswer::Refused(3);
+    }
+    read_tokens(text, gates, pins, outputs, work_gates, work_pins)
+}
+
+// Reads into any cells: refusal 1.
+fn read_cells(
+    text: &[u8],
+    gates: &mut [u32],
+    pins: &mut [u32],
+    outputs: &mut [u32],
+    work_gates: &mut [u32],
+    work_pins: &mut [u32],
+) -> ReadAnswer
+    ensures { λ r. ⌜ Holds (answered (now (text .entry)) (lengths (length (now (gates .entry))) (length (now (pins .entry))) (length (now (outputs .entry))) (length (now («work_gates» .entry))) (length (now («work_pins» .entry))))) r (now (gates .exit)) (now (pins .exit)) (now (outputs .exit)) ⌝ }
+{
+    if !enough_cells(
+        gates.len(),
+        pins.len(),
+        outputs.len(),
+        work_gates.len(),
+        work_pins.len(),
+    ) {
+        return ReadAnswer::Refused(1);
+    }
+    read_text(text, gates, pins, outputs, work_gates, work_pins)
+}
+
+// The counts of what was read; none of what was refused.
+fn counts_of(answer: ReadAnswer) -> Counts
+    ensures { λ r. ⌜ r ≡ countsIn answer ⌝ }
+{
+    match answer {
+        ReadAnswer::Read(counts) => counts,
+        ReadAnswer::Refused(_) => Counts {
+            inputs: 0,
+            gates: 0,
+            pins: 0,
+            outputs: 0,
+        },
+    }
+}
+
+// Zero in every cell from a place on.
+fn clear_from(cells: &mut [u32], at: usize)
+    ensures { λ _. ⌜ now (cells .exit) ≡ over (take at (now (cells .entry))) (zeros (length (now (cells .entry)))) ⌝ }
+{
+    if at < cells.len() {
+        fill_zero(&mut cells[at..]);
+    }
+}
+
+// Reads a text into the lent cells: the sorted network's gates, pins and outputs, and zero in every other cell.
+pub fn read_blif(
+    text: &[u8],
+    gates: &mut [u32],
+    pins: &mut [u32],
+    outputs: &mut [u32],
+    work_gates: &mut [u32],
+    work_pins: &mut [u32],
+) -> ReadAnswer
+    ensures { λ r. ⌜ outcome r (now (gates .exit)) (now (pins .exit)) (now (outputs .exit)) (now («work_gates» .exit)) (now («work_pins» .exit)) ≡ readInto (now (text .entry)) (lengths (length (now (gates .entry))) (length (now (pins .entry))) (length (now (outputs .entry))) (length (now («work_gates» .entry))) (length (now («work_pins» .entry)))) ⌝ }
+{
+    let answer = read_cells(text, gates, pins, outputs, work_gates, work_pins);
+    let counts = counts_of(answer);
+    clear_from(gates, counts.gates * GATE_CELLS);
+    clear_from(pins, counts.pins);
+    clear_from(outputs, counts.outputs);
+    fill_zero(work_gates);
+    fill_zero(work_pins);
+    answer
+}

@@ -1,0 +1,38 @@
+-- Names that are used, each by its signal: refusal 11, and the gates first placed (document 01, src/io/blif.rs: `build_network`).
+-- Assumes nothing: these are definitions.
+use mathlib.Core.Path.{_≡_}
+use mathlib.Core.Bool.{Bool, true, not}
+use mathlib.Core.List.{List, map, flatMap}
+use Prim.Native.Nat.{ℕ}
+use lib.Dec.{eqb}
+use lib.ListN.{length}
+use Rattle.lists.specs.Lists.{Bytes, all, over, sumOf}
+use Rattle.signal.specs.Signal.{Signal}
+use Rattle.signal.specs.Cell.{sigCell}
+use Rattle.blif_text.specs.Decls.{Def, uses}
+use Rattle.blif_model.specs.Working.{GatesIn, placed, placedCount}
+use Rattle.blif_uses.specs.declared.Placed.{Placed}
+
+-- a signal was found: zero is no name's
+abbrev pub isFound : ℕ → Bool
+isFound s = not (eqb 0 s)
+
+-- the signals of names were laid over cells, or one was not found
+pub record Resolved (signals cells cells′ : List ℕ) (r : Bool) : Type 0 where
+  -- whether all were found
+  pub found : r ≡ all isFound signals
+  -- they stand in the cells
+  pub laid : r ≡ true → cells′ ≡ over signals cells
+
+-- sig is the cell of each name's signal, where it is found
+abbrev pub Signals : (Bytes → ℕ) → (Bytes → Signal) → Type 0
+Signals sig look = (x : Bytes) → isFound (sig x) ≡ true → sig x ≡ sigCell (look x)
+
+-- the gates of definitions were placed in the working cells, or a name was not found
+pub record PlacedBy (sig : Bytes → ℕ) (ds : List Def) (gates pinsIn : List ℕ) (r : Placed) : Type 0 where
+  -- "11 when .. latch input or cover input is undefined"
+  pub found : r .found ≡ all isFound (map sig (flatMap uses ds))
+  -- the pins are counted
+  pub pins : r .found ≡ true → r .pins ≡ sumOf placedCount ds
+  -- the gates stand in the cells
+  pub gates-in : r .found ≡ true → (look : Bytes → Signal) → Signals sig look → GatesIn gates pinsIn (r .pins) (map (placed look) ds)
