@@ -16,6 +16,7 @@ mod limits;
 mod models;
 mod nets;
 mod network;
+mod plain_writer;
 mod points;
 mod reads;
 mod texts;
@@ -170,6 +171,7 @@ fn run(a: &[String]) {
         }
         "writes" => {
             let networks = writes::networks(a[2].parse().unwrap(), a[3].parse().unwrap());
+            writes::told_apart(&networks);
             std::fs::write(&a[4], writes::all_given(&networks)).unwrap();
             std::fs::write(&a[5], writes::answers(&networks).concat()).unwrap();
         }

@@ -1,7 +1,8 @@
 // The networks to write, their answers, and a comparison of a program's answers with them.
 use crate::generate::{make, Numbers, Plain, Shape};
-use crate::lent::{given, lent, shown, text, wanted, Lent, Wanted, MAX_TEXT};
+use crate::lent::{decoded, given, lent, shown, text, wanted, Lent, Wanted, MAX_TEXT};
 use crate::nets::Hand;
+use crate::plain_writer::{written, Mistake, MISTAKES};
 use crate::{layouts, nets, words, Signal};
 use std::collections::BTreeMap;
 use std::io::Write;
@@ -98,6 +99,28 @@ pub fn answers(ls: &[Lent]) -> Vec<String> {
     }
     eprintln!("{} networks; answers (0 for written): {seen:?}; with a .flop line: {flops}", ls.len());
     all
+}
+
+// Stops unless the plain writer writes the same texts, and each mistake is told apart; prints the gate count of the smallest network
+// that does.
+pub fn told_apart(ls: &[Lent]) {
+    let mut caught = vec![usize::MAX; MISTAKES.len()];
+    for l in ls {
+        let Wanted::Written(t) = wanted(l) else {
+            continue;
+        };
+        let p = decoded(l).unwrap();
+        assert!(written(&p, Mistake::Nothing) == t, "the plain writer and Quaigh differ\n{t}");
+        for (m, least) in MISTAKES.iter().zip(&mut caught) {
+            if p.gates.len() < *least && written(&p, *m) != t {
+                *least = p.gates.len();
+            }
+        }
+    }
+    for (m, n) in MISTAKES.iter().zip(&caught) {
+        assert!(*n != usize::MAX, "the list does not tell {m:?} apart");
+        eprintln!("{m:?} told apart by a network of {n} gates");
+    }
 }
 
 // What the program prints for the networks, a block for each.
