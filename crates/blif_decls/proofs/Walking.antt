@@ -64,14 +64,17 @@ module _ {text tokens : List ℕ} {n : ℕ} {index out blocks : List ℕ} {v : W
           gates = few-names .1;
         }
 
+    -- "256 outputs"
+    pub outputs-small : {run : Run} → RowIs text tokens n (v .at) r (place.Outputs run) → v .outputs + (r - v .at - 1) ≤ 256
+    outputs-small w = omega (arith, outputs-few (tabled-as c (outputs-decls w)), names-length w, sizes-within (decls (stmtsFrom text tokens n 0)) (c .small) .1)
+
     pub outputs-fit : {run : Run} → RowIs text tokens n (v .at) r (place.Outputs run)
         → (v .at + 1 ≤ r) × (r ≤ length tokens) × (v .outputs + (r - (v .at + 1)) ≤ length out)
-    outputs-fit w =
-        let s = sizes-within (decls (stmtsFrom text tokens n 0)) (c .small) in (
-          omega (arith, w .low),
-          omega (arith, w .rest .rows .high, w .rest .rows .places .room),
-          omega (arith, outputs-few (tabled-as c (outputs-decls w)), names-length w, s .1, c .outputs-room),
-        )
+    outputs-fit w = (
+      omega (arith, w .low),
+      omega (arith, w .rest .rows .high, w .rest .rows .places .room),
+      omega (arith, outputs-small w, c .outputs-room),
+    )
 
     pub latch-fit : {first : ℕ} → RowIs text tokens n (v .at) r (place.Latch first) → LatchFits text tokens index blocks v
     latch-fit w =

@@ -20,8 +20,7 @@ ghost use lib.Seq.{slice};
 ghost use Rattle.lists.specs.Lists.{zeros};
 ghost use Rattle.network.specs.Cells.{maxGates, maxOutputs};
 ghost use Rattle.blif_text.specs.Decls.{decls};
-ghost use Rattle.blif_text.specs.Places.{maxTokens};
-ghost use Rattle.blif_text.specs.Places.{tokenOf};
+ghost use Rattle.blif_text.specs.Places.{maxTokens, tokenOf};
 ghost use Rattle.blif_text.specs.Walk.{stmtsFrom, StmtsAt};
 ghost use Rattle.blif_text.specs.Blocks.{blockWidth};
 ghost use Rattle.name_index.specs.Index.{indexCells};
@@ -371,8 +370,7 @@ fn define_row(
     requires { ⌜ Going (now text) (now tokens) n (now index) (now «out_names») (now blocks) w × (w .at < n) ⌝ }
     ensures { λ r. ⌜ Steps (now (text .entry)) (now (tokens .entry)) n (now (index .exit)) (now («out_names» .exit)) (now (blocks .exit)) w r ⌝ }
 {
-    let at = w.at;
-    let row = row_at(text, tokens, n, at);
+    let row = row_at(text, tokens, n, w.at);
     let end = row.end;
     let statement = row.statement;
     let mut next = w;
@@ -384,12 +382,12 @@ fn define_row(
         }
         Statement::End => next.refused = end_refusal(w.seen),
         Statement::Inputs(_) => {
-            next.refused = enter_inputs(text, tokens, at + 1, end, index, w.inputs, w.gates);
-            next.inputs += end - at - 1;
+            next.refused = enter_inputs(text, tokens, w.at + 1, end, index, w.inputs, w.gates);
+            next.inputs += end - w.at - 1;
         }
         Statement::Outputs(_) => {
-            copy_outputs(tokens, at + 1, end, out_names, w.outputs);
-            next.outputs += end - at - 1;
+            copy_outputs(tokens, w.at + 1, end, out_names, w.outputs);
+            next.outputs += end - w.at - 1;
         }
         Statement::Latch(_) => next = define_latch(text, tokens, index, blocks, w, end),
         Statement::Names(_) => next = define_cover(text, tokens, n, index, blocks, w, end),

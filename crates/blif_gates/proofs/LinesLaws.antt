@@ -80,7 +80,7 @@ module _ {ls : List (List Bytes)} {inputs source start next at r : ℕ} {gates�
 -- ---- the rows of a cover
 
 -- i lines are done: their gates are put, and the row of the next one stands at `row`
-pub record Lining (text tokens : List ℕ) (n first count inputs : ℕ) (gates₀ : List ℕ) (next : ℕ) (pins₀ : List ℕ) (source start : ℕ) (gates pinsIn : List ℕ) (row at i : ℕ) : Type 0 where
+pub record Putting (text tokens : List ℕ) (n first count inputs : ℕ) (gates₀ : List ℕ) (next : ℕ) (pins₀ : List ℕ) (source start : ℕ) (gates pinsIn : List ℕ) (row at i : ℕ) : Type 0 where
   pub within : i ≤ count
   pub rows : RowsAt text tokens n row
   pub left : rowsFrom text tokens n row ≡ drop i (rowsFrom text tokens n first)
@@ -88,13 +88,13 @@ pub record Lining (text tokens : List ℕ) (n first count inputs : ℕ) (gates�
   pub same-pins : length pinsIn ≡ length pins₀
   pub put : LinesPut (take i (rowsFrom text tokens n first)) inputs source start next gates₀ pins₀ gates pinsIn at
 
-pub lining-start : {text tokens : List ℕ} {n first count inputs : ℕ} {gates : List ℕ} {next : ℕ} {pinsIn : List ℕ} {source start : ℕ} → GoodRows text tokens n first count inputs
-    → Lining text tokens n first count inputs gates next pinsIn source start gates pinsIn first start 0
-lining-start g = record { within = omega arith; rows = g .rows; left = refl; same-gates = refl; same-pins = refl; put = lines-none }
+pub putting-start : {text tokens : List ℕ} {n first count inputs : ℕ} {gates : List ℕ} {next : ℕ} {pinsIn : List ℕ} {source start : ℕ} → GoodRows text tokens n first count inputs
+    → Putting text tokens n first count inputs gates next pinsIn source start gates pinsIn first start 0
+putting-start g = record { within = omega arith; rows = g .rows; left = refl; same-gates = refl; same-pins = refl; put = lines-none }
 
 module _ {text tokens : List ℕ} {n first count inputs : ℕ} {gates₀ : List ℕ} {next : ℕ} {pins₀ : List ℕ} {source start : ℕ} {gates pinsIn : List ℕ} {row at i : ℕ}
     (g : GoodRows text tokens n first count inputs) (room : LinesRoom inputs count source start next gates₀ pins₀)
-    (w : Lining text tokens n first count inputs gates₀ next pins₀ source start gates pinsIn row at i) where
+    (w : Putting text tokens n first count inputs gates₀ next pins₀ source start gates pinsIn row at i) where
   abbrev all-rows : List (List Bytes)
   all-rows = rowsFrom text tokens n first
 
@@ -109,12 +109,12 @@ module _ {text tokens : List ℕ} {n first count inputs : ℕ} {gates₀ : List 
     done = length-take-le i all-rows (omega (arith, there))
 
     -- a row stands there
-    pub lining-there : row < n
-    lining-there = row-there (w .rows) (getD all-rows i []) (drop (suc i) all-rows) next-row
+    pub putting-there : row < n
+    putting-there = row-there (w .rows) (getD all-rows i []) (drop (suc i) all-rows) next-row
 
     -- room for its gate
-    pub lining-room : LineRoom inputs source at (next + i) gates pinsIn
-    lining-room =
+    pub putting-room : LineRoom inputs source at (next + i) gates pinsIn
+    putting-room =
         let m : (i + 1) * (inputs + 1) ≤ count * (inputs + 1) = mul-le-mul-right (inputs + 1) (omega arith) in
         let f : at ≤ start + i * (inputs + 1) = rw done at (w .put .few) in
         record {
@@ -126,14 +126,14 @@ module _ {text tokens : List ℕ} {n first count inputs : ℕ} {gates₀ : List 
 
     module _ {end : ℕ} (e : RowTo tokens row n end) where
       this-row : rowTokens text tokens row end ≡ getD all-rows i []
-      this-row = let p = rows-are (w .rows) lining-there e in cc (next-row, p)
+      this-row = let p = rows-are (w .rows) putting-there e in cc (next-row, p)
 
       rest-rows : rowsFrom text tokens n end ≡ drop (suc i) all-rows
-      rest-rows = let p = rows-are (w .rows) lining-there e in cc (next-row, p)
+      rest-rows = let p = rows-are (w .rows) putting-there e in cc (next-row, p)
 
       -- it is a good line
-      pub lining-row : GoodRow text tokens row end inputs
-      lining-row =
+      pub putting-row : GoodRow text tokens row end inputs
+      putting-row =
           record {
             low = e .low;
             places = inside-less (e .high) (w .rows .places);
@@ -144,24 +144,24 @@ module _ {text tokens : List ℕ} {n first count inputs : ℕ} {gates₀ : List 
           }
 
       -- its gate is put
-      pub lining-next : {gates′ pinsIn′ : List ℕ} {r : ℕ}
+      pub putting-next : {gates′ pinsIn′ : List ℕ} {r : ℕ}
           → LinePut (columns (rowTokens text tokens row end)) (isOne (rowTokens text tokens row end)) source at (next + i) gates pinsIn gates′ pinsIn′ r
-          → Lining text tokens n first count inputs gates₀ next pins₀ source start gates′ pinsIn′ end r (i + 1)
-      lining-next {gates′} {pinsIn′} {r} p =
+          → Putting text tokens n first count inputs gates₀ next pins₀ source start gates′ pinsIn′ end r (i + 1)
+      putting-next {gates′} {pinsIn′} {r} p =
           let t : take (i + 1) all-rows ≡ take i all-rows ++ (rowTokens text tokens row end ∷ []) =
           ap (λ (k : ℕ). take k all-rows) (add-one i) ∙ take-suc all-rows i [] there ∙ ap (λ (x : List Bytes). take i all-rows ++ (x ∷ [])) (sym this-row) in
           record {
             within = omega arith;
-            rows = rows-next (w .rows) lining-there e;
+            rows = rows-next (w .rows) putting-there e;
             left = rest-rows ∙ ap (λ (k : ℕ). drop k all-rows) (sym (add-one i));
             same-gates = line-same p .0 ∙ w .same-gates;
             same-pins = line-same p .1 ∙ w .same-pins;
             put =
                 subst (λ (ls : List (List Bytes)). LinesPut ls inputs source start next gates₀ pins₀ gates′ pinsIn′ r) (sym t)
-                (lines-more (rowTokens text tokens row end) (room .sources) (w .put) (row-wide lining-row)
-                (subst (λ (k : ℕ). LineRoom inputs source at (next + k) gates pinsIn) (sym done) lining-room)
+                (lines-more (rowTokens text tokens row end) (room .sources) (w .put) (row-wide putting-row)
+                (subst (λ (k : ℕ). LineRoom inputs source at (next + k) gates pinsIn) (sym done) putting-room)
                 (subst (λ (k : ℕ). LinePut (columns (rowTokens text tokens row end)) (isOne (rowTokens text tokens row end)) source at (next + k) gates pinsIn gates′ pinsIn′ r) (sym done) p));
           }
 
-  pub lining-done : count ≤ i → LinesPut (take count all-rows) inputs source start next gates₀ pins₀ gates pinsIn at
-  lining-done h = let e : i ≡ count = omega (arith, w .within) in subst (λ (k : ℕ). LinesPut (take k all-rows) inputs source start next gates₀ pins₀ gates pinsIn at) e (w .put)
+  pub putting-done : count ≤ i → LinesPut (take count all-rows) inputs source start next gates₀ pins₀ gates pinsIn at
+  putting-done h = let e : i ≡ count = omega (arith, w .within) in subst (λ (k : ℕ). LinesPut (take k all-rows) inputs source start next gates₀ pins₀ gates pinsIn at) e (w .put)

@@ -1,8 +1,8 @@
 -- `define_gate` enters a name and writes a record. Assumes nothing.
 use native.Mathlib.Omega.{arith}
 use borrow.Author.Tests.{not-true, not-false}
-use Rattle.blif_decls.proofs.Entering.{gate-known, gate-new}
 use borrow.Author.Needs.{needs}
+use Rattle.blif_decls.proofs.Entering.{gate-known, gate-new}
 use Rattle.blif_decls.proofs.define_gate.Statement.{statement}
 use Rattle.blif_decls.proofs.define_gate.Tie as tie
 

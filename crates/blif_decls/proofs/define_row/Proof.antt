@@ -1,9 +1,10 @@
 -- `define_row` passes a statement. Assumes nothing.
+use native.Mathlib.Omega.{arith}
+use borrow.Author.Needs.{needs}
 use Rattle.blif_decls.proofs.RowStarts.{row-as}
 use Rattle.blif_decls.proofs.Defining.{go-cube, go-exdc, go-model, go-end, go-inputs, go-outputs}
 use Rattle.blif_decls.proofs.DefiningGates.{go-latch, go-cover}
-use Rattle.blif_decls.proofs.Walking.{inputs-fit, outputs-fit, latch-fit, cover-fit}
-use borrow.Author.Needs.{needs}
+use Rattle.blif_decls.proofs.Walking.{inputs-fit, outputs-fit, outputs-small, latch-fit, cover-fit}
 use Rattle.blif_decls.proofs.define_row.Statement.{statement}
 use Rattle.blif_decls.proofs.define_row.Tie as tie
 
@@ -29,7 +30,7 @@ add-enter-inputs : tie.Need-add-enter-inputs
 add-enter-inputs c = search needs
 
 enter-inputs-requires : tie.Need-enter-inputs-requires
-enter-inputs-requires c κs = inputs-fit (c .before .before .before .before .before .before .before .before .before .pre .0) (row-as (c .before .before .before .row-at .ensures) (c .before .enum-told3 .given .1))
+enter-inputs-requires c κs = inputs-fit (c .before .before .before .before .before .before .before .before .before .before .pre .0) (row-as (c .before .before .before .before .row-at .ensures) (c .before .before .enum-told3 .given .1))
 
 sub-next : tie.Need-sub-next
 sub-next c = search needs
@@ -38,7 +39,7 @@ sub-next-2 : tie.Need-sub-next-2
 sub-next-2 c = search needs
 
 add-next : tie.Need-add-next
-add-next c = search needs
+add-next c = omega (arith, inputs-fit (c .before .before .before .before .before .before .before .before .before .before .before .before .before .before .before .pre .0) (row-as (c .before .before .before .before .before .before .before .before .before .row-at .ensures) (c .before .before .before .before .before .before .before .enum-told3 .given .1)) .inputs)
 
 enum-told-4 : tie.Need-enum-told-4
 enum-told-4 c = search needs
@@ -47,7 +48,7 @@ add-copy-outputs : tie.Need-add-copy-outputs
 add-copy-outputs c = search needs
 
 copy-outputs-requires : tie.Need-copy-outputs-requires
-copy-outputs-requires c κs = outputs-fit (c .before .before .before .before .before .before .before .before .before .pre .0) (row-as (c .before .before .before .row-at .ensures) (c .before .enum-told4 .given .1))
+copy-outputs-requires c κs = outputs-fit (c .before .before .before .before .before .before .before .before .before .before .pre .0) (row-as (c .before .before .before .before .row-at .ensures) (c .before .before .enum-told4 .given .1))
 
 sub-next-3 : tie.Need-sub-next-3
 sub-next-3 c = search needs
@@ -56,7 +57,7 @@ sub-next-4 : tie.Need-sub-next-4
 sub-next-4 c = search needs
 
 add-next-2 : tie.Need-add-next-2
-add-next-2 c = search needs
+add-next-2 c = omega (arith, outputs-small (c .before .before .before .before .before .before .before .before .before .before .before .before .before .before .before .pre .0) (row-as (c .before .before .before .before .before .before .before .before .before .row-at .ensures) (c .before .before .before .before .before .before .before .enum-told4 .given .1)))
 
 enum-told-5 : tie.Need-enum-told-5
 enum-told-5 c = search needs
@@ -91,13 +92,13 @@ same-length : tie.Need-same-length
 same-length c = search needs
 
 returns-3 : tie.Need-returns-3
-returns-3 c = go-inputs (c .before .before .before .before .before .before .before .before .before .before .before .before .before .pre .0) (row-as (c .before .before .before .before .before .before .before .row-at .ensures) (c .before .before .before .before .before .enum-told3 .given .1)) (c .before .before .before .enter-inputs .ensures)
+returns-3 c = go-inputs (c .before .before .before .before .before .before .before .before .before .before .before .before .before .before .before .pre .0) (row-as (c .before .before .before .before .before .before .before .before .before .row-at .ensures) (c .before .before .before .before .before .before .before .enum-told3 .given .1)) (c .before .before .before .before .enter-inputs .ensures)
 
 same-length-2 : tie.Need-same-length-2
 same-length-2 c = search needs
 
 returns-4 : tie.Need-returns-4
-returns-4 c = go-outputs (c .before .before .before .before .before .before .before .before .before .before .before .before .before .pre .0) (row-as (c .before .before .before .before .before .before .before .row-at .ensures) (c .before .before .before .before .before .enum-told4 .given .1)) (c .before .before .before .copy-outputs .ensures) (c .before .before .before .copy-outputs .kept .1 .1 .1 .0)
+returns-4 c = go-outputs (c .before .before .before .before .before .before .before .before .before .before .before .before .before .before .before .pre .0) (row-as (c .before .before .before .before .before .before .before .before .before .row-at .ensures) (c .before .before .before .before .before .before .before .enum-told4 .given .1)) (c .before .before .before .before .copy-outputs .ensures) (c .before .before .before .before .copy-outputs .kept .1 .1 .1 .0)
 
 same-length-3 : tie.Need-same-length-3
 same-length-3 c = search needs

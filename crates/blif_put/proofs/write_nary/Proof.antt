@@ -1,0 +1,46 @@
+-- `write_nary` writes the names, the gate and the lines. Assumes nothing.
+use borrow.Author.Needs.{needs}
+use mathlib.Core.List.{map}
+use mathlib.Core.Path.{refl}
+use Rattle.signal.specs.Cell.{sigOf}
+use Rattle.blif_model.specs.Names.{nameBytes}
+use Rattle.blif_model.specs.Write.{gateName}
+use Rattle.gates.specs.Forms.{naryForm}
+use Rattle.blif_model.specs.Write.{linesOf}
+use Rattle.blif_put.proofs.Laws.{and-append, as-text, from-start}
+use Rattle.blif_put.proofs.Texts.{nary-text}
+use Rattle.blif_put.proofs.write_nary.Statement.{statement}
+use Rattle.blif_put.proofs.write_nary.Tie as tie
+
+slice-aggregate-append : tie.Need-slice-aggregate-append
+slice-aggregate-append c = search needs
+
+append-requires : tie.Need-append-requires
+append-requires c κs = search needs
+
+append-signals-requires : tie.Need-append-signals-requires
+append-signals-requires c κs = search needs
+
+append-end-requires : tie.Need-append-end-requires
+append-end-requires c κs = search needs
+
+append-nary-lines-requires : tie.Need-append-nary-lines-requires
+append-nary-lines-requires c κs = search needs
+
+same-length : tie.Need-same-length
+same-length c = search needs
+
+returns : tie.Need-returns
+returns c = from-start (as-text (nary-text (c .before .before .before .before .before .before .before .before .before .before .before .before .before .before .before .before .before .before .before .args .t) (c .before .before .before .before .before .before .before .before .before .before .before .before .before .before .before .before .before .before .before .args .run .now) (c .before .before .before .before .before .before .before .before .before .before .before .before .before .before .before .before .before .before .before .args .g)) (and-append (and-append (and-append (c .before .before .before .before .before .before .before .before .before .before .before .before .before .before .append .ensures) (c .before .before .before .before .before .before .before .before .before .before .append-signals .ensures)) (c .before .before .before .before .before .before .append-end .ensures)) (c .before .before .append-nary-lines .ensures)))
+
+pub write-nary-spec : {M : Type 1} → statement M
+write-nary-spec =
+    tie.close
+    (tie.spec
+    slice-aggregate-append
+    append-requires
+    append-signals-requires
+    append-end-requires
+    append-nary-lines-requires
+    same-length
+    returns)

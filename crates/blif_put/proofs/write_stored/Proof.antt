@@ -1,0 +1,58 @@
+-- `write_stored` writes the line by the enable and the reset. Assumes nothing.
+use borrow.Author.Needs.{needs}
+use mathlib.Core.Path.{sym, _∙_}
+use borrow.Author.Tests.{not-true, not-false}
+use Rattle.signal.specs.Cell.{sigOf}
+use Rattle.blif_put.proofs.Laws.{as-wrote}
+use Rattle.blif_put.proofs.Texts.{stored-enabled, stored-reset, stored-plain}
+use Rattle.blif_put.proofs.write_stored.Statement.{statement}
+use Rattle.blif_put.proofs.write_stored.Tie as tie
+
+is-value-requires : tie.Need-is-value-requires
+is-value-requires c κs = search needs
+
+write-flop-requires : tie.Need-write-flop-requires
+write-flop-requires c κs = search needs
+
+same-length : tie.Need-same-length
+same-length c = search needs
+
+returns : tie.Need-returns
+returns c = as-wrote (stored-enabled (sigOf (c .before .before .before .before .before .before .before .args .d .a)) (sigOf (c .before .before .before .before .before .before .before .args .e .a)) (sigOf (c .before .before .before .before .before .before .before .args .r .a)) (c .before .before .before .before .before .before .before .args .g) (sym (c .before .before .before .before .before .is-value .ensures) ∙ not-true _ (c .before .before .before .before .if1 .taken))) (c .before .before .write-flop .ensures)
+
+is-value-requires-2 : tie.Need-is-value-requires-2
+is-value-requires-2 c κs = search needs
+
+write-flop-requires-2 : tie.Need-write-flop-requires-2
+write-flop-requires-2 c κs = search needs
+
+same-length-2 : tie.Need-same-length-2
+same-length-2 c = search needs
+
+returns-2 : tie.Need-returns-2
+returns-2 c = as-wrote (stored-reset (sigOf (c .before .before .before .before .before .before .before .before .before .args .d .a)) (sigOf (c .before .before .before .before .before .before .before .before .before .args .e .a)) (sigOf (c .before .before .before .before .before .before .before .before .before .args .r .a)) (c .before .before .before .before .before .before .before .before .before .args .g) (sym (c .before .before .before .before .before .is-value2 .ensures) ∙ not-true _ (c .before .before .before .before .if2 .taken))) (c .before .before .write-flop2 .ensures)
+
+write-plain-requires : tie.Need-write-plain-requires
+write-plain-requires c κs = search needs
+
+same-length-3 : tie.Need-same-length-3
+same-length-3 c = search needs
+
+returns-3 : tie.Need-returns-3
+returns-3 c = as-wrote (stored-plain (sigOf (c .before .before .before .before .before .before .before .before .before .args .d .a)) (sigOf (c .before .before .before .before .before .before .before .before .before .args .e .a)) (sigOf (c .before .before .before .before .before .before .before .before .before .args .r .a)) (c .before .before .before .before .before .before .before .before .before .args .g) (sym (c .before .before .before .before .before .before .before .is-value .ensures) ∙ not-false _ (c .before .before .before .before .before .before .if1 .left)) (sym (c .before .before .before .before .before .is-value2 .ensures) ∙ not-false _ (c .before .before .before .before .if2 .left))) (c .before .before .write-plain .ensures)
+
+pub write-stored-spec : {M : Type 1} → statement M
+write-stored-spec =
+    tie.close
+    (tie.spec
+    is-value-requires
+    write-flop-requires
+    same-length
+    returns
+    is-value-requires-2
+    write-flop-requires-2
+    same-length-2
+    returns-2
+    write-plain-requires
+    same-length-3
+    returns-3)

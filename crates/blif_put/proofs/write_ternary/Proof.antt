@@ -1,0 +1,65 @@
+-- `write_ternary` writes the names, the gate and the lines. Assumes nothing.
+use borrow.Author.Needs.{needs}
+use mathlib.Core.List.{[], _∷_}
+use Rattle.signal.specs.Cell.{sigOf}
+use Rattle.blif_model.specs.Names.{nameBytes}
+use Rattle.blif_model.specs.Write.{gateName}
+use Rattle.gates.specs.Forms.{ternaryForm}
+use Rattle.blif_model.specs.Write.{linesOf}
+use Rattle.blif_put.proofs.Laws.{and-append, as-text, from-start}
+use Rattle.blif_put.proofs.Texts.{names-then, three-names}
+use Rattle.blif_put.proofs.write_ternary.Statement.{statement}
+use Rattle.blif_put.proofs.write_ternary.Tie as tie
+
+slice-aggregate-append : tie.Need-slice-aggregate-append
+slice-aggregate-append c = search needs
+
+append-requires : tie.Need-append-requires
+append-requires c κs = search needs
+
+slice-aggregate-append-name : tie.Need-slice-aggregate-append-name
+slice-aggregate-append-name c = search needs
+
+append-name-requires : tie.Need-append-name-requires
+append-name-requires c κs = search needs
+
+slice-aggregate-append-name-2 : tie.Need-slice-aggregate-append-name-2
+slice-aggregate-append-name-2 c = search needs
+
+append-name-requires-2 : tie.Need-append-name-requires-2
+append-name-requires-2 c κs = search needs
+
+slice-aggregate-append-name-3 : tie.Need-slice-aggregate-append-name-3
+slice-aggregate-append-name-3 c = search needs
+
+append-name-requires-3 : tie.Need-append-name-requires-3
+append-name-requires-3 c κs = search needs
+
+append-end-requires : tie.Need-append-end-requires
+append-end-requires c κs = search needs
+
+append-ternary-lines-requires : tie.Need-append-ternary-lines-requires
+append-ternary-lines-requires c κs = search needs
+
+same-length : tie.Need-same-length
+same-length c = search needs
+
+returns : tie.Need-returns
+returns c = from-start (as-text (names-then (nameBytes (sigOf (c .before .before .before .before .before .before .before .before .before .before .before .before .before .before .before .before .before .before .before .before .before .before .before .before .before .before .before .before .before .args .a .a)) ∷ nameBytes (sigOf (c .before .before .before .before .before .before .before .before .before .before .before .before .before .before .before .before .before .before .before .before .before .before .before .before .before .before .before .before .before .args .b .a)) ∷ nameBytes (sigOf (c .before .before .before .before .before .before .before .before .before .before .before .before .before .before .before .before .before .before .before .before .before .before .before .before .before .before .before .before .before .args .c .a)) ∷ []) (gateName nameBytes (c .before .before .before .before .before .before .before .before .before .before .before .before .before .before .before .before .before .before .before .before .before .before .before .before .before .before .before .before .before .args .g)) (linesOf (ternaryForm (c .before .before .before .before .before .before .before .before .before .before .before .before .before .before .before .before .before .before .before .before .before .before .before .before .before .before .before .before .before .args .t)) 3) (three-names (nameBytes (sigOf (c .before .before .before .before .before .before .before .before .before .before .before .before .before .before .before .before .before .before .before .before .before .before .before .before .before .before .before .before .before .args .a .a))) (nameBytes (sigOf (c .before .before .before .before .before .before .before .before .before .before .before .before .before .before .before .before .before .before .before .before .before .before .before .before .before .before .before .before .before .args .b .a))) (nameBytes (sigOf (c .before .before .before .before .before .before .before .before .before .before .before .before .before .before .before .before .before .before .before .before .before .before .before .before .before .before .before .before .before .args .c .a))))) (and-append (and-append (and-append (and-append (and-append (c .before .before .before .before .before .before .before .before .before .before .before .before .before .before .before .before .before .before .before .before .before .before .before .before .before .append .ensures) (c .before .before .before .before .before .before .before .before .before .before .before .before .before .before .before .before .before .before .before .before .append-name .ensures)) (c .before .before .before .before .before .before .before .before .before .before .before .before .before .before .before .append-name2 .ensures)) (c .before .before .before .before .before .before .before .before .before .before .append-name3 .ensures)) (c .before .before .before .before .before .before .append-end .ensures)) (c .before .before .append-ternary-lines .ensures)))
+
+pub write-ternary-spec : {M : Type 1} → statement M
+write-ternary-spec =
+    tie.close
+    (tie.spec
+    slice-aggregate-append
+    append-requires
+    slice-aggregate-append-name
+    append-name-requires
+    slice-aggregate-append-name-2
+    append-name-requires-2
+    slice-aggregate-append-name-3
+    append-name-requires-3
+    append-end-requires
+    append-ternary-lines-requires
+    same-length
+    returns)

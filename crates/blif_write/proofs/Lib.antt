@@ -1,0 +1,8 @@
+pub mod Covers
+pub mod Walks
+pub mod Heads
+pub mod Marking
+pub mod GateMarks
+pub mod Inverters
+pub mod Used
+pub mod Whole

@@ -1,0 +1,164 @@
+-- The whole text, and what `write_blif` answers. Assumes nothing.
+use mathlib.Core.Path.{_≡_, refl, sym, _∙_, ap, ap₂}
+use mathlib.Core.Bool.{Bool, true, false, not, _||_}
+use mathlib.Core.List.{List, [], _∷_, _++_, map, flatMap, append-assoc}
+use Prim.Native.Nat.{ℕ, zero, suc, _+_, _-_, _^_, _≤_, _<_, min}
+use native.Mathlib.Nat.{sub-zero}
+use native.Mathlib.Omega.{arith}
+use lib.Dec.{ltb}
+use lib.ListN.{length, getD, take, drop, replicate, length-append, length-take, length-drop, length-replicate, length-map, drop-of-length-le}
+use lib.Seq.{take-all, take-append-le, length-take-le}
+use borrow.Author.Tests.{lt-ltb, le-ltb}
+use Rattle.lists.specs.Lists.{if_then_else_, Bytes, bytes, zeros, any, over, range}
+use Rattle.lists.proofs.Over.{length-over, over-is, take-over}
+use Rattle.lists.proofs.Range.{length-range}
+use Rattle.lists.proofs.Tests.{by-order}
+use Rattle.signal.specs.Cell.{sigOf}
+use Rattle.network.specs.Net.{Net}
+use Rattle.network.specs.Cells.{Lent, isNetwork, netOf, gateAt, orBuf, Words}
+use Rattle.network.proofs.Lent.{network-readable, network-sizes}
+use Rattle.blif_text.specs.Places.{maxText}
+use Rattle.blif_model.specs.Names.{nameBytes}
+use Rattle.blif_model.specs.Write.{latchBlocks, combBlocks, inverterBlock, inverters}
+use Rattle.blif_model.specs.Render.{line, allLines, textLines, textOf}
+use Rattle.blif_put.specs.Text.{Wrote}
+use Rattle.blif_put.proofs.Laws.{part-back, part-is}
+use Rattle.blif_write.specs.Into.{outcome, refusedText, writtenText, wide, tooLong, writeInto}
+use Rattle.blif_write.specs.declared.WriteAnswer.the-variants.{Written, Refused}
+use Rattle.blif_write.specs.Parts.{blocksText, latchesText, coversText, headLines, headText, held, Readable, netIn, invertersText, Writable}
+use Rattle.blif_put.proofs.Texts.{lines-append}
+
+-- ---- the whole text
+
+to-right : (a b c d e f : Bytes) → ((((a ++ b) ++ c) ++ d) ++ e) ++ f ≡ a ++ (b ++ (c ++ (d ++ (e ++ f))))
+to-right a b c d e f = simp append-assoc
+
+pub whole-text : (net : Net)
+    → ((((headText (net .inputs) (net .outputs) ++ latchesText 0 (net .gates)) ++ bytes "\n") ++ coversText 0 (net .gates)) ++ invertersText net)
+    ++ bytes ".names vdd\n1\n.names gnd\n" ≡ textOf net
+unfolding headText line flatMap
+whole-text net =
+    let ls : List Bytes = allLines (latchBlocks nameBytes 0 (net .gates)) in
+    let cs : List Bytes = allLines (combBlocks nameBytes 0 (net .gates)) in
+    let is : List Bytes = allLines (map (inverterBlock nameBytes) (inverters net)) in
+    let ts : List Bytes = bytes ".names vdd" ∷ bytes "1" ∷ bytes ".names gnd" ∷ [] in
+    let h : Bytes = headText (net .inputs) (net .outputs) in
+    to-right h (flatMap line ls) (bytes "\n") (flatMap line cs) (flatMap line is) (bytes ".names vdd\n1\n.names gnd\n")
+    ∙ ap (λ (t : Bytes). h ++ (flatMap line ls ++ (bytes "\n" ++ (flatMap line cs ++ t)))) (sym (lines-append is ts))
+    ∙ ap (λ (t : Bytes). h ++ (flatMap line ls ++ (bytes "\n" ++ t))) (sym (lines-append cs (is ++ ts)))
+    ∙ ap (λ (t : Bytes). h ++ t) (sym (lines-append ls ([] ∷ (cs ++ (is ++ ts)))))
+    ∙ sym (lines-append (headLines (net .inputs) (net .outputs)) (ls ++ ([] ∷ (cs ++ (is ++ ts)))))
+
+pub held-length : (cells ps : List ℕ) (n : ℕ) → length (held cells ps 0 n) ≡ n
+held-length cells ps n = length-map (range 0 n) (λ (i : ℕ). orBuf (gateAt cells ps i)) ∙ length-range 0 n
+
+-- ---- what refusal 20 leaves
+
+pub network-read : (l : Lent) → ((i : ℕ) → getD (l .pinsLent) i 0 < 2 ^ 32) → ((i : ℕ) → getD (l .outsLent) i 0 < 2 ^ 32) → isNetwork l ≡ true
+    → Readable (l .cells) (l .pinsLent) (l .counts .gates)
+network-read l p o e = record { few = network-sizes l e .few-gates; read = network-readable l (record { pinWords = p; outWords = o }) e }
+
+-- the gates of the network, as the code reads them
+pub held-gates : (l : Lent) → held (l .cells) (l .pinsLent) 0 (l .counts .gates) ≡ netOf l .gates
+unfolding netOf
+held-gates l = refl
+
+pub net-is : (l : Lent) → netIn (l .counts .inputs) (l .cells) (l .pinsLent) (l .counts .gates) (take (l .counts .outputs) (l .outsLent)) ≡ netOf l
+unfolding netOf
+net-is l = refl
+
+-- ---- the answers
+
+module _ (l : Lent) (n : ℕ) where
+  pub answers-layout : isNetwork l ≡ false → refusedText 20 n ≡ writeInto l n
+  unfolding writeInto
+  answers-layout e = sym (rw e)
+
+  pub answers-wide : isNetwork l ≡ true → any wide (netOf l .gates) ≡ true → refusedText 21 n ≡ writeInto l n
+  unfolding writeInto
+  answers-wide e w = sym (rw (e, w))
+
+  answers-text : Writable l → (if tooLong (textOf (netOf l)) n then refusedText 22 n else writtenText (textOf (netOf l)) n) ≡ writeInto l n
+  unfolding writeInto
+  answers-text w = sym (rw (w .network, w .narrow))
+
+  pub answers-long : Writable l → tooLong (textOf (netOf l)) n ≡ true → refusedText 22 n ≡ writeInto l n
+  answers-long w e = ap (λ (b : Bool). if b then refusedText 22 n else writtenText (textOf (netOf l)) n) (sym e) ∙ answers-text w
+
+  pub answers-written : Writable l → tooLong (textOf (netOf l)) n ≡ false → writtenText (textOf (netOf l)) n ≡ writeInto l n
+  answers-written w e = ap (λ (b : Bool). if b then refusedText 22 n else writtenText (textOf (netOf l)) n) (sym e) ∙ answers-text w
+
+or-true : (b : Bool) → (b || true) ≡ true
+or-true true = refl
+or-true false = refl
+
+-- the two limits are one
+too-long : (t : Bytes) (n : ℕ) → min n maxText < length t → tooLong t n ≡ true
+too-long t n h =
+    by-order (length t) n
+    (λ k. ap (λ (b : Bool). ltb n (length t) || b) (lt-ltb maxText (length t) (omega arith)) ∙ or-true (ltb n (length t)))
+    (λ k. ap (λ (b : Bool). b || ltb maxText (length t)) (lt-ltb n (length t) k))
+
+short-enough : (t : Bytes) (n : ℕ) → length t ≤ min n maxText → tooLong t n ≡ false
+short-enough t n h = ap₂ (λ (a b : Bool). a || b) (le-ltb n (length t) (omega arith)) (le-ltb maxText (length t) (omega arith))
+
+drop-zeros : (k n : ℕ) → drop k (zeros n) ≡ zeros (n - k)
+drop-zeros zero n = ap zeros (sym (sub-zero n))
+drop-zeros (suc k) zero = ap zeros (let e : 0 ≡ 0 - suc k = omega arith in e)
+drop-zeros (suc k) (suc n) = drop-zeros k n ∙ ap zeros (let e : n - k ≡ suc n - suc k = omega arith in e)
+
+-- a slice of which the room was lent to a writer of the text t, and what the writer left of it
+module _ (t o q : Bytes) (room end : ℕ) (r : room ≡ min (length o) maxText) (w : Wrote t (take room o) q end) where
+  room-length : length (take room o) ≡ room
+  room-length = length-take-le room o (omega arith)
+
+  left-length : length q ≡ room
+  left-length = ap length (w .out) ∙ length-over t (take room o) ∙ room-length
+
+  after-length : length (q ++ drop room o) ≡ length o
+  after-length = omega (arith, length-append q (drop room o), length-drop room o, left-length)
+
+  wrote-long : room < end → tooLong t (length o) ≡ true
+  wrote-long h = too-long t (length o) (omega (arith, w .len, room-length))
+
+  wrote-short : end ≤ room → tooLong t (length o) ≡ false
+  wrote-short h = short-enough t (length o) (omega (arith, w .len, room-length))
+
+  module _ (h : end ≤ room) where
+    end-is : end ≡ length t
+    end-is = omega (arith, w .len, room-length)
+
+    text-kept : take end (q ++ drop room o) ≡ t
+    text-kept =
+        ap (λ (k : ℕ). take k (q ++ drop room o)) end-is
+        ∙ take-append-le (length t) q (drop room o) (omega (arith, end-is, left-length))
+        ∙ ap (take (length t)) (w .out)
+        ∙ take-over t (take room o) (omega (arith, end-is, room-length))
+
+    -- zeros in all of what is left behind the text
+    zeros-behind : {z : Bytes} → z ≡ zeros (length (take (length (q ++ drop room o) - end) (drop end (q ++ drop room o))))
+        → take end (q ++ drop room o) ++ (z ++ drop (length (q ++ drop room o) - end) (drop end (q ++ drop room o))) ≡ over t (zeros (length o))
+    zeros-behind {z} e =
+        let p : Bytes = q ++ drop room o in
+        let k : length (take (length p - end) (drop end p)) ≡ length o - length t =
+        ap length (part-is end p) ∙ length-drop end p ∙ omega (arith, after-length, end-is) in
+        part-back end p z (omega (arith, after-length, r))
+        ∙ ap₂ (λ (a b : Bytes). a ++ b) text-kept (e ∙ ap zeros k ∙ sym (drop-zeros (length t) (length o)))
+        ∙ sym (over-is t (zeros (length o)) (omega (arith, end-is, r, length-replicate {A = ℕ} (length o) 0)))
+
+-- the text of the network that the code reads
+abbrev textIn : Lent → Bytes
+textIn l = textOf (netIn (l .counts .inputs) (l .cells) (l .pinsLent) (l .counts .gates) (take (l .counts .outputs) (l .outsLent)))
+
+module _ (l : Lent) (o : Bytes) {q : Bytes} {room end : ℕ} (w : Writable l) (r : room ≡ min (length o) maxText) (v : Wrote (textIn l) (take room o) q end) where
+  pub ends-long : room < end → refusedText 22 (length (q ++ drop room o)) ≡ writeInto l (length o)
+  ends-long h =
+      ap (refusedText 22) (after-length (textIn l) o q room end r v)
+      ∙ answers-long l (length o) w (ap (λ (net : Net). tooLong (textOf net) (length o)) (sym (net-is l)) ∙ wrote-long (textIn l) o q room end r v h)
+
+  pub ends-written : {z : Bytes} → end ≤ room → z ≡ zeros (length (take (length (q ++ drop room o) - end) (drop end (q ++ drop room o))))
+      → outcome (Written end) (take end (q ++ drop room o) ++ (z ++ drop (length (q ++ drop room o) - end) (drop end (q ++ drop room o)))) ≡ writeInto l (length o)
+  ends-written h e =
+      ap₂ (λ (n : ℕ) (p : Bytes). outcome (Written n) p) (end-is (textIn l) o q room end r v h) (zeros-behind (textIn l) o q room end r v h e)
+      ∙ ap (λ (net : Net). writtenText (textOf net) (length o)) (net-is l)
+      ∙ answers-written l (length o) w (ap (λ (net : Net). tooLong (textOf net) (length o)) (sym (net-is l)) ∙ wrote-short (textIn l) o q room end r v h)

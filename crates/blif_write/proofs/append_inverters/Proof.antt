@@ -1,0 +1,50 @@
+-- `append_inverters` marks the signals and writes by the marks. Assumes nothing.
+use borrow.Author.Needs.{needs}
+use mathlib.Core.Path.{sym}
+use Rattle.blif_put.proofs.Laws.{and-append, as-text}
+use Rattle.blif_write.proofs.Whole.{held-length}
+use Rattle.blif_write.proofs.Used.{inverters-written}
+use Rattle.blif_write.specs.Parts.{netIn}
+use Rattle.blif_write.proofs.append_inverters.Statement.{statement}
+use Rattle.blif_write.proofs.append_inverters.Tie as tie
+
+slice-aggregate-get-inverted-signals : tie.Need-slice-aggregate-get-inverted-signals
+slice-aggregate-get-inverted-signals c = search needs
+
+slice-aggregate-get-inverted-signals-2 : tie.Need-slice-aggregate-get-inverted-signals-2
+slice-aggregate-get-inverted-signals-2 c = search needs
+
+get-inverted-signals-requires : tie.Need-get-inverted-signals-requires
+get-inverted-signals-requires c κs = search needs
+
+slice-aggregate-append-gate-inverters : tie.Need-slice-aggregate-append-gate-inverters
+slice-aggregate-append-gate-inverters c = search needs
+
+append-gate-inverters-requires : tie.Need-append-gate-inverters-requires
+append-gate-inverters-requires c κs = search needs
+
+slice-aggregate-append-input-inverters : tie.Need-slice-aggregate-append-input-inverters
+slice-aggregate-append-input-inverters c = search needs
+
+append-input-inverters-requires : tie.Need-append-input-inverters-requires
+append-input-inverters-requires c κs = search needs
+
+same-length : tie.Need-same-length
+same-length c = search needs
+
+returns : tie.Need-returns
+returns c = as-text (inverters-written (netIn (c .before .before .before .before .before .before .before .before .before .before .before .before .before .before .before .before .before .before .before .args .inputs) (c .before .before .before .before .before .before .before .before .before .before .before .before .before .before .before .before .before .before .before .args .gates .now) (c .before .before .before .before .before .before .before .before .before .before .before .before .before .before .before .before .before .before .before .args .pins .now) (c .before .before .before .before .before .before .before .before .before .before .before .before .before .before .before .before .before .before .before .args .n) (c .before .before .before .before .before .before .before .before .before .before .before .before .before .before .before .before .before .before .before .args .outputs .now)) (sym (held-length (c .before .before .before .before .before .before .before .before .before .before .before .before .before .before .before .before .before .before .before .args .gates .now) (c .before .before .before .before .before .before .before .before .before .before .before .before .before .before .before .before .before .before .before .args .pins .now) (c .before .before .before .before .before .before .before .before .before .before .before .before .before .before .before .before .before .before .before .args .n))) (c .before .before .before .before .before .before .before .before .before .before .before .before .before .before .before .before .before .before .before .pre .0 .few) (c .before .before .before .before .before .before .before .before .before .before .before .before .before .before .before .before .before .before .before .pre .1) (c .before .before .before .before .before .before .before .before .before .before .before .before .get-inverted-signals .ensures .gated) (c .before .before .before .before .before .before .before .before .before .before .before .before .get-inverted-signals .ensures .input)) (and-append (c .before .before .before .before .before .before .before .append-gate-inverters .ensures) (c .before .before .append-input-inverters .ensures))
+
+pub append-inverters-spec : {M : Type 1} → statement M
+append-inverters-spec =
+    tie.close
+    (tie.spec
+    slice-aggregate-get-inverted-signals
+    slice-aggregate-get-inverted-signals-2
+    get-inverted-signals-requires
+    slice-aggregate-append-gate-inverters
+    append-gate-inverters-requires
+    slice-aggregate-append-input-inverters
+    append-input-inverters-requires
+    same-length
+    returns)

@@ -1,0 +1,107 @@
+-- `write_cover` writes the cover by the gate's kind. Assumes nothing.
+use borrow.Author.Needs.{needs}
+use Rattle.blif_put.proofs.Laws.{as-wrote, wrote-nothing}
+use Rattle.blif_write.proofs.Covers.{run-slice, narrow-run, cover-binary, cover-ternary, cover-nary, cover-buf, cover-dff}
+use Rattle.blif_write.proofs.write_cover.Statement.{statement}
+use Rattle.blif_write.proofs.write_cover.Tie as tie
+
+enum-known-gate : tie.Need-enum-known-gate
+enum-known-gate c = search needs
+
+write-binary-requires : tie.Need-write-binary-requires
+write-binary-requires c κs = search needs
+
+enum-known-gate-2 : tie.Need-enum-known-gate-2
+enum-known-gate-2 c = search needs
+
+write-ternary-requires : tie.Need-write-ternary-requires
+write-ternary-requires c κs = search needs
+
+enum-known-gate-3 : tie.Need-enum-known-gate-3
+enum-known-gate-3 c = search needs
+
+run-start-requires : tie.Need-run-start-requires
+run-start-requires c κs = search needs
+
+run-end-requires : tie.Need-run-end-requires
+run-end-requires c κs = search needs
+
+mul-write-nary : tie.Need-mul-write-nary
+mul-write-nary c = search needs
+
+sub-write-nary : tie.Need-sub-write-nary
+sub-write-nary c = search needs
+
+part-write-nary-start : tie.Need-part-write-nary-start
+part-write-nary-start c = search needs
+
+part-write-nary-end : tie.Need-part-write-nary-end
+part-write-nary-end c = search needs
+
+write-nary-requires : tie.Need-write-nary-requires
+write-nary-requires c κs = (c .before .before .before .before .before .before .before .before .before .pre .0, narrow-run (c .before .before .before .before .before .before .before .before .before .args .pins .now) _ (c .before .before .before .before .before .gate3 .given .1) (run-slice _ (c .before .before .before .before .before .before .before .before .before .args .pins .now) (c .before .before .before .run-start .ensures) (c .before .before .run-end .ensures)) (c .before .before .before .before .before .before .before .before .before .pre .1))
+
+enum-known-gate-4 : tie.Need-enum-known-gate-4
+enum-known-gate-4 c = search needs
+
+write-buf-requires : tie.Need-write-buf-requires
+write-buf-requires c κs = search needs
+
+enum-told : tie.Need-enum-told
+enum-told c = search needs
+
+same-length : tie.Need-same-length
+same-length c = search needs
+
+returns : tie.Need-returns
+returns c = as-wrote (cover-binary (c .before .before .before .before .before .before .before .before .before .args .g) (c .before .before .before .before .before .before .before .before .before .args .pins .now) (c .before .before .before .before .before .gate .given .1)) (c .before .before .write-binary .ensures)
+
+same-length-2 : tie.Need-same-length-2
+same-length-2 c = search needs
+
+returns-2 : tie.Need-returns-2
+returns-2 c = as-wrote (cover-ternary (c .before .before .before .before .before .before .before .before .before .args .g) (c .before .before .before .before .before .before .before .before .before .args .pins .now) (c .before .before .before .before .before .gate2 .given .1)) (c .before .before .write-ternary .ensures)
+
+same-length-3 : tie.Need-same-length-3
+same-length-3 c = search needs
+
+returns-3 : tie.Need-returns-3
+returns-3 c = as-wrote (cover-nary (c .before .before .before .before .before .before .before .before .before .before .before .before .args .g) (c .before .before .before .before .before .before .before .before .before .before .before .before .args .pins .now) _ (c .before .before .before .before .before .before .before .before .gate3 .given .1) (run-slice _ (c .before .before .before .before .before .before .before .before .before .before .before .before .args .pins .now) (c .before .before .before .before .before .before .run-start .ensures) (c .before .before .before .before .before .run-end .ensures))) (c .before .before .write-nary .ensures)
+
+same-length-4 : tie.Need-same-length-4
+same-length-4 c = search needs
+
+returns-4 : tie.Need-returns-4
+returns-4 c = as-wrote (cover-buf (c .before .before .before .before .before .before .before .before .before .args .g) (c .before .before .before .before .before .before .before .before .before .args .pins .now) (c .before .before .before .before .before .gate4 .given .1)) (c .before .before .write-buf .ensures)
+
+returns-5 : tie.Need-returns-5
+returns-5 c = as-wrote (cover-dff (c .before .before .before .before .args .g) (c .before .before .before .before .args .pins .now) (c .enum-told .given .1)) wrote-nothing
+
+pub write-cover-spec : {M : Type 1} → statement M
+write-cover-spec =
+    tie.close
+    (tie.spec
+    enum-known-gate
+    write-binary-requires
+    enum-known-gate-2
+    write-ternary-requires
+    enum-known-gate-3
+    run-start-requires
+    run-end-requires
+    mul-write-nary
+    sub-write-nary
+    part-write-nary-start
+    part-write-nary-end
+    write-nary-requires
+    enum-known-gate-4
+    write-buf-requires
+    enum-told
+    same-length
+    returns
+    same-length-2
+    returns-2
+    same-length-3
+    returns-3
+    same-length-4
+    returns-4
+    returns-5)

@@ -1,0 +1,66 @@
+-- What `write_blif` answers and leaves in the output slice (document 01, "Writing refuses, in order"). Assumes nothing: these are
+-- definitions.
+use mathlib.Core.Bool.{Bool, true, false, not, _&&_, _||_}
+use mathlib.Core.List.{List}
+use Prim.Native.Nat.{ℕ}
+use lib.Dec.{ltb}
+use lib.ListN.{length}
+use Rattle.lists.specs.Lists.{if_then_else_, Bytes, zeros, any, over}
+use Rattle.gates.specs.Gate.{Form, And2, Xor2, And3, Xor3, Maj3, Mux3, AndN, OrN, NandN, NorN, XorN, XnorN, Buf, Gate, Comb, Dff}
+use Rattle.network.specs.Cells.{Lent, netOf, isNetwork}
+use Rattle.blif_text.specs.Places.{maxText}
+use Rattle.blif_model.specs.Render.{textOf}
+use Rattle.blif_write.specs.declared.WriteAnswer.{WriteAnswer}
+use Rattle.blif_write.specs.declared.WriteAnswer.the-variants.{Written, Refused}
+
+-- an answer, and what the output slice holds then
+pub record Outcome : Type 0 where
+  -- what was answered: the text's length, or a refusal's number
+  pub answer : WriteAnswer
+  -- the bytes of the output slice
+  pub out : Bytes
+
+-- the same, from its parts
+abbrev pub outcome : WriteAnswer → Bytes → Outcome
+outcome a o = record { answer = a; out = o }
+
+-- "A refusal zeroes the output slice"
+abbrev pub refusedText : ℕ → ℕ → Outcome
+refusedText number n = outcome (Refused number) (zeros n)
+
+-- "Success gives the length and zero bytes after it"
+abbrev pub writtenText : Bytes → ℕ → Outcome
+writtenText t n = outcome (Written (length t)) (over t (zeros n))
+
+-- "an Xor or Xnor of the Nary form"
+abbrev pub exclusive : Form → Bool
+exclusive And2 = false
+exclusive Xor2 = false
+exclusive And3 = false
+exclusive Xor3 = false
+exclusive Maj3 = false
+exclusive Mux3 = false
+exclusive AndN = false
+exclusive OrN = false
+exclusive NandN = false
+exclusive NorN = false
+exclusive XorN = true
+exclusive XnorN = true
+exclusive Buf = false
+
+-- "21 when an Xor or Xnor of the Nary form has over 12 inputs"
+abbrev pub wide : Gate → Bool
+wide (Comb f ps) = exclusive f && ltb 12 (length ps)
+wide (Dff s) = false
+
+-- "22 when the text is longer than the output slice or than 32,768 bytes"
+abbrev pub tooLong : Bytes → ℕ → Bool
+tooLong t n = ltb n (length t) || ltb maxText (length t)
+
+-- "Writing refuses, in order: 20 .. 21 .. 22"; n is the output slice's length
+unfoldable pub writeInto : Lent → ℕ → Outcome
+writeInto l n =
+    if not (isNetwork l) then refusedText 20 n
+    else if any wide (netOf l .gates) then refusedText 21 n
+    else if tooLong (textOf (netOf l)) n then refusedText 22 n
+    else writtenText (textOf (netOf l)) n

@@ -1,0 +1,3 @@
+pub mod Into
+pub mod Parts
+pub mod Marks

@@ -1,0 +1,465 @@
+// The BLIF writer (Quaigh's src/io/blif.rs: write_blif, and src/io/utils.rs: get_inverted_signals).
+use blif_put::append;
+use blif_put::append_name;
+use gates::Decoded;
+use gates::Gate;
+use gates::NaryType;
+use gates::PinRun;
+use network::Counts;
+use signal::Signal;
+ghost use mathlib.Core.Path.{_≡_};
+ghost use mathlib.Core.Bool.{true, false, _&&_};
+ghost use mathlib.Core.List.{[], _∷_, _++_, map};
+ghost use Prim.Native.Nat.{_+_, _≤_, _<_, min};
+ghost use lib.Dec.{ltb};
+ghost use lib.ListN.{length, set};
+ghost use Rattle.lists.specs.Lists.{any};
+ghost use Rattle.signal.specs.Cell.{sigOf};
+ghost use Rattle.gates.specs.Forms.{naryForm};
+ghost use Rattle.gates.specs.Decode.{gateIn};
+ghost use Rattle.network.specs.Cells.{maxGates, maxInputs, lent};
+ghost use Rattle.blif_text.specs.Places.{maxText};
+ghost use Rattle.blif_model.specs.Write.{named};
+ghost use Rattle.blif_model.specs.Render.{spaced, textOf};
+ghost use Rattle.blif_put.specs.Text.{Wrote, Appended};
+ghost use Rattle.blif_write.specs.Into.{outcome, refusedText, writeInto, exclusive, wide};
+ghost use Rattle.blif_write.specs.Parts.{latchText, coverText, latchesText, coversText, inputNames, headText, held, Readable, netIn, invertersText, Writable};
+ghost use Rattle.blif_write.specs.Marks.{Marked, namedIn, inverterAt, gateInverters, inputInverters};
+
+// The text's length, or a refusal's number.
+pub enum WriteAnswer {
+    Written(usize),
+    Refused(u32),
+}
+
+// Writes the latch of a flip-flop, and nothing for another gate.
+fn write_latch(out: &mut [u8], gate: Gate, g: usize) -> usize
+    requires { ⌜ g < maxGates ⌝ }
+    ensures { λ r. ⌜ Wrote (latchText g (gateIn gate [])) (now (out .entry)) (now (out .exit)) r ⌝ }
+{
+    match gate {
+        Gate::Binary(_, _, _) => 0,
+        Gate::Ternary(_, _, _, _) => 0,
+        Gate::Nary(_, _) => 0,
+        Gate::Buf(_) => 0,
+        Gate::Dff(d, e, r) => blif_put::write_stored(out, d, e, r, g),
+    }
+}
+
+// Where a run starts among n pins.
+fn run_start(run: PinRun, n: usize) -> usize
+    ensures { λ r. ⌜ r ≡ min (run .first) n ⌝ }
+{
+    if run.first > n {
+        return n;
+    }
+    run.first
+}
+
+// Where a run ends among n pins.
+fn run_end(run: PinRun, n: usize) -> usize
+    ensures { λ r. ⌜ r ≡ min (min (run .first) n + run .count) n ⌝ }
+{
+    let start = run_start(run, n);
+    if run.count > n - start {
+        return n;
+    }
+    start + run.count
+}
+
+// Writes the cover of a combinational gate, and nothing for a flip-flop.
+fn write_cover(out: &mut [u8], gate: Gate, pins: &[u32], g: usize) -> usize
+    requires { ⌜ (g < maxGates) × (wide (gateIn gate (now pins)) ≡ false) ⌝ }
+    ensures { λ r. ⌜ Wrote (coverText g (gateIn gate (now (pins .entry)))) (now (out .entry)) (now (out .exit)) r ⌝ }
+{
+    match gate {
+        Gate::Binary(t, a, b) => blif_put::write_binary(out, t, a, b, g),
+        Gate::Ternary(t, a, b, c) => blif_put::write_ternary(out, t, a, b, c, g),
+        Gate::Nary(t, run) => {
+            let start = run_start(run, pins.len());
+            let end = run_end(run, pins.len());
+            blif_put::write_nary(out, t, &pins[start..end], g)
+        }
+        Gate::Buf(s) => blif_put::write_buf(out, s, g),
+        Gate::Dff(_, _, _) => 0,
+    }
+}
+
+// Writes the latches of n gates.
+fn append_latches(out: &mut [u8], at: usize, gates: &[u32], pins: &[u32], n: usize) -> usize
+    requires { ⌜ Readable (now gates) (now pins) n ⌝ }
+    ensures { λ r. ⌜ Appended (latchesText 0 (held (now (gates .entry)) (now (pins .entry)) 0 n)) (now (out .entry)) at (now (out .exit)) r ⌝ }
+{
+    if at > out.len() {
+        return out.len() + 1;
+    }
+    let mut end = at;
+    let mut g = 0;
+    while g < n {
+        if end > out.len() {
+            return end;
+        }
+        let Decoded::Good(gate) = network::gate_at(gates, pins, g) else {
+            return end;
+        };
+        end += write_latch(&mut out[end..], gate, g);
+        g += 1;
+    }
+    end
+}
+
+// Writes the covers of n gates.
+fn append_covers(out: &mut [u8], at: usize, gates: &[u32], pins: &[u32], n: usize) -> usize
+    requires { ⌜ Readable (now gates) (now pins) n × (any wide (held (now gates) (now pins) 0 n) ≡ false) ⌝ }
+    ensures { λ r. ⌜ Appended (coversText 0 (held (now (gates .entry)) (now (pins .entry)) 0 n)) (now (out .entry)) at (now (out .exit)) r ⌝ }
+{
+    if at > out.len() {
+        return out.len() + 1;
+    }
+    let mut end = at;
+    let mut g = 0;
+    while g < n {
+        if end > out.len() {
+            return end;
+        }
+        let Decoded::Good(gate) = network::gate_at(gates, pins, g) else {
+            return end;
+        };
+        end += write_cover(&mut out[end..], gate, pins, g);
+        g += 1;
+    }
+    end
+}
+
+// Writes the names of n inputs, each behind a blank.
+fn append_inputs(out: &mut [u8], at: usize, n: usize) -> usize
+    requires { ⌜ n ≤ maxInputs ⌝ }
+    ensures { λ r. ⌜ Appended (spaced (inputNames 0 n)) (now (out .entry)) at (now (out .exit)) r ⌝ }
+{
+    if at > out.len() {
+        return out.len() + 1;
+    }
+    let mut end = at;
+    let mut i = 0;
+    while i < n {
+        if end > out.len() {
+            return end;
+        }
+        end = append_name(out, end, b" ", Signal::from_input(i as u32));
+        i += 1;
+    }
+    end
+}
+
+// Writes the comment lines, the model, the inputs and the outputs, with their empty lines.
+fn write_head(out: &mut [u8], inputs: usize, outputs: &[u32]) -> usize
+    requires { ⌜ inputs ≤ maxInputs ⌝ }
+    ensures { λ r. ⌜ Wrote (headText inputs (map sigOf (now (outputs .entry)))) (now (out .entry)) (now (out .exit)) r ⌝ }
+{
+    let mut at = append(out, 0, b"# .blif file\n");
+    at = append(out, at, b"# Generated by quaigh\n\n");
+    at = append(out, at, b".model quaigh\n\n");
+    at = append(out, at, b".inputs");
+    at = append_inputs(out, at, inputs);
+    at = append(out, at, b"\n\n.outputs");
+    at = blif_put::append_signals(out, at, outputs);
+    append(out, at, b"\n\n")
+}
+
+// Whether a Nary gate of this type and so many inputs has too many to be written.
+fn is_wide_type(t: NaryType, n: usize) -> bool
+    ensures { λ r. ⌜ r ≡ (exclusive (naryForm t) && ltb 12 n) ⌝ }
+{
+    match t {
+        NaryType::And => false,
+        NaryType::Or => false,
+        NaryType::Nand => false,
+        NaryType::Nor => false,
+        NaryType::Xor => n > 12,
+        NaryType::Xnor => n > 12,
+    }
+}
+
+// Whether a gate has too many inputs to be written.
+fn is_wide(gate: Gate, pins: &[u32]) -> bool
+    ensures { λ r. ⌜ r ≡ wide (gateIn gate (now (pins .entry))) ⌝ }
+{
+    match gate {
+        Gate::Binary(_, _, _) => false,
+        Gate::Ternary(_, _, _, _) => false,
+        Gate::Nary(t, run) => {
+            let start = run_start(run, pins.len());
+            is_wide_type(t, run_end(run, pins.len()) - start)
+        }
+        Gate::Buf(_) => false,
+        Gate::Dff(_, _, _) => false,
+    }
+}
+
+// Whether one of n gates has too many inputs to be written.
+fn any_wide(gates: &[u32], pins: &[u32], n: usize) -> bool
+    requires { ⌜ Readable (now gates) (now pins) n ⌝ }
+    ensures { λ r. ⌜ r ≡ any wide (held (now (gates .entry)) (now (pins .entry)) 0 n) ⌝ }
+{
+    let mut g = 0;
+    while g < n {
+        let Decoded::Good(gate) = network::gate_at(gates, pins, g) else {
+            return false;
+        };
+        if is_wide(gate, pins) {
+            return true;
+        }
+        g += 1;
+    }
+    false
+}
+
+// Sets mark n, if there is one.
+fn set_mark(marks: &mut [u8], n: u32)
+    ensures { λ _. ⌜ now (marks .exit) ≡ set (now (marks .entry)) n 1 ⌝ }
+{
+    let i = n as usize;
+    if i < marks.len() {
+        marks[i] = 1;
+    }
+}
+
+// Marks a signal that is inverted and no constant.
+fn mark_signal(gate_marks: &mut [u8], input_marks: &mut [u8], s: Signal)
+    ensures { λ _. ⌜ Marked (sigOf (s .a) ∷ []) (now («gate_marks» .entry)) (now («input_marks» .entry)) (now («gate_marks» .exit)) (now («input_marks» .exit)) ⌝ }
+{
+    if !s.is_inverted() {
+        return;
+    }
+    if s.is_input() {
+        set_mark(input_marks, s.input());
+        return;
+    }
+    if s.is_constant() {
+        return;
+    }
+    set_mark(gate_marks, s.var());
+}
+
+// Marks the signals of cells.
+fn mark_signals(gate_marks: &mut [u8], input_marks: &mut [u8], cells: &[u32])
+    ensures { λ _. ⌜ Marked (map sigOf (now (cells .entry))) (now («gate_marks» .entry)) (now («input_marks» .entry)) (now («gate_marks» .exit)) (now («input_marks» .exit)) ⌝ }
+{
+    let mut i = 0;
+    while i < cells.len() {
+        mark_signal(gate_marks, input_marks, Signal { a: cells[i] });
+        i += 1;
+    }
+}
+
+// Marks three signals.
+fn mark_three(gate_marks: &mut [u8], input_marks: &mut [u8], a: Signal, b: Signal, c: Signal)
+    ensures { λ _. ⌜ Marked (sigOf (a .a) ∷ sigOf (b .a) ∷ sigOf (c .a) ∷ []) (now («gate_marks» .entry)) (now («input_marks» .entry)) (now («gate_marks» .exit)) (now («input_marks» .exit)) ⌝ }
+{
+    mark_signal(gate_marks, input_marks, a);
+    mark_signal(gate_marks, input_marks, b);
+    mark_signal(gate_marks, input_marks, c);
+}
+
+// Marks the inputs of a gate, unless it is a Buf, which handles the inversion itself.
+fn mark_gate(gate_marks: &mut [u8], input_marks: &mut [u8], gate: Gate, pins: &[u32])
+    ensures { λ _. ⌜ Marked (named (gateIn gate (now (pins .entry)))) (now («gate_marks» .entry)) (now («input_marks» .entry)) (now («gate_marks» .exit)) (now («input_marks» .exit)) ⌝ }
+{
+    match gate {
+        Gate::Binary(_, a, b) => {
+            mark_signal(gate_marks, input_marks, a);
+            mark_signal(gate_marks, input_marks, b);
+        }
+        Gate::Ternary(_, a, b, c) => mark_three(gate_marks, input_marks, a, b, c),
+        Gate::Nary(_, run) => {
+            let start = run_start(run, pins.len());
+            let end = run_end(run, pins.len());
+            mark_signals(gate_marks, input_marks, &pins[start..end]);
+        }
+        Gate::Buf(_) => {}
+        Gate::Dff(d, e, r) => mark_three(gate_marks, input_marks, d, e, r),
+    }
+}
+
+// Marks the signals that are used inverted, at the outputs and at the inputs of n gates.
+fn get_inverted_signals(
+    gate_marks: &mut [u8],
+    input_marks: &mut [u8],
+    gates: &[u32],
+    pins: &[u32],
+    n: usize,
+    outputs: &[u32],
+)
+    requires { ⌜ Readable (now gates) (now pins) n ⌝ }
+    ensures { λ _. ⌜ Marked (map sigOf (now (outputs .entry)) ++ namedIn (held (now (gates .entry)) (now (pins .entry)) 0 n)) (now («gate_marks» .entry)) (now («input_marks» .entry)) (now («gate_marks» .exit)) (now («input_marks» .exit)) ⌝ }
+{
+    mark_signals(gate_marks, input_marks, outputs);
+    let mut g = 0;
+    while g < n {
+        let Decoded::Good(gate) = network::gate_at(gates, pins, g) else {
+            return;
+        };
+        mark_gate(gate_marks, input_marks, gate, pins);
+        g += 1;
+    }
+}
+
+// Writes the inverter of a signal that is marked, and nothing where the mark is zero.
+fn write_inverter(out: &mut [u8], mark: u8, s: Signal) -> usize
+    requires { ⌜ sigOf (s .a) .inv ≡ false ⌝ }
+    ensures { λ r. ⌜ Wrote (inverterAt mark (sigOf (s .a) .node)) (now (out .entry)) (now (out .exit)) r ⌝ }
+{
+    if mark == 0 {
+        return 0;
+    }
+    let mut at = append(out, 0, b".names");
+    at = append_name(out, at, b" ", s);
+    at = append_name(out, at, b" ", s.not());
+    append(out, at, b"\n0 1\n")
+}
+
+// Writes the inverters of n gates, upwards.
+fn append_gate_inverters(out: &mut [u8], at: usize, marks: &[u8], n: usize) -> usize
+    requires { ⌜ (n ≤ maxGates) × (n ≤ length (now marks)) ⌝ }
+    ensures { λ r. ⌜ Appended (gateInverters (now (marks .entry)) 0 n) (now (out .entry)) at (now (out .exit)) r ⌝ }
+{
+    if at > out.len() {
+        return out.len() + 1;
+    }
+    let mut end = at;
+    let mut g = 0;
+    while g < n {
+        if end > out.len() {
+            return end;
+        }
+        end += write_inverter(&mut out[end..], marks[g], Signal::from_var(g as u32));
+        g += 1;
+    }
+    end
+}
+
+// Writes the inverters of n inputs, downwards.
+fn append_input_inverters(out: &mut [u8], at: usize, marks: &[u8], n: usize) -> usize
+    requires { ⌜ (n ≤ maxInputs) × (n ≤ length (now marks)) ⌝ }
+    ensures { λ r. ⌜ Appended (inputInverters (now (marks .entry)) n) (now (out .entry)) at (now (out .exit)) r ⌝ }
+{
+    if at > out.len() {
+        return out.len() + 1;
+    }
+    let mut end = at;
+    let mut i = n;
+    while i > 0 {
+        if end > out.len() {
+            return end;
+        }
+        i -= 1;
+        end += write_inverter(&mut out[end..], marks[i], Signal::from_input(i as u32));
+    }
+    end
+}
+
+// Writes an inverter for each signal that is used inverted.
+fn append_inverters(
+    out: &mut [u8],
+    at: usize,
+    inputs: usize,
+    gates: &[u32],
+    pins: &[u32],
+    n: usize,
+    outputs: &[u32],
+) -> usize
+    requires { ⌜ Readable (now gates) (now pins) n × (inputs ≤ maxInputs) ⌝ }
+    ensures { λ r. ⌜ Appended (invertersText (netIn inputs (now (gates .entry)) (now (pins .entry)) n (now (outputs .entry)))) (now (out .entry)) at (now (out .exit)) r ⌝ }
+{
+    let mut gate_marks = [0u8; 1024];
+    let mut input_marks = [0u8; 256];
+    get_inverted_signals(&mut gate_marks, &mut input_marks, gates, pins, n, outputs);
+    let end = append_gate_inverters(out, at, &gate_marks, n);
+    append_input_inverters(out, end, &input_marks, inputs)
+}
+
+// Writes the text of n gates with so many inputs and these outputs.
+fn write_text(
+    out: &mut [u8],
+    inputs: usize,
+    gates: &[u32],
+    pins: &[u32],
+    n: usize,
+    outputs: &[u32],
+) -> usize
+    requires { ⌜ Readable (now gates) (now pins) n × (inputs ≤ maxInputs) × (any wide (held (now gates) (now pins) 0 n) ≡ false) ⌝ }
+    ensures { λ r. ⌜ Wrote (textOf (netIn inputs (now (gates .entry)) (now (pins .entry)) n (now (outputs .entry)))) (now (out .entry)) (now (out .exit)) r ⌝ }
+{
+    let mut at = write_head(out, inputs, outputs);
+    at = append_latches(out, at, gates, pins, n);
+    at = append(out, at, b"\n");
+    at = append_covers(out, at, gates, pins, n);
+    at = append_inverters(out, at, inputs, gates, pins, n, outputs);
+    append(out, at, b".names vdd\n1\n.names gnd\n")
+}
+
+// Clears the output slice and refuses.
+fn refuse(out: &mut [u8], number: u32) -> WriteAnswer
+    ensures { λ r. ⌜ outcome r (now (out .exit)) ≡ refusedText number (length (now (out .entry))) ⌝ }
+{
+    lists::fill_zero_bytes(out);
+    WriteAnswer::Refused(number)
+}
+
+// How much of an output slice of this length a text may take.
+fn room_in(len: usize) -> usize
+    ensures { λ r. ⌜ r ≡ min len maxText ⌝ }
+{
+    if len > blif_text::MAX_TEXT {
+        return blif_text::MAX_TEXT;
+    }
+    len
+}
+
+// Writes the text of a network without wide gates, if it fits.
+fn write_network(
+    counts: Counts,
+    gates: &[u32],
+    pins: &[u32],
+    outputs: &[u32],
+    out: &mut [u8],
+) -> WriteAnswer
+    requires { ⌜ Writable (lent counts (now gates) (now pins) (now outputs)) ⌝ }
+    ensures { λ r. ⌜ outcome r (now (out .exit)) ≡ writeInto (lent counts (now (gates .entry)) (now (pins .entry)) (now (outputs .entry))) (length (now (out .entry))) ⌝ }
+{
+    let n = counts.gates;
+    let used = counts.outputs;
+    let room = room_in(out.len());
+    let end = write_text(
+        &mut out[..room],
+        counts.inputs,
+        gates,
+        pins,
+        n,
+        &outputs[..used],
+    );
+    if end > room {
+        return refuse(out, 22);
+    }
+    lists::fill_zero_bytes(&mut out[end..]);
+    WriteAnswer::Written(end)
+}
+
+// Writes the text of a lent network into the output slice.
+pub fn write_blif(
+    counts: Counts,
+    gates: &[u32],
+    pins: &[u32],
+    outputs: &[u32],
+    out: &mut [u8],
+) -> WriteAnswer
+    ensures { λ r. ⌜ outcome r (now (out .exit)) ≡ writeInto (lent counts (now (gates .entry)) (now (pins .entry)) (now (outputs .entry))) (length (now (out .entry))) ⌝ }
+{
+    if !network::check_layout(counts, gates, pins, outputs) {
+        return refuse(out, 20);
+    }
+    if any_wide(gates, pins, counts.gates) {
+        return refuse(out, 21);
+    }
+    write_network(counts, gates, pins, outputs, out)
+}
