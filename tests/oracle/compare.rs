@@ -32,29 +32,38 @@ fn differs(program: &str, text: &[u8]) -> bool {
     printed(program, &one) != blocks(&answers(&one).0)
 }
 
-// The text with lines, then bytes, left out as long as the answers still differ.
-fn smallest(program: &str, text: &[u8]) -> Vec<u8> {
-    let mut parts: Vec<Vec<u8>> = text.split_inclusive(|b| *b == b'\n').map(|l| l.to_vec()).collect();
-    for _ in 0..2 {
-        let mut i = 0;
-        while i < parts.len() && parts.len() < 4000 {
-            let left_out = parts.remove(i);
-            if !differs(program, &parts.concat()) {
-                parts.insert(i, left_out);
-                i += 1;
-            }
+// The parts without those that can be left out while the answers still differ.
+fn fewer(program: &str, mut parts: Vec<Vec<u8>>) -> Vec<u8> {
+    let mut i = 0;
+    while i < parts.len() && parts.len() < 4000 {
+        let left_out = parts.remove(i);
+        if !differs(program, &parts.concat()) {
+            parts.insert(i, left_out);
+            i += 1;
         }
-        parts = parts.concat().iter().map(|b| vec![*b]).collect();
     }
     parts.concat()
 }
 
-// Prints how many differ, and the first that does; answers whether none does.
+// The text with lines and bytes left out as long as the answers still differ.
+fn smallest(program: &str, text: &[u8]) -> Vec<u8> {
+    let mut t = text.to_vec();
+    loop {
+        let before = t.len();
+        t = fewer(program, t.split_inclusive(|b| *b == b'\n').map(|l| l.to_vec()).collect());
+        t = fewer(program, t.iter().map(|b| vec![*b]).collect());
+        if t.len() == before {
+            return t;
+        }
+    }
+}
+
+// Prints how many differ, the reads with too few cells at the end as one of them, and the first that does; answers whether none does.
 pub fn compare(program: &str, texts: &[Vec<u8>], wanted: &str) -> bool {
     let (want, got) = (blocks(wanted), printed(program, texts));
     let at = |v: &[String], i: usize| v.get(i).cloned().unwrap_or_default();
     let bad: Vec<usize> = (0..want.len().max(got.len())).filter(|i| at(&want, *i) != at(&got, *i)).collect();
-    println!("{} compared, {} differ", texts.len(), bad.iter().filter(|i| **i < texts.len()).count());
+    println!("{} compared, {} differ", texts.len(), bad.len());
     if let Some(i) = bad.first() {
         println!("wanted\n{}got\n{}", at(&want, *i), at(&got, *i));
         if let Some(t) = texts.get(*i) {
