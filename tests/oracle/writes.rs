@@ -3,7 +3,8 @@ use crate::generate::{make, Numbers, Plain, Shape};
 use crate::lent::{decoded, given, lent, shown, text, wanted, Lent, Wanted, MAX_TEXT};
 use crate::nets::Hand;
 use crate::plain_writer::{written, Mistake, MISTAKES};
-use crate::{layouts, nets, words, Signal};
+use crate::variants::order;
+use crate::{layouts, nets, variants, words, Signal};
 use std::collections::BTreeMap;
 use std::io::Write;
 use std::process::{Command, Stdio};
@@ -85,19 +86,32 @@ pub fn all_given(ls: &[Lent]) -> String {
     words(&[ls.len() as u32]) + &ls.iter().map(given).collect::<String>()
 }
 
-// The answers, each behind the number of its network; prints how often each occurs.
+// Whether a combinational gate has an input that is no lower gate.
+fn unsorted(p: &Plain) -> bool {
+    let higher = |g: usize, s: &Signal| s.is_var() && s.var() as usize >= g;
+    p.gates.iter().enumerate().any(|(g, (form, ps))| *form != 14 && ps.iter().any(|s| higher(g, s)))
+}
+
+// The answers, each behind the number of its network; prints how often each occurs, and of the networks written how many have a
+// `.flop` line, are not sorted, or have a loop.
 pub fn answers(ls: &[Lent]) -> Vec<String> {
     let mut seen: BTreeMap<u32, usize> = BTreeMap::new();
-    let mut flops = 0;
+    let mut of_written = [0; 3];
     let mut all = Vec::new();
     for (n, l) in ls.iter().enumerate() {
         let w = wanted(l);
         *seen.entry(kind(&w)).or_insert(0) += 1;
         let s = shown(&w);
-        flops += s.contains("\n.flop ") as usize;
+        if let Wanted::Written(t) = &w {
+            let p = decoded(l).unwrap();
+            of_written[0] += t.contains("\n.flop ") as usize;
+            of_written[1] += unsorted(&p) as usize;
+            of_written[2] += order(&p, variants::Mistake::Nothing).is_none() as usize;
+        }
         all.push(format!("network {n}\n{s}"));
     }
-    eprintln!("{} networks; answers (0 for written): {seen:?}; with a .flop line: {flops}", ls.len());
+    eprintln!("{} networks; answers (0 for written): {seen:?}", ls.len());
+    eprintln!("of those written, with a .flop line, not sorted, with a loop: {of_written:?}");
     all
 }
 
