@@ -40,15 +40,21 @@ read-zero zero none new e = absurd (let z : _≡_ {A = ℕ} 0 1 = cc in omega ar
 read-zero zero (some n) new e = (refl, (let q : n ≡ new = cc in ap some q))
 read-zero (suc f) o new e = absurd (let z : _≡_ {A = ℕ} 0 1 = cc in omega arith)
 
-pub reads-of : (s : Bytes) (new : Net) → readText s ≡ read new → Reads s new
-unfolding readText readFault declsOf builtFrom
-reads-of s new e =
-    let ds : List Decl = decls (stmts (parsed s)) in
-    let r : (readFault s ≡ 0) × (sorted (builtFrom ds) ≡ some new) = read-zero (readFault s) (sorted (builtFrom ds)) new e in
+-- what is read passed every test, and is the sort of the gates as built
+pub passed-read : (s : Bytes) (new : Net) → readText s ≡ read new → Passed (declsOf s) × (sorted (builtFrom (declsOf s)) ≡ some new)
+unfolding readText readFault
+passed-read s new e =
+    let r : (readFault s ≡ 0) × (sorted (builtFrom (declsOf s)) ≡ some new) = read-zero (readFault s) (sorted (builtFrom (declsOf s))) new e in
     let f₃ = then-right (when (ltb 32768 (length s)) 2) (when (any (leb 128) s) 3 then firstBad (parsed s) then declFault (declsOf s)) (r .0) in
     let f₄ = then-right (when (any (leb 128) s) 3) (firstBad (parsed s) then declFault (declsOf s)) f₃ in
-    let f₆ = then-right (firstBad (parsed s)) (declFault (declsOf s)) f₄ in
-    let p : Passed ds = passed ds f₆ in
+    (passed (declsOf s) (then-right (firstBad (parsed s)) (declFault (declsOf s)) f₄), r .1)
+
+pub reads-of : (s : Bytes) (new : Net) → readText s ≡ read new → Reads s new
+unfolding declsOf builtFrom
+reads-of s new e =
+    let ds : List Decl = decls (stmts (parsed s)) in
+    let r = passed-read s new e in
+    let p : Passed ds = r .0 in
     record {
       accepted = record {
         once = once-of ds (p .named);

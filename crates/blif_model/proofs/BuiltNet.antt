@@ -36,13 +36,13 @@ use Rattle.blif_model.proofs.Passed.{passed, passed-valid}
 -- ---- sizes
 
 -- what refusal 6 leaves
-record Within (ds : List Decl) : Type 0 where
-  inputs : length (ins ds) ≤ maxInputs
-  outputs : length (outs ds) ≤ maxOutputs
-  gates : sumOf gateCount (defs ds) ≤ maxGates
-  pins : sumOf pinCount (defs ds) ≤ maxPins
+pub record Within (ds : List Decl) : Type 0 where
+  pub inputs : length (ins ds) ≤ maxInputs
+  pub outputs : length (outs ds) ≤ maxOutputs
+  pub gates : sumOf gateCount (defs ds) ≤ maxGates
+  pub pins : sumOf pinCount (defs ds) ≤ maxPins
 
-within : (ds : List Decl) → tooLarge ds ≡ false → Within ds
+pub within : (ds : List Decl) → tooLarge ds ≡ false → Within ds
 unfolding tooLarge
 within ds e =
     let a = ltb maxInputs (length (ins ds)) in
@@ -72,7 +72,7 @@ gate-held gates pinsIn used h x c r u f s =
 -- ---- all of them
 
 -- the gates in the cells are those of the network
-gates-are : (ds : List Decl) → builtGates (look ds) (defs ds) ≡ builtFrom ds .gates
+pub gates-are : (ds : List Decl) → builtGates (look ds) (defs ds) ≡ builtFrom ds .gates
 unfolding builtFrom
 gates-are ds =
     ap (λ (k : ℕ). mains (look ds) k (map blockOf (defs ds)) ++ extras (look ds) (map blockOf (defs ds))) (sym (length-map (defs ds) blockOf))

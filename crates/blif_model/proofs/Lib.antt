@@ -22,6 +22,7 @@ pub mod NoFault
 pub mod Passed
 pub mod BuiltNet
 pub mod Accepted
+pub mod ReadNet
 pub mod RoundTrip
 pub mod Summary
 pub mod WorkingLaws

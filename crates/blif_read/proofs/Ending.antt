@@ -5,9 +5,10 @@ use mathlib.Core.List.{List, [], _∷_, _++_, map}
 use mathlib.Core.Option.{Option, none, some}
 use Prim.Native.Nat.{ℕ, zero, suc, _+_, _*_, _≤_, _<_}
 use native.Mathlib.Omega.{arith}
+use lib.Dec.{leb, ltb}
 use lib.ListN.{length, take, length-map}
 use lib.Seq.{length-take-le}
-use Rattle.lists.specs.Lists.{Bytes, over, range}
+use Rattle.lists.specs.Lists.{Bytes, any, over, range}
 use Rattle.lists.proofs.Range.{length-range}
 use Rattle.signal.specs.Cell.{sigCell, sigOf}
 use Rattle.gates.specs.Gate.{Gate}
@@ -21,53 +22,31 @@ use Rattle.sort.specs.declared.Sorted.{Sorted}
 use Rattle.sort.specs.declared.Sorted.the-variants.{Order, Loop}
 use Rattle.sort.proofs.Summary.{sorted-keeps}
 use Rattle.blif_text.specs.Statements.{parsed, firstBad}
+use Rattle.blif_text.specs.Places.{maxText}
 use Rattle.blif_text.specs.Decls.{Def, Decl, ins, outs, defs}
 use Rattle.blif_text.specs.Blocks.{defsAt, Blocks}
 use Rattle.blif_model.specs.Lookup.{lookup}
 use Rattle.blif_model.specs.Names.{byte-names}
 use Rattle.blif_model.specs.Render.{modelOf}
-use Rattle.blif_model.specs.Read.{_then_, when, tooLarge, naming, undefined, coverFaults, declFault, declsOf, readFault, Result, read, refused, answer, builtFrom, readText}
+use Rattle.blif_model.specs.Read.{when, declFault, declsOf, readFault, Result, read, refused, answer, builtFrom, readText}
 use Rattle.blif_model.specs.Working.{GatesIn, placed, builtGates, WorkRoom}
 use Rattle.blif_gates.specs.Covers.{Buildable, BuiltBy}
 use Rattle.blif_gates.specs.declared.Built.{Built}
 use Rattle.blif_read.specs.Stages.{Holds, Enough, Placing}
 use Rattle.blif_read.specs.declared.ReadAnswer.{ReadAnswer}
 use Rattle.blif_read.specs.declared.ReadAnswer.the-variants.{Read, Refused}
-use Rattle.blif_decls.proofs.Counting.{sizes-within}
 use Rattle.blif_model.specs.Built.{BuiltIn}
-use Rattle.blif_model.proofs.BuiltNet.{built-net, built-sortable}
+use Rattle.blif_model.proofs.Passed.{then-right, passed}
+use Rattle.blif_model.proofs.BuiltNet.{within, built-net, built-sortable}
 use Rattle.blif_read.proofs.Refusing.{sorted-or-loop}
 
 -- ---- no refusal took the text
 
--- of two refusals none takes it, the second does not
-second-none : (a b : ℕ) → (a then b) ≡ 0 → b ≡ 0
-unfolding _then_
-second-none zero b e = e
-second-none (suc k) b e = absurd (let z : ⊥ = omega (arith, e) in z)
-
--- nor does the first
-first-none : (a b : ℕ) → (a then b) ≡ 0 → a ≡ 0
-unfolding _then_
-first-none zero b e = refl
-first-none (suc k) b e = e
-
-module _ (text : Bytes) (e : readFault text ≡ 0) where
-  decls-none : declFault (declsOf text) ≡ 0
-  unfolding readFault
-  decls-none = second-none (firstBad (parsed text)) _ (second-none _ _ (second-none _ _ e))
-
-  covers-none : coverFaults (defs (declsOf text)) ≡ 0
-  unfolding declFault
-  covers-none = second-none (when (undefined (declsOf text)) 11) _ (second-none (naming false [] (declsOf text)) _ (second-none _ _ decls-none))
-
-  size-none : tooLarge (declsOf text) ≡ false
-  unfolding declFault when
-  size-none = go (tooLarge (declsOf text)) (first-none (when (tooLarge (declsOf text)) 6) _ decls-none)
-    where
-      go : (b : Bool) → when b 6 ≡ 0 → b ≡ false
-      go true z = absurd (let w : ⊥ = omega (arith, z) in w)
-      go false z = refl
+decls-none : (text : Bytes) → readFault text ≡ 0 → declFault (declsOf text) ≡ 0
+unfolding readFault
+decls-none text e =
+    then-right (firstBad (parsed text)) (declFault (declsOf text))
+    (then-right (when (any (leb 128) text) 3) _ (then-right (when (ltb maxText (length text)) 2) _ e))
 
 -- ---- what the sort answers
 
@@ -115,13 +94,14 @@ module _ {text tokens : List ℕ} {n : ℕ} {blocks : List ℕ} {i g o : ℕ} {g
   -- what building asks
   pub buildable : WorkRoom gates pinsIn → Buildable (defsAt text tokens n blocks g) gates pinsIn used
   buildable w =
-      let s = sizes-within (declsOf text) (size-none text (c .none)) in
+      let p = passed (declsOf text) (decls-none text (c .none)) in
+      let s = within (declsOf text) (p .within) in
       subst (λ (ds : List Def). Buildable ds gates pinsIn used) (sym (c .blocks-are))
       (record {
         room = w;
-        fewGates = s .2;
-        fewPins = s .3;
-        good = covers-none text (c .none);
+        fewGates = s .gates;
+        fewPins = s .pins;
+        good = p .covered;
         start = c .used-is;
         first = (lookup byte-names (modelOf (declsOf text)), c .gates-in);
       })
@@ -150,7 +130,7 @@ module _ {text tokens : List ℕ} {n : ℕ} {blocks : List ℕ} {i g o : ℕ} {g
 
     -- the outputs have room
     outs-room : o ≤ length os
-    outs-room = omega (arith, c .outputs, sizes-within (declsOf text) (size-none text (c .none)) .1, or)
+    outs-room = omega (arith, c .outputs, within (declsOf text) (passed (declsOf text) (decls-none text (c .none)) .within) .outputs, or)
 
     -- what the sort asks
     pub sortable : (newGates newPins : ℕ) → 3072 ≤ newGates → 16384 ≤ newPins → Sortable (lent counts gates′ pinsIn′ os) newGates newPins

@@ -4,3 +4,5 @@ pub mod Found
 pub mod Naming
 pub mod Ending
 pub mod Leaving
+pub mod Summary
+pub mod CellsRead

@@ -28,7 +28,7 @@ use Rattle.blif_decls.specs.declared.Defined.{Defined}
 use Rattle.blif_uses.specs.Resolve.{isFound, Resolved, PlacedBy, Signals}
 use Rattle.blif_uses.specs.declared.Placed.{Placed}
 use Rattle.blif_read.specs.Stages.{Enough, Sized, Resolving, Placing}
-use Rattle.blif_decls.proofs.Counting.{sizes-within}
+use Rattle.blif_model.proofs.BuiltNet.{within}
 use Rattle.blif_read.proofs.Refusing.{refuses, refuses-when, goes-on, passes-when, refused-by}
 use Rattle.blif_read.proofs.Found.{found-all, found-signals, found-signal, output-missing, use-missing, none-missing}
 
@@ -80,7 +80,7 @@ inside-first {text} {cells} o h =
 module _ {text tokens : List ℕ} {n : ℕ} {index outNames blocks : List ℕ} {i g o : ℕ} (c : Naming text tokens n index outNames blocks i g o) where
   -- "256 outputs"
   pub few-outs : o ≤ 256
-  few-outs = omega (arith, c .tables .outputs, sizes-within (declsOf text) (c .sized) .1)
+  few-outs = omega (arith, c .tables .outputs, within (declsOf text) (c .sized) .outputs)
 
   -- so many have room
   pub outs-fit : (m : ℕ) → 256 ≤ m → length (take o outNames) ≤ m
@@ -153,12 +153,12 @@ defs-within (cover ns ls ∷ ds) = omega (arith, defs-within ds)
 module _ {text tokens : List ℕ} {n : ℕ} {index os blocks : List ℕ} {i g o : ℕ} (c : Resolving text tokens n index os blocks i g o) where
   -- "1,024 gates"
   pub few-gates : g ≤ 1024
-  few-gates = omega (arith, c .gates, defs-within (defs (declsOf text)), sizes-within (declsOf text) (c .sized) .2)
+  few-gates = omega (arith, c .gates, defs-within (defs (declsOf text)), within (declsOf text) (c .sized) .gates)
 
   -- "16,384 pins"
   pub few-placed : sumOf placedCount (defsAt text tokens n blocks g) ≤ maxPins
   few-placed =
-      omega (arith, ap (sumOf placedCount) (c .blocks-are), placed-within (defs (declsOf text)), sizes-within (declsOf text) (c .sized) .3)
+      omega (arith, ap (sumOf placedCount) (c .blocks-are), placed-within (defs (declsOf text)), within (declsOf text) (c .sized) .pins)
 
   module _ {gates pinsIn : List ℕ} {p : Placed} (h : PlacedBy (signalIn (entriesOf text index (i + g))) (defsAt text tokens n blocks g) gates pinsIn p) where
     -- whether all uses are defined

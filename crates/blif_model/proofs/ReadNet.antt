@@ -1,0 +1,68 @@
+-- A network that is read: valid, formed, without a loop, and within the sizes. Assumes nothing.
+use mathlib.Core.Path.{_≡_, refl, sym, ap, _∙_}
+use mathlib.Core.List.{List, map}
+use mathlib.Core.Option.{some}
+use Prim.Native.Nat.{ℕ, _≤_, _<_}
+use native.Mathlib.Omega.{arith}
+use lib.ListN.{length, getElem?, length-map}
+use Rattle.lists.specs.Lists.{Bytes, sumOf}
+use Rattle.lists.proofs.Every.{every-place}
+use Rattle.gates.specs.Gate.{Gate}
+use Rattle.network.specs.Net.{Net, Valid, Formed, Feeds, Way, last, more, Loop}
+use Rattle.network.specs.Cells.{maxInputs, maxOutputs, maxGates, maxPins, pinCells}
+use Rattle.sort.specs.Sorted.{sorted}
+use Rattle.sort.proofs.Summary.{sorted-keeps, inputs-lower}
+use Rattle.blif_text.specs.Decls.{Decl, ins, outs, defs}
+use Rattle.blif_model.specs.Read.{declsOf, read, builtFrom, readText}
+use Rattle.blif_model.specs.Built.{look}
+use Rattle.blif_model.proofs.BuiltCounts.{built-gates, built-pins, built-formed}
+use Rattle.blif_model.proofs.BuiltNet.{within, gates-are}
+use Rattle.blif_model.proofs.Passed.{passed-valid}
+use Rattle.blif_model.proofs.Accepted.{passed-read}
+
+-- what is known of a network that is read
+pub record NetRead (net : Net) : Type 0 where
+  pub valid : Valid net
+  pub formed : Formed net
+  pub free : Loop net → ⊥
+  pub inputs : net .inputs ≤ maxInputs
+  pub gates : length (net .gates) ≤ maxGates
+  pub pins : length (pinCells (net .gates)) ≤ maxPins
+  pub outputs : length (net .outputs) ≤ maxOutputs
+
+module _ (net new : Net) (valid : Valid net) (e : sorted net ≡ some new) where
+  -- a way goes upwards in a sorted network
+  way-rises : {a b : ℕ} → Way new a b → a < b
+  way-rises (last f) = inputs-lower net new valid e _ _ (f .formB) (f .pinsB) (f .by) (f .isB) (f .among) (f .points)
+  way-rises (more f w) =
+      let h = inputs-lower net new valid e _ _ (f .formB) (f .pinsB) (f .by) (f .isB) (f .among) (f .points) in
+      let k = way-rises w in
+      omega (arith, h, k)
+
+  -- so none comes back
+  sorted-no-loop : Loop new → ⊥
+  sorted-no-loop l = let h = way-rises (l .1) in absurd (omega (arith, h))
+
+-- the gates as built have pin counts that their forms can have
+formed-built : (ds : List Decl) → Formed (builtFrom ds)
+formed-built ds g x e = every-place (built-formed (look ds) (defs ds)) g x (ap (λ (l : List Gate). getElem? l g) (gates-are ds) ∙ e)
+
+pub read-net : (s : Bytes) (new : Net) → readText s ≡ read new → NetRead new
+unfolding builtFrom
+read-net s new e =
+    let r = passed-read s new e in
+    let ds = declsOf s in
+    let w = within ds (r .0 .within) in
+    let valid = passed-valid ds (r .0) in
+    let k = sorted-keeps (builtFrom ds) new valid (r .1) in
+    let g = ap length (gates-are ds) in
+    let p = ap (λ (l : List Gate). length (pinCells l)) (gates-are ds) in
+    record {
+      valid = k .valid;
+      formed = k .formed (formed-built ds);
+      free = sorted-no-loop (builtFrom ds) new valid (r .1);
+      inputs = omega (arith, k .inputs, w .inputs);
+      gates = omega (arith, k .gates, g, built-gates (look ds) (defs ds), w .gates);
+      pins = omega (arith, k .pins, p, built-pins (look ds) (defs ds), w .pins);
+      outputs = omega (arith, k .outputs, length-map (outs ds) (look ds), w .outputs);
+    }

@@ -1,0 +1,62 @@
+-- The cells that reading leaves are a network by document 01's layout: the one read. Assumes nothing.
+use mathlib.Core.Path.{_≡_, refl, sym, ap, _∙_, subst}
+use mathlib.Core.Bool.{true}
+use mathlib.Core.List.{List, map}
+use Prim.Native.Nat.{ℕ, _*_, _≤_}
+use native.Mathlib.Omega.{arith}
+use lib.ListN.{length, replicate, length-replicate}
+use Rattle.lists.specs.Lists.{Bytes, zeros, over}
+use Rattle.lists.proofs.Over.{length-over}
+use Rattle.signal.specs.Cell.{sigCell}
+use Rattle.network.specs.Net.{Net}
+use Rattle.network.specs.Cells.{gateWidth, gateCells, pinCells, lent, countsOf, netOf, isNetwork}
+use Rattle.network.proofs.Records.{Sizes}
+use Rattle.network.proofs.Laying.{laid-over}
+use Rattle.network.proofs.Lent.{laid-network}
+use Rattle.blif_model.specs.Read.{Result, read, readText}
+use Rattle.blif_model.proofs.ReadNet.{NetRead, read-net}
+use Rattle.blif_read.specs.Into.{Lengths, lengths, enough, Outcome, filled, readInto}
+use Rattle.blif_read.specs.Stages.{Enough}
+use Rattle.blif_read.proofs.Lending.{enough-cells}
+use Rattle.blif_read.proofs.Summary.{read-answers}
+
+module _ (text : Bytes) (net : Net) (n : Lengths) (e : enough n ≡ true) (r : readText text ≡ read net) where
+  known : NetRead net
+  known = read-net text net r
+
+  -- the outcome of reading
+  left : readInto text n ≡ filled (read net) n
+  left = read-answers text n e ∙ ap (λ (x : Result). filled x n) r
+
+  room : Enough (zeros (n .gates)) (zeros (n .pins)) (zeros (n .outputs)) (zeros (n .workGates)) (zeros (n .workPins))
+  room =
+      enough-cells (zeros (n .gates)) (zeros (n .pins)) (zeros (n .outputs)) (zeros (n .workGates)) (zeros (n .workPins))
+      (ap enough (λ i. lengths (length-replicate {A = ℕ} (n .gates) 0 i) (length-replicate {A = ℕ} (n .pins) 0 i) (length-replicate {A = ℕ} (n .outputs) 0 i) (length-replicate {A = ℕ} (n .workGates) 0 i) (length-replicate {A = ℕ} (n .workPins) 0 i)) ∙ e)
+
+  -- the cells laid over zeros hold the network
+  laid : (isNetwork (lent (countsOf net) (filled (read net) n .gates) (filled (read net) n .pins) (filled (read net) n .outputs)) ≡ true)
+      × (netOf (lent (countsOf net) (filled (read net) n .gates) (filled (read net) n .pins) (filled (read net) n .outputs)) ≡ net)
+  laid =
+      let lg = length-over (gateCells 0 (net .gates)) (zeros (n .gates)) in
+      let lp = length-over (pinCells (net .gates)) (zeros (n .pins)) in
+      let lo = length-over (map sigCell (net .outputs)) (zeros (n .outputs)) in
+      laid-network net (lent (countsOf net) (filled (read net) n .gates) (filled (read net) n .pins) (filled (read net) n .outputs))
+      (laid-over net (zeros (n .gates)) (zeros (n .pins)) (zeros (n .outputs)) (omega (arith, known .gates, room .gates)) (omega (arith, known .pins, room .pins)) (omega (arith, known .outputs, room .outputs)))
+      (known .valid) (known .formed)
+      (record {
+        few-inputs = known .inputs;
+        few-gates = known .gates;
+        few-pins = known .pins;
+        few-outputs = known .outputs;
+        gates-lent = omega (arith, known .gates, room .gates, lg);
+        pins-lent = omega (arith, known .pins, room .pins, lp);
+        outs-lent = omega (arith, known .outputs, room .outputs, lo);
+      })
+
+  -- what is left is a network by the layout that refusal 20 asks for
+  pub read-layout : isNetwork (lent (countsOf net) (readInto text n .gates) (readInto text n .pins) (readInto text n .outputs)) ≡ true
+  read-layout = ap (λ (o : Outcome). isNetwork (lent (countsOf net) (o .gates) (o .pins) (o .outputs))) left ∙ laid .0
+
+  -- and it is the network read
+  pub read-decodes : netOf (lent (countsOf net) (readInto text n .gates) (readInto text n .pins) (readInto text n .outputs)) ≡ net
+  read-decodes = ap (λ (o : Outcome). netOf (lent (countsOf net) (o .gates) (o .pins) (o .outputs))) left ∙ laid .1

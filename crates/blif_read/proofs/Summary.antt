@@ -1,0 +1,35 @@
+-- What `read_blif` answers, as a reviewer would read it. Assumes nothing.
+use mathlib.Core.Path.{_≡_, refl, sym, ap, _∙_}
+use mathlib.Core.Bool.{Bool, true}
+use mathlib.Core.List.{List, map}
+use mathlib.Core.Logic.{_↔_}
+use Prim.Native.Nat.{ℕ}
+use Rattle.lists.specs.Lists.{if_then_else_, Bytes}
+use Rattle.network.specs.Net.{Net}
+use Rattle.network.specs.Cells.{countsOf}
+use Rattle.network.specs.Settle.{run}
+use Rattle.blif_model.specs.Blif.{BlifRuns}
+use Rattle.blif_model.specs.Render.{modelOfText}
+use Rattle.blif_model.specs.Read.{Result, read, refused, readText}
+use Rattle.blif_model.proofs.Summary as model
+use Rattle.blif_read.specs.Into.{Lengths, enough, Outcome, filled, readInto}
+use Rattle.blif_read.specs.declared.ReadAnswer.the-variants.{Read, Refused}
+
+-- demand 2: where a text is read as a network, for every list of input rows the text has just one list of outputs, by the Berkeley text,
+-- and it is the network's
+pub read-means : (text : Bytes) (net : Net) → readText text ≡ read net → (rows outs : List (List Bool))
+    → BlifRuns (modelOfText text) rows outs ↔ (outs ≡ run net rows)
+read-means = model.read-means
+
+-- with enough cells the answer and the cells are those of `readText`'s result
+pub read-answers : (text : Bytes) (n : Lengths) → enough n ≡ true → readInto text n ≡ filled (readText text) n
+unfolding readInto
+read-answers text n e = ap (λ (b : Bool). filled (if b then readText text else refused 1) n) e
+
+-- a network that is read is answered with its counts
+pub read-counts : (text : Bytes) (net : Net) (n : Lengths) → enough n ≡ true → readText text ≡ read net → readInto text n .answer ≡ Read (countsOf net)
+read-counts text net n e r = ap (λ (o : Outcome). o .answer) (read-answers text n e ∙ ap (λ (x : Result). filled x n) r)
+
+-- a refusal is answered with its number
+pub refusal-number : (text : Bytes) (k : ℕ) (n : Lengths) → enough n ≡ true → readText text ≡ refused k → readInto text n .answer ≡ Refused k
+refusal-number text k n e r = ap (λ (o : Outcome). o .answer) (read-answers text n e ∙ ap (λ (x : Result). filled x n) r)
