@@ -2,11 +2,19 @@
 // usage: oracle checks SEED COUNT                  texts and networks with what is read and written, as terms of blif_model's Cases
 //        oracle sort SEED COUNT                    networks and what `topo_sort` makes of them
 //        oracle texts SEED COUNT GIVEN WANTED      files of texts and of the statements that `read_statements` finds
+//        oracle reads SEED COUNT GIVEN WANTED      files of texts and of what `read_blif` answers, as document 01 has it
+//        oracle compare SEED COUNT DEPTH PROGRAM   such texts, with every sequence of up to DEPTH fragments, read by a program
+//        oracle files PROGRAM FILE..               the same for files of one text each, cut behind 32,769 bytes
+mod compare;
 mod generate;
 mod io;
+mod limits;
 mod models;
 mod network;
+mod points;
+mod reads;
 mod texts;
+mod tricky;
 mod variants;
 pub use network::{BinaryType, Gate, NaryType, Network, Signal, TernaryType};
 
@@ -23,8 +31,8 @@ fn words(ws: &[u32]) -> String {
     s
 }
 
-// The cells of a network: a line each of gate records, pins and outputs.
-fn cells(p: &Plain) -> String {
+// The cells of a network: gate records, pins and outputs.
+pub fn cells(p: &Plain) -> (Vec<u32>, Vec<u32>, Vec<u32>) {
     let mut gates = Vec::new();
     let mut pins = Vec::new();
     for (form, ps) in &p.gates {
@@ -32,6 +40,12 @@ fn cells(p: &Plain) -> String {
         pins.extend(ps.iter().map(|s| s.raw()));
     }
     let outs: Vec<u32> = p.outputs.iter().map(|s| s.raw()).collect();
+    (gates, pins, outs)
+}
+
+// The same, a line each.
+fn cell_lines(p: &Plain) -> String {
+    let (gates, pins, outs) = cells(p);
     words(&gates) + &words(&pins) + &words(&outs)
 }
 
@@ -97,14 +111,14 @@ fn sort_list(seed: u64, count: usize) {
         }
         let kind = if s.is_some() { 1 } else { 0 };
         print!("{}", words(&[kind, p.inputs as u32, p.gates.len() as u32, p.pins() as u32, p.outputs.len() as u32]));
-        print!("{}", cells(&p));
+        print!("{}", cell_lines(&p));
         if let Some(x) = &s {
-            print!("{}", cells(x));
+            print!("{}", cell_lines(x));
         }
     }
     for p in over {
         print!("{}", words(&[2, p.inputs as u32, p.gates.len() as u32, p.pins() as u32, p.outputs.len() as u32]));
-        print!("{}", cells(&p));
+        print!("{}", cell_lines(&p));
     }
     for (m, n) in MISTAKES.iter().zip(&caught) {
         assert!(*n != usize::MAX, "the list does not tell {m:?} apart");
@@ -115,19 +129,38 @@ fn sort_list(seed: u64, count: usize) {
 fn main() {
     std::panic::set_hook(Box::new(|_| {}));
     let a: Vec<String> = std::env::args().collect();
+    if let Err(e) = catch_unwind(|| run(&a)) {
+        let why = e.downcast_ref::<String>().cloned().or(e.downcast_ref::<&str>().map(|s| s.to_string()));
+        eprintln!("stopped: {}", why.unwrap_or_default());
+        std::process::exit(1);
+    }
+}
+
+fn run(a: &[String]) {
     match a[1].as_str() {
-        "sort" => {
-            let r = catch_unwind(|| sort_list(a[2].parse().unwrap(), a[3].parse().unwrap()));
-            if let Err(e) = r {
-                let why = e.downcast_ref::<String>().cloned().or(e.downcast_ref::<&str>().map(|s| s.to_string()));
-                eprintln!("stopped: {}", why.unwrap_or_default());
-                std::process::exit(1);
-            }
-        }
+        "sort" => sort_list(a[2].parse().unwrap(), a[3].parse().unwrap()),
         "texts" => {
             let (given, wanted) = texts::lists(a[2].parse().unwrap(), a[3].parse().unwrap());
             std::fs::write(&a[4], given).unwrap();
             std::fs::write(&a[5], wanted).unwrap();
+        }
+        "reads" => {
+            let texts = reads::texts(a[2].parse().unwrap(), a[3].parse().unwrap(), 3);
+            let (wanted, seen) = reads::answers(&texts);
+            reads::table(&texts, &seen);
+            std::fs::write(&a[4], reads::given(&texts)).unwrap();
+            std::fs::write(&a[5], wanted).unwrap();
+        }
+        "compare" => {
+            let texts = reads::texts(a[2].parse().unwrap(), a[3].parse().unwrap(), a[4].parse().unwrap());
+            let (wanted, seen) = reads::answers(&texts);
+            reads::table(&texts, &seen);
+            std::process::exit(!compare::compare(&a[5], &texts, &wanted) as i32);
+        }
+        "files" => {
+            let texts: Vec<Vec<u8>> = a[3..].iter().map(|f| std::fs::read(f).unwrap().into_iter().take(32769).collect()).collect();
+            let wanted = reads::answers(&texts).0;
+            std::process::exit(!compare::compare(&a[2], &texts, &wanted) as i32);
         }
         "checks" => println!("{}", models::checks(a[2].parse().unwrap(), a[3].parse().unwrap())),
         other => panic!("no list {other}"),

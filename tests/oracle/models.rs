@@ -36,7 +36,12 @@ pub fn answer(text: &[u8]) -> Answer {
         Ok(Err(m)) => Answer::Refused(number(&m)),
         Err(e) => {
             let why = e.downcast_ref::<String>().cloned().or(e.downcast_ref::<&str>().map(|s| s.to_string())).unwrap_or_default();
-            Answer::Refused(if why.to_lowercase().contains("loop") { 14 } else { 11 })
+            Answer::Refused(if why.to_lowercase().contains("loop") {
+                14
+            } else {
+                assert!(why.contains("no entry found"), "another panic: {why}");
+                11
+            })
         }
     }
 }

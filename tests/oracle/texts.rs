@@ -72,7 +72,7 @@ const PIECES: &[&[u8]] = &[
     b"\r\n", b"\r", b" ", b" ", b" ", b" ", b"\t", b"\x0b", b"\x0c", b"1 1", b"- 0", b"\\\n", b"\\\r\n", b"\x1c", b"\x7f", b"\x00",
 ];
 
-fn random(r: &mut Numbers) -> Vec<u8> {
+pub fn random(r: &mut Numbers) -> Vec<u8> {
     let n = r.below(40);
     (0..n).flat_map(|_| PIECES[r.below(PIECES.len())].to_vec()).collect()
 }

@@ -1,0 +1,51 @@
+-- `main` is safe and ends. Assumes nothing.
+use Prim.Native.Nat.{_-_}
+use native.Mathlib.Omega.{arith}
+use borrow.Author.Needs.{needs}
+use Rattle.read_replay.proofs.main.Statement.{statement}
+use Rattle.read_replay.proofs.main.Tie as tie
+
+abbrev Inv-loop : tie.InvT-loop
+Inv-loop texts i₀ i = Unit {0}
+
+abbrev μ-loop : tie.MeasureT-loop
+μ-loop texts i₀ i = texts - i
+
+read-word-requires : tie.Need-read-word-requires Inv-loop μ-loop
+read-word-requires c κs = search needs
+
+loop-holds : tie.Need-loop-holds Inv-loop μ-loop
+loop-holds c = tt
+
+replay-text-requires : tie.Need-replay-text-requires Inv-loop μ-loop
+replay-text-requires c κs = search needs
+
+add-i : tie.Need-add-i Inv-loop μ-loop
+add-i c = omega arith
+
+loop-less : tie.Need-loop-less Inv-loop μ-loop
+loop-less c = omega arith
+
+loop-again : tie.Need-loop-again Inv-loop μ-loop
+loop-again c = tt
+
+replay-short-requires : tie.Need-replay-short-requires Inv-loop μ-loop
+replay-short-requires c κs = search needs
+
+returns : tie.Need-returns Inv-loop μ-loop
+returns c = tt
+
+pub main-spec : {M : Type 1} → statement M
+main-spec =
+    tie.close
+    (tie.spec
+    Inv-loop
+    μ-loop
+    read-word-requires
+    loop-holds
+    replay-text-requires
+    add-i
+    loop-less
+    loop-again
+    replay-short-requires
+    returns)

@@ -1,0 +1,235 @@
+// Texts by hand with the answer that document 01 gives each (0: read), and every short sequence of fragments.
+use crate::limits::sizes;
+
+// Document 01's netlists worked by hand, those that are read.
+const CASES: &[(u32, &str)] = &[
+    (0, ""),
+    (0, ".model m\n.inputs a b\n.outputs y\n.names a b y\n11 1\n.end\n"),
+    (0, ".outputs y\n.names y\n"),
+    (0, ".outputs y\n.names y\n1\n"),
+    (0, ".inputs a b\n.outputs y\n.names a b y\n00 0\n11 0\n"),
+    (0, ".inputs a\\\nb\n"),
+    (0, ".inputs a #\\\n.outputs a\n"),
+    (0, ".names b a\n- 1\n.names a b\n1 1\n"),
+    (14, ".names b a\n1 1\n.names a b\n1 1\n"),
+    (0, ".model m\n.end\n.inputs a\n"),
+    (0, ".exdc\n.names\n"),
+    (5, ".exdc\n.names\n.gate\n"),
+    (0, ".inputs i0 i1\n.outputs x0_n i0_n i1_n\n.names i0 x0\n1 1\n.names x0 x0_n\n0 1\n.names i1 i1_n\n0 1\n.names i0 i0_n\n0 1\n"),
+    (0, ".outputs x0\n.names x0\n 0\n.names vdd\n1\n.names gnd\n"),
+];
+
+const LINES: &[(u32, &str)] = &[
+    // a CR at the end of the file stays, a blank; one CR before LF goes
+    (11, ".outputs a\n.inputs a\\\r"),
+    (0, ".outputs b\n.inputs a\\\r\nb\n"),
+    (11, ".outputs a\n.inputs a\\\r\r\nb\n"),
+    (0, ".outputs b\n.inputs a\rb\n"),
+    (0, ".outputs b\r\n.inputs a\r\n.names a b\r\n1 1\r\n"),
+    // a continuation at the end of the file, two backslashes
+    (0, ".outputs a\n.inputs a\\"),
+    (0, ".outputs a\n.inputs a\\\n"),
+    (0, ".outputs a\\ b\n.inputs a\\\\\nb"),
+    // a backslash before a blank or a comment belongs to its token
+    (12, ".inputs a\n.names a y\n1 1 \\ "),
+    (11, ".outputs a\n.inputs a\\ \nb"),
+    (0, ".outputs a\\ \n.inputs a\\#x\nb"),
+    (11, ".outputs b\n.inputs a\\#x\nb"),
+    // a comment cuts a token; an empty line ends a statement; a continuation parts two tokens
+    (0, ".model m\n.end#x"),
+    (11, ".inputs a\\\n\nb\n.outputs b"),
+    (0, ".inputs a\\\n\\\nb\n.outputs b"),
+    (5, ".inp\\\nuts a"),
+    (0, ".inputs a\\\n# c\\\n.outputs a"),
+    (0, ".inputs a\\\n.outputs b\n.outputs .outputs b"),
+    // bytes that names may have, and blanks
+    (0, ".inputs \x00 \x1c \x1d\x1e\x1f \x7f\n.outputs \x7f \x1d\x1e\x1f \x1c \x00"),
+    (0, "\x0b.inputs\x0ca\x0bb\tc\n.outputs c\x0cb a"),
+    // keywords byte for byte
+    (5, "."),
+    (5, ".MODEL m"),
+    (5, ".names\\ a"),
+    (5, ".input a"),
+    (5, ".inputsa"),
+    (0, "\\.foo"),
+    (5, ".inputs a\n.names a y\n.1 1"),
+    (0, ".inputs .a\n.names .a .y\n1 1\n.outputs .y"),
+    (0, ".inputs .names .end\n.outputs .end .names"),
+    // nothing but blanks, comments, stray lines
+    (0, "\n"),
+    (0, " \t\x0b\x0c\r \n# a\n#"),
+    (0, "1 1"),
+    (0, "2 x y z\n"),
+];
+
+const ORDER: &[(u32, &str)] = &[
+    // the first bad statement decides, also after .exdc
+    (4, ".model # m"),
+    (4, ".latch d"),
+    (4, ".latch"),
+    (4, ".latch d # q"),
+    (4, ".model\n.foo"),
+    (5, ".foo\n.model"),
+    (4, ".exdc\n.model"),
+    (5, ".exdc\n.foo"),
+    (4, ".inputs a a\n.latch a"),
+    (5, ".names\n.foo"),
+    // 7 to 10 by statement
+    (7, ".model m\n.model m"),
+    (7, ".model m\n.model n\n.names"),
+    (8, ".end"),
+    (8, ".end\n.model m"),
+    (8, ".end\n.names"),
+    (9, ".names\n.end"),
+    (9, ".names # y\n.inputs a a"),
+    (10, ".inputs a a\n.names"),
+    (10, ".inputs a\n.latch a a"),
+    (10, ".inputs a\n.names a a\n1 1"),
+    (10, ".names a\n.names a"),
+    (10, ".latch a q\n.latch a q"),
+    (10, ".names y\n.inputs y"),
+    (0, ".model m\n.end\n.end"),
+    (0, ".inputs a\n.model m\n.end"),
+    (0, ".model m\n.exdc\n.model m\n.inputs a a"),
+    // all of them before 11
+    (7, ".outputs q\n.model m\n.model m"),
+    (8, ".outputs q\n.end"),
+    (9, ".outputs q\n.names"),
+    (10, ".outputs q\n.inputs a a"),
+    // 11 in outputs, latches, covers with and without lines, and where the definition stands after .exdc
+    (11, ".outputs a"),
+    (11, ".latch d q"),
+    (11, ".names d y"),
+    (11, ".names d y\n1 1"),
+    (11, ".outputs a\n.exdc\n.inputs a"),
+    (11, ".outputs vdd"),
+    (11, ".inputs ab\n.outputs a"),
+    (11, ".inputs a\n.outputs ab"),
+    // 11 before 12, 12 and 13 before 14
+    (11, ".inputs a\n.names a y\n2 1\n.names q z\n1 1"),
+    (11, ".inputs a\n.names a y\n2 1\n.outputs q"),
+    (12, ".inputs a\n.names y y\n1 1\n.names a z\n2 1"),
+    (13, ".inputs a\n.names y y\n1 1\n.names a z\n1 1\n0 0"),
+    // cover by cover: 13 of an earlier one, 12 within one
+    (13, ".inputs a\n.names a y\n1 1\n0 0\n.names a z\n2 1"),
+    (12, ".inputs a\n.names a y\n2 1\n.names a z\n1 1\n0 0"),
+    (12, ".inputs a\n.names a y\n1 1\n0 0\n2 1"),
+    (12, ".inputs a\n.names a y\n1 1\n0 0\n1 2"),
+];
+
+const COVERS: &[(u32, &str)] = &[
+    // directly after: empty and comment lines do not interrupt, statements do
+    (0, ".inputs a\n.outputs y\n.names a y\n\n# c\n1 1\n \n0 1"),
+    (0, ".model m\n.inputs a\n.names a y\n.end\n2 1"),
+    (0, ".inputs a\n.names a y\n.inputs\n2 1"),
+    (0, ".inputs a\n.names a y\n.outputs\n2 1"),
+    (0, ".inputs a\n.names a y\n.exdc\n2 1"),
+    (0, ".inputs a\n2 1\n.names a y\n1 1\n.latch a q\n2 1"),
+    // tokens and columns
+    (12, ".inputs a\n.names a y\n1"),
+    (12, ".inputs a\n.names a y\n11"),
+    (12, ".inputs a\n.names a y\n11 1"),
+    (12, ".inputs a b\n.names a b y\n1 1"),
+    (12, ".inputs a\n.names a y\n1 1 1"),
+    (12, ".inputs a\n.names a y\n1 11"),
+    (12, ".inputs a\n.names a y\n1 -"),
+    (12, ".inputs a\n.names a y\nx 1"),
+    (12, ".names y\n- 1"),
+    (12, ".names y\n-"),
+    (12, ".names y\n1 1"),
+    (12, ".names y\n01"),
+    (0, ".inputs a\n.outputs y\n.names a y\n1\\\n1"),
+    (13, ".names y\n1\n0"),
+    // one line: And, Nand, Buf, constants
+    (0, ".outputs y\n.names y\n0"),
+    (0, ".inputs a\n.outputs y\n.names a y\n- 0"),
+    (0, ".inputs a\n.outputs y\n.names a y\n- 1"),
+    (0, ".inputs a\n.outputs y\n.names a y\n0 0"),
+    (0, ".inputs a\n.outputs y\n.names a y\n0 1"),
+    (0, ".inputs a b c\n.outputs y\n.names a b c y\n-10 0"),
+    (0, ".inputs a b c\n.outputs y\n.names a b c y\n1-- 1"),
+    (0, ".inputs a\n.outputs y\n.names a a y\n10 1"),
+    (0, ".inputs a b\n.outputs y\n.names a b y\n"),
+    // two lines or more: Or, and And where the outputs are 0
+    (0, ".inputs a b\n.outputs y\n.names a b y\n11 1\n00 1\n"),
+    (0, ".inputs a b\n.outputs y\n.names a b y\n-- 0\n1- 0\n"),
+    (0, ".inputs a b\n.outputs y z\n.names a b y\n10 0\n01 0\n.names a y z\n1- 1\n-0 1\n"),
+    (0, ".inputs a\n.outputs z y\n.names y x z\n11 0\n00 0\n.names a y\n1 0\n0 0\n.names a x\n1 0\n"),
+    (0, ".outputs y\n.names y\n1\n1\n1"),
+    (0, ".outputs y\n.names y\n0\n0"),
+    // loops of the gates as built
+    (0, ".names y y\n- 1"),
+    (14, ".names y y\n1 1"),
+    (14, ".names y y\n0 0"),
+    (0, ".names y y\n"),
+    (14, ".inputs i\n.outputs i\n.names b a\n1 1\n.names a b\n0 1"),
+    (14, ".names b a\n1 1\n- 1\n.names a b\n1 1"),
+    (0, ".names q d\n1 1\n.latch d q"),
+    (0, ".latch q q\n.outputs q"),
+    (0, ".latch p q\n.latch q p\n.outputs p q"),
+    // a latch's second name is its output; what follows is not looked at
+    (0, ".inputs a\n.outputs q\n.latch a q re c 1"),
+    (0, ".inputs a\n.outputs q\n.latch a q"),
+    (11, ".inputs q\n.latch a b q"),
+    // names of equal hashes and names that begin alike
+    (0, ".inputs Aa BB a aa aaa\n.outputs BB Aa aaa a aa"),
+    (11, ".inputs Aa\n.outputs BB"),
+];
+
+const SORT: &[(u32, &str)] = &[
+    // in order already, and moved all the same
+    (0, ".inputs a b\n.outputs x y z\n.names a b x\n11 1\n.names a b y\n10 1\n.names y x z\n11 1"),
+    // the last of the stack first
+    (0, ".inputs a b\n.outputs x y z\n.names y z x\n11 1\n.names a b y\n11 1\n.names b a z\n11 1"),
+    (0, ".inputs a\n.outputs x y z\n.names a x\n1 1\n.names a y\n1 1\n.names a z\n1 1"),
+    // flip-flops come first, in old order, and their data is no use
+    (0, ".inputs a b\n.outputs x p q\n.names a b x\n11 1\n.latch a p\n.latch b q"),
+    (0, ".inputs a b\n.outputs x q y\n.names a b x\n11 1\n.latch x q\n.names b a y\n11 1"),
+    // a repeat counts twice, also x with !x
+    (0, ".inputs a b\n.outputs x y z\n.names a b x\n11 1\n.names a b y\n10 1\n.names x y x z\n111 1"),
+    (0, ".inputs a b\n.outputs x y z\n.names a b x\n11 1\n.names a b y\n10 1\n.names x y x z\n110 1"),
+    // a popped flip-flop lowers nothing
+    (0, ".inputs a b\n.outputs q x y z\n.latch x q\n.names a b x\n11 1\n.names x a y\n11 1\n.names y q x z\n111 1"),
+    // lines of covers stand behind all covers, cover by cover
+    (0, ".inputs a b\n.outputs y x q\n.names a x y\n11 1\n00 1\n.names a b x\n1- 1\n-1 1\n.latch y q"),
+];
+
+const HIGH: &[(u32, &[u8])] = &[
+    (3, b"\x80"),
+    (3, b"#\xff"),
+    (3, b".foo\x80"),
+    (3, b".model\n\xc3\xa9"),
+    (3, b".exdc\n# \xe2\x80\x83"),
+    (0, b"\x7f"),
+];
+
+pub fn by_hand() -> Vec<(u32, Vec<u8>)> {
+    let parts = [CASES, LINES, ORDER, COVERS, SORT].concat();
+    let mut all: Vec<(u32, Vec<u8>)> = parts.iter().map(|(k, t)| (*k, t.as_bytes().to_vec())).collect();
+    all.extend(HIGH.iter().map(|(k, t)| (*k, t.to_vec())));
+    all.extend(sizes());
+    all
+}
+
+// What short sequences are made of: statements; ends of lines behind names; lines of a cover of two names.
+const STATEMENTS: &[&str] = &[".names a\n", ".inputs a\n", ".outputs a\n", "1\n", "1 1\n", ".end\n", ".model m\n", ".latch a b\n"];
+const ENDS: &[&str] = &["\\", "\n", "\r", " ", "#", "b", ".end"];
+const ROWS: &[&str] = &["11 1\n", "0- 1\n", "-- 0\n", "10 0\n", "1 1\n", "2- 1\n", ".names a b\n"];
+
+// Every sequence of up to so many fragments behind a text.
+fn every(before: &str, fragments: &[&str], depth: usize) -> Vec<Vec<u8>> {
+    let mut all = vec![before.as_bytes().to_vec()];
+    let mut last = all.clone();
+    for _ in 0..depth {
+        last = last.iter().flat_map(|t| fragments.iter().map(move |f| [t, f.as_bytes()].concat())).collect();
+        all.extend(last.clone());
+    }
+    all
+}
+
+pub fn sequences(depth: usize) -> Vec<Vec<u8>> {
+    let mut all = every("", STATEMENTS, depth);
+    all.extend(every(".model m\n.outputs a b\n.inputs a", ENDS, depth));
+    all.extend(every(".inputs a c\n.outputs y\n.names a c y\n", ROWS, depth));
+    all
+}

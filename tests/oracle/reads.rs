@@ -1,0 +1,124 @@
+// Texts, and what reading must answer for each: Quaigh's `read_blif`, with document 01's numbers and sizes and its And where cover
+// lines with output 0 are joined.
+use crate::cells;
+use crate::generate::{Numbers, Plain};
+use crate::io::statements::{too_large, with_ones};
+use crate::models::{answer, Answer};
+use crate::points;
+use crate::tricky;
+use std::collections::BTreeMap;
+use std::panic::catch_unwind;
+
+const MAX_TEXT: usize = 32768;
+
+pub enum Wanted {
+    Read(Plain),
+    Refused(u32),
+}
+
+// A network as read, with And in place of the Nand that joins a cover's lines: those gates are an Or when the outputs are 1.
+fn joined_by_and(text: &[u8], mut p: Plain) -> Plain {
+    let ones = Plain::of(&with_ones(text));
+    assert!(p.outputs == ones.outputs && p.gates.len() == ones.gates.len(), "a gate moved");
+    for (gate, other) in p.gates.iter_mut().zip(&ones.gates) {
+        let bare = |g: &(u32, Vec<crate::Signal>)| g.1.iter().filter(|s| s.is_var()).map(|s| s.var()).collect::<Vec<_>>();
+        assert!(bare(gate) == bare(other), "a gate moved");
+        if gate.0 == 9 && other.0 == 8 {
+            gate.0 = 7;
+        }
+    }
+    p
+}
+
+pub fn wanted(text: &[u8]) -> Wanted {
+    if text.len() > MAX_TEXT {
+        return Wanted::Refused(2);
+    }
+    if text.iter().any(|b| *b >= 128) {
+        return Wanted::Refused(3);
+    }
+    match catch_unwind(|| too_large(text)) {
+        Err(_) => return Wanted::Refused(4),
+        Ok(None) => return Wanted::Refused(5),
+        Ok(Some(true)) => return Wanted::Refused(6),
+        Ok(Some(false)) => (),
+    }
+    match answer(text) {
+        Answer::Refused(k) => Wanted::Refused(k),
+        Answer::Read(n) => Wanted::Read(joined_by_and(text, Plain::of(&n))),
+    }
+}
+
+// The refusal's number, 0 where the text is read.
+pub fn kind(w: &Wanted) -> u32 {
+    match w {
+        Wanted::Read(_) => 0,
+        Wanted::Refused(k) => *k,
+    }
+}
+
+fn line(name: &str, cells: &[u32]) -> String {
+    name.to_string() + &cells.iter().map(|c| format!(" {c:x}")).collect::<String>() + "\n"
+}
+
+// The answer's lines: the refusal, or the counts and the cells in use.
+fn shown(w: &Wanted) -> String {
+    match w {
+        Wanted::Refused(k) => format!("refused={k}\n"),
+        Wanted::Read(p) => {
+            let (gates, pins, outputs) = cells(p);
+            format!("counts {} {} {} {}\n", p.inputs, p.gates.len(), pins.len(), outputs.len())
+                + &line("gates", &gates)
+                + &line("pins", &pins)
+                + &line("outputs", &outputs)
+        }
+    }
+}
+
+// What the program prints after the texts: each slice one cell short, then no cells and a text that is too long.
+const SHORT: &str = "short\nrefused=1\nrefused=1\nrefused=1\nrefused=1\nrefused=1\nrefused=1\n";
+
+// The texts by hand, every short sequence of fragments, and so many from a seed.
+pub fn texts(seed: u64, count: usize, depth: usize) -> Vec<Vec<u8>> {
+    let mut all = Vec::new();
+    for (k, t) in points::by_hand() {
+        let w = kind(&wanted(&t));
+        assert!(w == k, "{:?}: {w}, and by hand {k}", String::from_utf8_lossy(&t[..t.len().min(200)]));
+        all.push(t);
+    }
+    all.extend(points::sequences(depth));
+    let mut r = Numbers(seed);
+    all.extend((0..count).map(|k| tricky::text(&mut r, k)));
+    all
+}
+
+pub fn given(texts: &[Vec<u8>]) -> Vec<u8> {
+    let mut g = format!("{:08x}\n", texts.len()).into_bytes();
+    for t in texts {
+        assert!(t.len() <= MAX_TEXT + 1, "a text that the program has no room for");
+        g.extend(format!("{:08x}\n", t.len()).into_bytes());
+        g.extend(t);
+    }
+    g
+}
+
+// The answers, each behind the number of its text, and how often each occurs.
+pub fn answers(texts: &[Vec<u8>]) -> (String, BTreeMap<u32, usize>) {
+    let mut s = String::new();
+    let mut seen = BTreeMap::new();
+    for (i, t) in texts.iter().enumerate() {
+        let w = wanted(t);
+        *seen.entry(kind(&w)).or_insert(0) += 1;
+        s += &format!("text {i}\n{}", shown(&w));
+    }
+    (s + SHORT, seen)
+}
+
+// Prints how often each answer occurs; each must.
+pub fn table(texts: &[Vec<u8>], seen: &BTreeMap<u32, usize>) {
+    eprintln!("{} texts", texts.len());
+    for (k, n) in seen {
+        eprintln!("{:>8} {n}", if *k == 0 { "read".to_string() } else { k.to_string() });
+    }
+    assert!((2..15).all(|k| seen.contains_key(&k)), "a refusal does not occur");
+}
