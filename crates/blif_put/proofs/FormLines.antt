@@ -2,7 +2,7 @@
 use mathlib.Core.Path.{_≡_, refl, sym, _∙_, ap, ap₂, subst}
 use mathlib.Core.Bool.{Bool, true, false, not, cond}
 use mathlib.Core.List.{List, [], _∷_, _++_, map, flatMap, append-assoc, append-nil}
-use Prim.Native.Nat.{ℕ, zero, suc, _+_, _-_, _*_, _^_, _/_, _%_, _≤_, _<_}
+use Prim.Native.Nat.{ℕ, zero, suc, _+_, _*_, _^_, _/_, _%_, _≤_, _<_}
 use native.Mathlib.Nat.{pow-succ'}
 use native.Mathlib.Numerals.{add-one}
 use native.Mathlib.Omega.{arith}
@@ -11,8 +11,8 @@ use lib.Count.{ones, ones-step}
 use lib.ListN.{length, getD, drop, replicate, List·getD-map}
 use lib.Seq.{drop-cons, drop-length}
 use Rattle.lists.specs.Lists.{Bytes, all, range}
-use Rattle.lists.proofs.Tests.{by-order, by-test}
-use Rattle.gates.specs.Gate.{odd, Form, AndN, OrN, NandN, NorN, XorN, XnorN}
+use Rattle.lists.proofs.Tests.{by-order}
+use Rattle.gates.specs.Gate.{odd, AndN, OrN, NandN, NorN, XorN, XnorN}
 use Rattle.gates.specs.Forms.{binaryForm, ternaryForm, naryForm}
 use Rattle.gates.specs.declared.BinaryType.{BinaryType}
 use Rattle.gates.specs.declared.BinaryType.the-variants as B
@@ -22,9 +22,9 @@ use Rattle.gates.specs.declared.NaryType.{NaryType}
 use Rattle.blif_model.specs.Blif.{Col, C0, C1, Line}
 use Rattle.blif_model.specs.Write as write
 use Rattle.blif_model.specs.Write.{doubled, masks, colOf, minterms, even, linesOf}
-use Rattle.blif_model.specs.Render.{colByte, outByte, cubeLine, spaced, line}
-use Rattle.blif_put.specs.Text.{Wrote, Appended}
-use Rattle.blif_put.specs.Lines.{cubeText, linesText, outputText, maskBits, columnsOf, cubeOf, sameCube, mintermAt, mintermsFrom, maskLines, rowsOf, Narrow}
+use Rattle.blif_model.specs.Render.{colByte, outByte, spaced, line}
+use Rattle.blif_put.specs.Text.{Appended}
+use Rattle.blif_put.specs.Lines.{cubeText, linesText, outputText, maskBits, columnsOf, cubeOf, sameCube, mintermAt, mintermsFrom, maskLines, Narrow}
 use Rattle.blif_put.proofs.Laws.{Going, going-start, going-append, going-done}
 
 -- a cube line is its columns and its output

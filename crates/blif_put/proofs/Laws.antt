@@ -1,7 +1,7 @@
 -- Text laid over an output slice: a byte more, a part more, and what does not fit. Assumes nothing.
 use mathlib.Core.Path.{_≡_, refl, sym, _∙_, ap, subst}
-use mathlib.Core.List.{List, [], _∷_, _++_, append-nil, append-assoc}
-use Prim.Native.Nat.{ℕ, zero, suc, _+_, _-_, _≤_, _<_, min}
+use mathlib.Core.List.{[], _∷_, _++_, append-nil, append-assoc}
+use Prim.Native.Nat.{ℕ, zero, suc, _+_, _-_, _≤_, _<_}
 use native.Mathlib.Nat.{not-suc-le-zero, le-of-suc-le-suc, zero-add, suc-add}
 use native.Mathlib.Numerals.{add-one}
 use native.Mathlib.Omega.{arith}
@@ -64,9 +64,6 @@ module _ {s o p : Bytes} {i : ℕ} where
 
   pub copy-all : length s ≤ i → Copied s o p i → Wrote s o p i
   copy-all h c = record { out = copy-done h c; len = omega (arith, c .of, c .within) }
-
-pub wrote-whole : {s o p : Bytes} → length s ≤ length o → p ≡ over s o → Wrote s o p (length s)
-wrote-whole h e = record { out = e; len = omega arith }
 
 over-past : (t s o : Bytes) → length o ≤ length t → over (t ++ s) o ≡ over t o
 over-past [] [] [] h = refl
@@ -175,9 +172,6 @@ module _ {w left o p : Bytes} {a at : ℕ} (g : Going w left o a p at) where
   pub going-part : {s rest q : Bytes} {r : ℕ} → left ≡ s ++ rest → at ≤ length p → Wrote s (take (length p - at) (drop at p)) q r
       → Going w rest o a (take at p ++ (q ++ drop (length p - at) (drop at p))) (at + r)
   going-part e h v = going-append e (append-room h v)
-
-  pub going-high : at ≤ length o + 1
-  going-high = omega (arith, g .wrote .len)
 
   -- there is no room for what is left
   pub going-full : length p < at → Appended w o a p at

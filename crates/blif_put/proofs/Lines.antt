@@ -1,8 +1,7 @@
 -- Cube lines: the columns as the code finds them, the masks in rising order, and a form's lines. Assumes nothing.
-use mathlib.Core.Path.{_≡_, refl, sym, _∙_, ap, subst}
-use mathlib.Core.Bool.{Bool, true, false, cond}
-use mathlib.Core.List.{List, [], _∷_, _++_, map}
-use mathlib.Core.Logic.{⊎-elim}
+use mathlib.Core.Path.{_≡_, refl, sym, _∙_, ap}
+use mathlib.Core.Bool.{Bool, true, cond}
+use mathlib.Core.List.{[], _∷_, _++_, map}
 use Prim.Native.Nat.{ℕ, zero, suc, _+_, _-_, _*_, _^_, _/_, _%_, _≤_, _<_}
 use native.Mathlib.Nat.{sub-zero}
 use native.Mathlib.Numerals.{add-one}
@@ -19,7 +18,7 @@ use Rattle.blif_model.specs.Write.{colOf}
 use Rattle.blif_model.specs.Render.{colByte}
 use Rattle.blif_put.specs.Text.{Wrote}
 use Rattle.blif_put.specs.Lines.{maskBits, columnsOf, cubeOf, mintermAt, mintermsFrom, maskLines}
-use Rattle.blif_put.proofs.Laws.{Copied, copy-start, copy-kept, copy-next, copy-full, copy-all, Going, going-start, going-part, going-full, going-done, from-start}
+use Rattle.blif_put.proofs.Laws.{Copied, copy-start, copy-next, copy-full, copy-all, Going, going-start, going-part, going-full, going-done, from-start}
 
 -- ---- columns of a mask
 

@@ -14,7 +14,7 @@ use Rattle.signal.specs.Cell.{sigCell, nodeOf, sigOf, gateCell, inputCell}
 use Rattle.signal.proofs.Cells.{signal-again, small-node, gate-cell, input-cell}
 use Rattle.gates.specs.declared.NaryType.{NaryType}
 use Rattle.gates.specs.Forms.{naryForm}
-use Rattle.blif_model.specs.Blif.{Col, C0, C1, Line, Cover}
+use Rattle.blif_model.specs.Blif.{Line, Cover}
 use Rattle.blif_model.specs.Names.{nameBytes}
 use Rattle.blif_model.specs.Write as write
 use Rattle.blif_model.specs.Write.{colOf, linesOf, formBlock, isConst, unless, gateName, bare, bufBlock}

@@ -1,15 +1,15 @@
 -- The texts of cube lines (document 01, src/io/blif.rs). Assumes nothing: these are definitions.
-use mathlib.Core.Bool.{Bool, true, false, cond}
+use mathlib.Core.Bool.{Bool, true, cond}
 use mathlib.Core.List.{List, [], _∷_, _++_, map}
 use Prim.Native.Nat.{ℕ, zero, suc, _^_, _/_, _%_, _≤_}
 use lib.Dec.{eqb}
-use lib.ListN.{length, replicate}
+use lib.ListN.{replicate}
 use lib.Count.{ones}
-use Rattle.lists.specs.Lists.{Bytes, range}
+use Rattle.lists.specs.Lists.{Bytes}
 use Rattle.gates.specs.Gate.{Form}
 use Rattle.gates.specs.declared.NaryType.{NaryType}
 use Rattle.gates.specs.declared.NaryType.the-variants as N
-use Rattle.blif_model.specs.Blif.{Col, Line}
+use Rattle.blif_model.specs.Blif.{Line}
 use Rattle.blif_model.specs.Write.{colOf, linesOf}
 use Rattle.blif_model.specs.Render.{colByte, outByte, cubeLine, line}
 

@@ -34,7 +34,7 @@ fn copy(out: &mut [u8], s: &[u8])
 }
 
 // Copies s to the front of out, as far as it goes. Gives back its length, or one more than the room.
-pub fn put_bytes(out: &mut [u8], s: &[u8]) -> usize
+fn put_bytes(out: &mut [u8], s: &[u8]) -> usize
     ensures { λ r. ⌜ Wrote (now (s .entry)) (now (out .entry)) (now (out .exit)) r ⌝ }
 {
     let room = out.len();
@@ -275,7 +275,7 @@ fn append_row(out: &mut [u8], at: usize, columns: &[u8]) -> usize
 }
 
 // Writes the cover lines of a Binary type.
-pub fn append_binary_lines(out: &mut [u8], at: usize, t: BinaryType) -> usize
+fn append_binary_lines(out: &mut [u8], at: usize, t: BinaryType) -> usize
     ensures { λ r. ⌜ Appended (linesText (linesOf (binaryForm t) 2)) (now (out .entry)) at (now (out .exit)) r ⌝ }
 {
     if at > out.len() {
@@ -292,7 +292,7 @@ pub fn append_binary_lines(out: &mut [u8], at: usize, t: BinaryType) -> usize
 }
 
 // Writes the cover lines of a Ternary type.
-pub fn append_ternary_lines(out: &mut [u8], at: usize, t: TernaryType) -> usize
+fn append_ternary_lines(out: &mut [u8], at: usize, t: TernaryType) -> usize
     ensures { λ r. ⌜ Appended (linesText (linesOf (ternaryForm t) 3)) (now (out .entry)) at (now (out .exit)) r ⌝ }
 {
     if at > out.len() {
@@ -324,7 +324,7 @@ fn write_nary_lines(out: &mut [u8], t: NaryType, num_vars: usize) -> usize
 }
 
 // The same at place at.
-pub fn append_nary_lines(out: &mut [u8], at: usize, t: NaryType, num_vars: usize) -> usize
+fn append_nary_lines(out: &mut [u8], at: usize, t: NaryType, num_vars: usize) -> usize
     requires { ⌜ Narrow t «num_vars» ⌝ }
     ensures { λ r. ⌜ Appended (linesText (linesOf (naryForm t) «num_vars»)) (now (out .entry)) at (now (out .exit)) r ⌝ }
 {

@@ -1,11 +1,10 @@
 -- The marks of the gates in lent cells, one after the other. Assumes nothing.
-use mathlib.Core.Path.{_≡_, refl, sym, _∙_, ap}
-use mathlib.Core.List.{List, [], _++_, map}
+use mathlib.Core.Path.{_≡_, ap}
+use mathlib.Core.List.{List}
 use mathlib.Core.Option.{some}
 use Prim.Native.Nat.{ℕ, _+_, _-_, _≤_, _<_}
 use native.Mathlib.Nat.{sub-zero}
 use native.Mathlib.Omega.{arith}
-use Rattle.signal.specs.Signal.{Signal}
 use Rattle.gates.specs.Gate.{Gate}
 use Rattle.network.specs.Cells.{gateAt}
 use Rattle.blif_model.specs.Write.{named}

@@ -1,12 +1,11 @@
 -- The inverters' text, one after the other. Assumes nothing.
 use mathlib.Core.Path.{_≡_, refl, sym, _∙_, ap, ap₂}
-use mathlib.Core.Bool.{Bool, true, false, cond}
-use mathlib.Core.List.{List, [], _∷_, _++_, append-assoc, append-nil, flatMap}
+use mathlib.Core.Bool.{Bool, false, cond}
+use mathlib.Core.List.{List, [], _∷_, _++_, append-assoc, flatMap}
 use Prim.Native.Nat.{ℕ, suc, _+_, _-_, _^_, _≤_, _<_}
 use native.Mathlib.Nat.{sub-zero}
 use native.Mathlib.Numerals.{add-one}
 use native.Mathlib.Omega.{arith}
-use lib.Dec.{eqb}
 use lib.ListN.{length, getD, take, drop}
 use borrow.Author.Tests.{eq-eqb, ne-eqb}
 use Rattle.lists.specs.Lists.{Bytes, bytes}
@@ -53,6 +52,7 @@ inverter-some mark b c h l k e =
 
 -- ---- those of gates, upwards
 
+-- the inverters of the gates before g are written
 pub record GatesTurned (marks : List ℕ) (n : ℕ) (o : Bytes) (a : ℕ) (p : Bytes) (at g : ℕ) : Type 0 where
   pub within : g ≤ n
   pub few : n ≤ 1024
@@ -85,6 +85,7 @@ module _ {marks : List ℕ} {n : ℕ} {o : Bytes} {a : ℕ} {p : Bytes} {at g : 
 
 -- ---- those of inputs, downwards
 
+-- the inverters of the inputs from i on are written
 pub record InputsTurned (marks : List ℕ) (n : ℕ) (o : Bytes) (a : ℕ) (p : Bytes) (at i : ℕ) : Type 0 where
   pub within : i ≤ n
   pub few : n ≤ 256

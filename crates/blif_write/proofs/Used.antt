@@ -8,16 +8,15 @@ use native.Mathlib.Omega.{arith}
 use lib.Dec.{eqb}
 use lib.ListN.{length, getD, set, replicate, length-replicate, getD-replicate}
 use lib.Seq.{getD-set-same, getD-set-other}
-use borrow.Author.Tests.{eqb-true, eqb-false, eq-eqb}
+use borrow.Author.Tests.{eqb-true, eqb-false}
 use Rattle.lists.specs.Lists.{Bytes, if_then_else_, filter, range}
 use Rattle.lists.proofs.Tests.{by-test, and-true, and-false}
 use Rattle.signal.specs.Signal.{Node, Const, Input, Gated, Signal}
-use Rattle.signal.specs.Cell.{sigOf}
 use Rattle.gates.specs.Gate.{Gate}
 use Rattle.network.specs.Net.{Net}
 use Rattle.blif_model.specs.Names.{nameBytes}
-use Rattle.blif_model.specs.Write.{sameNode, usedAmong, named, usedIn, inverted, downTo, inverters, inverterBlock}
-use Rattle.blif_model.specs.Render.{line, blockLines, allLines}
+use Rattle.blif_model.specs.Write.{sameNode, usedAmong, named, usedIn, inverted, downTo, inverterBlock}
+use Rattle.blif_model.specs.Render.{blockLines, allLines}
 use Rattle.blif_put.specs.Blocks.{blockText}
 use Rattle.blif_write.specs.Parts.{blocksText, invertersText}
 use Rattle.blif_write.specs.Marks.{gateOf, inputOf, marked, markAll, namedIn, inverterAt, gateInverters, inputInverters}

@@ -1,31 +1,30 @@
 -- The whole text, and what `write_blif` answers. Assumes nothing.
 use mathlib.Core.Path.{_≡_, refl, sym, _∙_, ap, ap₂}
-use mathlib.Core.Bool.{Bool, true, false, not, _||_}
+use mathlib.Core.Bool.{Bool, true, false, _||_}
 use mathlib.Core.List.{List, [], _∷_, _++_, map, flatMap, append-assoc}
-use Prim.Native.Nat.{ℕ, zero, suc, _+_, _-_, _^_, _≤_, _<_, min}
+use Prim.Native.Nat.{ℕ, zero, suc, _-_, _^_, _≤_, _<_, min}
 use native.Mathlib.Nat.{sub-zero}
 use native.Mathlib.Omega.{arith}
 use lib.Dec.{ltb}
-use lib.ListN.{length, getD, take, drop, replicate, length-append, length-take, length-drop, length-replicate, length-map, drop-of-length-le}
-use lib.Seq.{take-all, take-append-le, length-take-le}
+use lib.ListN.{length, getD, take, drop, length-append, length-drop, length-replicate, length-map}
+use lib.Seq.{take-append-le, length-take-le}
 use borrow.Author.Tests.{lt-ltb, le-ltb}
 use Rattle.lists.specs.Lists.{if_then_else_, Bytes, bytes, zeros, any, over, range}
 use Rattle.lists.proofs.Over.{length-over, over-is, take-over}
 use Rattle.lists.proofs.Range.{length-range}
 use Rattle.lists.proofs.Tests.{by-order}
-use Rattle.signal.specs.Cell.{sigOf}
 use Rattle.network.specs.Net.{Net}
-use Rattle.network.specs.Cells.{Lent, isNetwork, netOf, gateAt, orBuf, Words}
+use Rattle.network.specs.Cells.{Lent, isNetwork, netOf, gateAt, orBuf}
 use Rattle.network.proofs.Lent.{network-readable, network-sizes}
 use Rattle.blif_text.specs.Places.{maxText}
 use Rattle.blif_model.specs.Names.{nameBytes}
 use Rattle.blif_model.specs.Write.{latchBlocks, combBlocks, inverterBlock, inverters}
-use Rattle.blif_model.specs.Render.{line, allLines, textLines, textOf}
+use Rattle.blif_model.specs.Render.{line, allLines, textOf}
 use Rattle.blif_put.specs.Text.{Wrote}
 use Rattle.blif_put.proofs.Laws.{part-back, part-is}
 use Rattle.blif_write.specs.Into.{outcome, refusedText, writtenText, wide, tooLong, writeInto}
-use Rattle.blif_write.specs.declared.WriteAnswer.the-variants.{Written, Refused}
-use Rattle.blif_write.specs.Parts.{blocksText, latchesText, coversText, headLines, headText, held, Readable, netIn, invertersText, Writable}
+use Rattle.blif_write.specs.declared.WriteAnswer.the-variants.{Written}
+use Rattle.blif_write.specs.Parts.{latchesText, coversText, headLines, headText, held, Readable, netIn, invertersText, Writable}
 use Rattle.blif_put.proofs.Texts.{lines-append}
 
 -- ---- the whole text

@@ -1,5 +1,5 @@
 -- `append_constant` copies one of two names. Assumes nothing.
-use mathlib.Core.Path.{_∙_, ap, sym}
+use mathlib.Core.Path.{ap, sym}
 use Rattle.signal.specs.Signal.{Const}
 use Rattle.blif_model.specs.Names.{nodeBytes}
 use Rattle.blif_put.proofs.Laws.{as-text}

@@ -1,7 +1,6 @@
 -- `append_ternary_lines` writes one row after the other. Assumes nothing.
 use native.Mathlib.Omega.{arith}
 use borrow.Author.Needs.{needs}
-use mathlib.Core.Path.{refl, sym, _∙_, ap}
 use Prim.Native.Nat.{_-_}
 use lib.ListN.{length}
 use Rattle.gates.specs.Forms.{ternaryForm}

@@ -2,7 +2,7 @@
 use native.Mathlib.Omega.{arith}
 use borrow.Author.Needs.{needs}
 use Prim.Native.Nat.{_-_}
-use Rattle.blif_put.proofs.Laws.{going-kept, going-high, part-high}
+use Rattle.blif_put.proofs.Laws.{going-kept, part-high}
 use Rattle.blif_put.proofs.Lines.{Masking, masking-start, masking-next, masking-full, masking-done}
 use Rattle.blif_put.proofs.write_masks.Statement.{statement}
 use Rattle.blif_put.proofs.write_masks.Tie as tie

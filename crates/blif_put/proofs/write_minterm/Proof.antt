@@ -1,6 +1,5 @@
 -- `write_minterm` writes a line or nothing. Assumes nothing.
 use borrow.Author.Needs.{needs}
-use mathlib.Core.Path.{sym}
 use Rattle.blif_put.proofs.Laws.{wrote-nothing, as-wrote}
 use Rattle.blif_put.proofs.Lines.{minterm-other, minterm-is}
 use Rattle.blif_put.proofs.write_minterm.Statement.{statement}

@@ -1,12 +1,5 @@
 -- `write_nary` writes the names, the gate and the lines. Assumes nothing.
 use borrow.Author.Needs.{needs}
-use mathlib.Core.List.{map}
-use mathlib.Core.Path.{refl}
-use Rattle.signal.specs.Cell.{sigOf}
-use Rattle.blif_model.specs.Names.{nameBytes}
-use Rattle.blif_model.specs.Write.{gateName}
-use Rattle.gates.specs.Forms.{naryForm}
-use Rattle.blif_model.specs.Write.{linesOf}
 use Rattle.blif_put.proofs.Laws.{and-append, as-text, from-start}
 use Rattle.blif_put.proofs.Texts.{nary-text}
 use Rattle.blif_put.proofs.write_nary.Statement.{statement}

@@ -1,8 +1,6 @@
 -- `append_input_inverters` passes one input after the other, the last first. Assumes nothing.
 use native.Mathlib.Omega.{arith}
 use borrow.Author.Needs.{needs}
-use mathlib.Core.Path.{refl}
-use Prim.Native.Nat.{_-_}
 use Rattle.blif_put.proofs.Laws.{append-past, going-kept, going-full, part-high}
 use Rattle.blif_write.proofs.Inverters.{InputsTurned, inputs-start, inputs-next, inputs-done, input-plain}
 use Rattle.blif_write.proofs.append_input_inverters.Statement.{statement}

@@ -3,7 +3,7 @@ use native.Mathlib.Omega.{arith}
 use borrow.Author.Needs.{needs}
 use mathlib.Core.Path.{refl}
 use mathlib.Core.List.{map}
-use Prim.Native.Nat.{_-_, _≤_}
+use Prim.Native.Nat.{_-_}
 use lib.ListN.{length, drop}
 use Rattle.signal.specs.Cell.{sigOf}
 use Rattle.blif_write.proofs.Marking.{Marking, marking-start, marking-next, marking-done, cells-next, cells-end, gates-kept, inputs-kept}

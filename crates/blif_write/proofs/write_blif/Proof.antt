@@ -2,11 +2,9 @@
 use native.Mathlib.Omega.{arith}
 use borrow.Author.Needs.{needs}
 use mathlib.Core.Path.{sym, _∙_, ap}
-use mathlib.Core.List.{List}
 use lib.ListN.{length}
 use borrow.Author.Tests.{not-true, not-false}
 use Rattle.lists.specs.Lists.{any}
-use Rattle.gates.specs.Gate.{Gate}
 use Rattle.network.specs.Cells.{lent}
 use Rattle.blif_write.specs.Into.{wide}
 use Rattle.blif_write.proofs.Whole.{network-read, held-gates, answers-layout, answers-wide}

@@ -2,10 +2,8 @@
 use native.Mathlib.Omega.{arith}
 use borrow.Author.Needs.{needs}
 use mathlib.Core.Path.{sym, _∙_, ap}
-use mathlib.Core.List.{List}
 use lib.Seq.{length-take-le}
 use Rattle.lists.specs.Lists.{any}
-use Rattle.gates.specs.Gate.{Gate}
 use Rattle.network.specs.Cells.{lent}
 use Rattle.network.proofs.Lent.{network-sizes}
 use Rattle.blif_write.specs.Into.{wide}

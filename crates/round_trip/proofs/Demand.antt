@@ -1,0 +1,129 @@
+-- Demand 3 follows from what the writer and the reader answer. Assumes nothing.
+use mathlib.Core.Path.{_≡_, refl, sym, ap, ap₂, _∙_, subst}
+use mathlib.Core.Bool.{Bool, true, false, not, _&&_, _||_, true≢false}
+use mathlib.Core.List.{List, [], _∷_}
+use mathlib.Core.Logic.{_↔_}
+use mathlib.Core.Option.{none, some}
+use Prim.Native.Nat.{ℕ, zero, suc, _≤_, _<_}
+use native.Mathlib.Omega.{arith}
+use lib.Dec.{ltb}
+use lib.ListN.{length, getElem?, take, length-replicate}
+use borrow.Author.Tests.{le-ltb, ltb-false}
+use Rattle.lists.specs.Lists.{if_then_else_, Bytes, zeros, any, over}
+use Rattle.lists.proofs.Tests.{or-left, or-right}
+use Rattle.lists.proofs.Over.{length-over, take-over}
+use Rattle.signal.specs.Signal.{Signal}
+use Rattle.gates.specs.Gate.{Form, XorN, XnorN, Gate, Comb, Dff}
+use Rattle.gates.specs.Forms.{formed}
+use Rattle.network.specs.Net.{Net, GateIs, Valid, Loop}
+use Rattle.network.specs.Cells.{Lent, lent, netOf, isNetwork, Words, countsOf}
+use Rattle.network.specs.Clock.{NetRuns, zeroBits}
+use Rattle.network.specs.Settle.{run}
+use Rattle.network.proofs.Lent.{network-laid}
+use Rattle.network.proofs.Summary.{one-run}
+use Rattle.blif_text.specs.Places.{maxText}
+use Rattle.blif_model.specs.Render.{textOf}
+use Rattle.blif_model.specs.Read.{read, readText}
+use Rattle.blif_model.specs.Write.{PlainGate}
+use Rattle.blif_model.specs.Demand.{Good, SameOutputs}
+use Rattle.blif_model.proofs.ReadNet.{read-net}
+use Rattle.blif_model.proofs.Summary.{read-back}
+use Rattle.blif_read.specs.Into.{Lengths, readInto}
+use Rattle.blif_read.specs.declared.ReadAnswer.{ReadAnswer}
+use Rattle.blif_read.specs.declared.ReadAnswer.the-variants as reading
+use Rattle.blif_read.proofs.Summary.{read-counts}
+use Rattle.blif_read.proofs.CellsRead.{read-decodes}
+use Rattle.blif_write.specs.Into as writing
+use Rattle.blif_write.specs.Into.{exclusive, wide, tooLong, writtenText, refusedText, writeInto}
+use Rattle.round_trip.specs.Trip.{writtenLength, readAnswer, answerOf, Outcome, tripInto, Meets, ReadsBack}
+use Rattle.round_trip.specs.declared.TripAnswer.the-variants.{ReadBack}
+
+-- ---- the conditions are those of the theorem
+
+-- there is no element
+no-some : {x : Gate} → none ≡ some x → ⊥
+no-some e = let z : _≡_ {A = ℕ} 0 1 = cc in omega (arith, z)
+
+-- a gate that is not wide, where no gate is
+not-wide : (xs : List Gate) → any wide xs ≡ false → (g : ℕ) (x : Gate) → getElem? xs g ≡ some x → wide x ≡ false
+not-wide [] e g x i = absurd (no-some i)
+not-wide (y ∷ xs) e zero x i = let q : y ≡ x = cc in sym (ap wide q) ∙ or-left (wide y) (any wide xs) e
+not-wide (y ∷ xs) e (suc g) x i = not-wide xs (or-right (wide y) (any wide xs) e) g x i
+
+module _ {l : Lent} {n : ℕ} {m : Lengths} (w : Words l) (c : Meets l n m) where
+  -- the network
+  abbrev net : Net
+  net = netOf l
+
+  -- it is one of demand 3's
+  good : Good (netOf l)
+  good =
+      let k = network-laid l w (c .layout) in
+      record {
+        valid = k .1;
+        free = c .free;
+        plainGates = plain-gate (k .2);
+        narrowXor = λ g ps e. ltb-false 12 (length ps) (not-wide (netOf l .gates) (c .narrow) g (Comb XorN ps) e);
+        narrowXnor = λ g ps e. ltb-false 12 (length ps) (not-wide (netOf l .gates) (c .narrow) g (Comb XnorN ps) e);
+      }
+    where
+      plain-gate : ((g : ℕ) (x : Gate) → GateIs (netOf l) g x → formed x ≡ true) → (g : ℕ) (x : Gate) → GateIs (netOf l) g x → PlainGate x
+      plain-gate f g (Comb t ps) e = f g (Comb t ps) e
+      plain-gate f g (Dff s) e = c .plain g s e
+
+  -- the text is written
+  written : writeInto l n ≡ writtenText (textOf (netOf l)) n
+  unfolding writeInto
+  written =
+      let t = textOf (netOf l) in
+      rw (c .layout, c .narrow, le-ltb n (length t) (c .room), le-ltb maxText (length t) (c .short))
+
+  -- and read back as a network that gives equal outputs
+  back : (new : Net) × (readText (textOf (netOf l)) ≡ read new) × SameOutputs new (netOf l)
+  back = read-back (netOf l) good (c .short) (c .sized)
+
+  -- exactly the bytes written are read
+  bytes-read : take (writtenLength (writeInto l n .answer)) (writeInto l n .out) ≡ textOf (netOf l)
+  bytes-read =
+      ap (λ (o : writing.Outcome). take (writtenLength (o .answer)) (o .out)) written
+      ∙ take-over (textOf (netOf l)) (zeros n) (omega (arith, c .room, length-replicate {A = ℕ} n 0))
+
+  -- the outcome of reading them
+  read-left : readInto (take (writtenLength (writeInto l n .answer)) (writeInto l n .out)) m ≡ readInto (textOf (netOf l)) m
+  read-left = ap (λ (t : Bytes). readInto t m) bytes-read
+
+  -- the network read back, decoded from the cells
+  decoded : netOf (lent (countsOf (back .0)) (readInto (textOf (netOf l)) m .gates) (readInto (textOf (netOf l)) m .pins) (readInto (textOf (netOf l)) m .outputs)) ≡ back .0
+  decoded = read-decodes (textOf (netOf l)) (back .0) m (c .cells) (back .1)
+
+  -- equal outputs, by the relation
+  same-runs : (rows outs : List (List Bool)) → NetRuns (back .0) rows outs ↔ NetRuns (netOf l) rows outs
+  same-runs rows outs =
+      let k = read-net (textOf (netOf l)) (back .0) (back .1) in
+      let a = one-run (back .0) (k .valid) (k .free) zeroBits rows outs in
+      let b = one-run (netOf l) (good .valid) (good .free) zeroBits rows outs in
+      let q = back .2 .runs rows in
+      ((λ r. b .1 (a .0 r ∙ q)), (λ r. a .1 (b .0 r ∙ sym q)))
+
+  -- demand 3, of what is left
+  pub demand-three : ReadsBack (netOf l) (tripInto l n m)
+  unfolding tripInto
+  demand-three =
+      let o = tripInto l n m in
+      let g : o .gates ≡ readInto (textOf (netOf l)) m .gates = ap (λ x. x .gates) read-left in
+      let p : o .pins ≡ readInto (textOf (netOf l)) m .pins = ap (λ x. x .pins) read-left in
+      let q : o .outputs ≡ readInto (textOf (netOf l)) m .outputs = ap (λ x. x .outputs) read-left in
+      let is : netOf (lent (countsOf (back .0)) (o .gates) (o .pins) (o .outputs)) ≡ back .0 =
+      (λ i. netOf (lent (countsOf (back .0)) (g i) (p i) (q i))) ∙ decoded in
+      let t : o .text ≡ over (textOf (netOf l)) (zeros n) = ap (λ (x : writing.Outcome). x .out) written in
+      record {
+        counts = countsOf (back .0);
+        answered =
+            ap₂ answerOf (ap (λ (x : writing.Outcome). x .answer) written) (ap (λ x. x .answer) read-left)
+            ∙ ap (readAnswer (length (textOf (netOf l)))) (read-counts (textOf (netOf l)) (back .0) m (c .cells) (back .1));
+        text = t ∙ ap (λ (k : ℕ). over (textOf (netOf l)) (zeros k)) (sym (ap length t ∙ length-over (textOf (netOf l)) (zeros n) ∙ length-replicate {A = ℕ} n 0));
+        inputs = back .2 .inputs;
+        outputs = back .2 .outputs;
+        runs = λ rows. ap (λ (x : Net). run x rows) is ∙ back .2 .runs rows;
+        same = λ rows outs. subst (λ (x : Net). NetRuns x rows outs ↔ NetRuns (netOf l) rows outs) (sym is) (same-runs rows outs);
+      }

@@ -1,0 +1,70 @@
+-- The answer and every cell are determined: what is written, then what is read of it. Assumes nothing.
+use mathlib.Core.Path.{_≡_, refl, sym, ap, _∙_, subst}
+use mathlib.Core.Bool.{Bool, true, false, not, _||_}
+use mathlib.Core.List.{List}
+use Prim.Native.Nat.{ℕ, _≤_}
+use native.Mathlib.Omega.{arith}
+use lib.Dec.{ltb}
+use lib.ListN.{length, take, length-replicate}
+use borrow.Author.Tests.{ltb-false}
+use Rattle.lists.specs.Lists.{if_then_else_, Bytes, zeros, any, over}
+use Rattle.lists.proofs.Tests.{or-left}
+use Rattle.lists.proofs.Over.{length-over}
+use Rattle.network.specs.Cells.{Lent, netOf, isNetwork, Words}
+use Rattle.blif_text.specs.Places.{maxText}
+use Rattle.blif_model.specs.Render.{textOf}
+use Rattle.blif_read.specs.Into as reading
+use Rattle.blif_read.specs.Into.{Lengths, readInto}
+use Rattle.blif_read.specs.declared.ReadAnswer.{ReadAnswer}
+use Rattle.blif_write.specs.Into as writing
+use Rattle.blif_write.specs.Into.{wide, tooLong, refusedText, writtenText, writeInto}
+use Rattle.blif_write.specs.declared.WriteAnswer.{WriteAnswer}
+use Rattle.round_trip.specs.Trip.{writtenLength, answerOf, Outcome, outcome, tripInto, Meets, ReadsBack, WritesThenReads}
+use Rattle.round_trip.specs.declared.TripAnswer.{TripAnswer}
+use Rattle.round_trip.proofs.Demand.{demand-three}
+
+-- what is written is within the slice
+pub written-within : (l : Lent) (n : ℕ) (a : WriteAnswer) (t : Bytes) → writing.outcome a t ≡ writeInto l n → (writtenLength a ≤ n) × (length t ≡ n)
+unfolding writeInto
+written-within l n a t e =
+    go (not (isNetwork l)) (any wide (netOf l .gates)) (ltb n (length (textOf (netOf l)))) refl (ltb maxText (length (textOf (netOf l)))) e
+  where
+    none : (k : ℕ) → writing.outcome a t ≡ refusedText k n → (writtenLength a ≤ n) × (length t ≡ n)
+    none k q = (
+      subst (λ (o : writing.Outcome). writtenLength (o .answer) ≤ n) (sym q) (omega arith),
+      ap (λ (o : writing.Outcome). length (o .out)) q ∙ length-replicate n 0,
+    )
+
+    go : (x y z : Bool) → ltb n (length (textOf (netOf l))) ≡ z → (v : Bool)
+        → writing.outcome a t ≡ (if x then refusedText 20 n else if y then refusedText 21 n else if z || v then refusedText 22 n else writtenText (textOf (netOf l)) n)
+        → (writtenLength a ≤ n) × (length t ≡ n)
+    go true y z p v q = none 20 q
+    go false true z p v q = none 21 q
+    go false false true p v q = none 22 q
+    go false false false p true q = none 22 q
+    go false false false p false q = (
+      subst (λ (o : writing.Outcome). writtenLength (o .answer) ≤ n) (sym q) (ltb-false n (length (textOf (netOf l))) p),
+      ap (λ (o : writing.Outcome). length (o .out)) q ∙ length-over (textOf (netOf l)) (zeros n) ∙ length-replicate n 0,
+    )
+
+-- the outcome of writing and then reading
+trip-determined : (l : Lent) (n : ℕ) (m : Lengths) (w : WriteAnswer) (t : Bytes) (k : ℕ) (r : ReadAnswer) (gs ps os wgs wps : List ℕ) (a : TripAnswer)
+    → writing.outcome w t ≡ writeInto l n → k ≡ writtenLength w → reading.outcome r gs ps os wgs wps ≡ readInto (take k t) m → a ≡ answerOf w r
+    → outcome a t gs ps os wgs wps ≡ tripInto l n m
+unfolding tripInto
+trip-determined l n m w t k r gs ps os wgs wps a e q f g =
+    subst
+    (λ (o : writing.Outcome).
+    let x = readInto (take (writtenLength (o .answer)) (o .out)) m in
+    outcome a t gs ps os wgs wps ≡ outcome (answerOf (o .answer) (x .answer)) (o .out) (x .gates) (x .pins) (x .outputs) (x .workGates) (x .workPins))
+    e
+    (ap (λ (x : TripAnswer). outcome x t gs ps os wgs wps) g
+    ∙ ap (λ (x : reading.Outcome). outcome (answerOf w (x .answer)) t (x .gates) (x .pins) (x .outputs) (x .workGates) (x .workPins)) (f ∙ ap (λ (j : ℕ). readInto (take j t) m) q))
+
+-- the contract of `write_then_read`
+pub trip-holds : (l : Lent) (n : ℕ) (m : Lengths) (w : WriteAnswer) (t : Bytes) (k : ℕ) (r : ReadAnswer) (gs ps os wgs wps : List ℕ) (a : TripAnswer) → Words l
+    → writing.outcome w t ≡ writeInto l n → k ≡ writtenLength w → reading.outcome r gs ps os wgs wps ≡ readInto (take k t) m → a ≡ answerOf w r
+    → WritesThenReads l n m (outcome a t gs ps os wgs wps)
+trip-holds l n m w t k r gs ps os wgs wps a words e q f g =
+    let d = trip-determined l n m w t k r gs ps os wgs wps a e q f g in
+    record { determined = d; demand = λ c. subst (ReadsBack (netOf l)) (sym d) (demand-three words c) }

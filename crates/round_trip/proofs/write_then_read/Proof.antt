@@ -1,0 +1,78 @@
+-- `write_then_read` writes, and reads what was written. Assumes nothing.
+use mathlib.Core.Path.{sym}
+use native.Mathlib.Omega.{arith}
+use lib.Seq.{length-take-le}
+use Rattle.round_trip.proofs.Determined.{written-within, trip-holds}
+use borrow.Author.Needs.{needs}
+use Rattle.round_trip.proofs.write_then_read.Statement.{statement}
+use Rattle.round_trip.proofs.write_then_read.Tie as tie
+use Rattle.round_trip.proofs.write_then_read.Reads as reads
+use Rattle.round_trip.proofs.write_then_read.Lts as lts
+use Rattle.blif_read.proofs.read_blif.Reads as read-blif-reads
+use Rattle.blif_write.proofs.write_blif.Reads as write-blif-reads
+use Rattle.round_trip.proofs.trip_answer.Reads as trip-answer-reads
+use Rattle.round_trip.proofs.written_length.Reads as written-length-reads
+
+write-blif-requires : tie.Need-write-blif-requires
+write-blif-requires c κs = search needs
+
+written-length-requires : tie.Need-written-length-requires
+written-length-requires c κs = search needs
+
+slice-reshare-prefix-read-blif : tie.Need-slice-reshare-prefix-read-blif
+slice-reshare-prefix-read-blif c =
+    let w = written-within _ _ _ _ (c .before .before .before .write-blif .ensures) in
+    omega (arith, w .0, w .1, c .written-length .ensures)
+
+slice-aggregate-read-blif : tie.Need-slice-aggregate-read-blif
+slice-aggregate-read-blif c =
+    let w = written-within _ _ _ _ (c .before .before .before .before .write-blif .ensures) in
+    sym (length-take-le _ _ (omega (arith, w .0, w .1, c .before .written-length .ensures)))
+
+read-blif-requires : tie.Need-read-blif-requires
+read-blif-requires c κs = search needs
+
+trip-answer-requires : tie.Need-trip-answer-requires
+trip-answer-requires c κs = search needs
+
+same-length : tie.Need-same-length
+same-length c = search needs
+
+same-length-2 : tie.Need-same-length-2
+same-length-2 c = search needs
+
+same-length-3 : tie.Need-same-length-3
+same-length-3 c = search needs
+
+same-length-4 : tie.Need-same-length-4
+same-length-4 c = search needs
+
+same-length-5 : tie.Need-same-length-5
+same-length-5 c = search needs
+
+same-length-6 : tie.Need-same-length-6
+same-length-6 c = search needs
+
+returns : tie.Need-returns
+returns c =
+    trip-holds _ _ _ _ _ _ _ _ _ _ _ _ _
+    (record { pinWords = λ i. omega (arith, c .before .before .before .before .before .before .before .before .before .before .before .before .before .before .before .before .before .before .before .before .before .before .before .before .before .before .before .before .before .before .shared-slice-known2 .given i); outWords = λ i. omega (arith, c .before .before .before .before .before .before .before .before .before .before .before .before .before .before .before .before .before .before .before .before .before .before .before .before .before .before .before .before .before .shared-slice-known3 .given i) })
+    (c .before .before .before .before .before .before .before .before .before .before .before .before .before .before .before .before .before .before .before .before .before .write-blif .ensures) (c .before .before .before .before .before .before .before .before .before .before .before .before .before .before .before .before .before .before .written-length .ensures) (c .before .before .before .before .before .before .before .before .before .before .before .read-blif .ensures) (c .trip-answer .ensures)
+
+pub write-then-read-spec : {M : Type 1} → statement M
+write-then-read-spec =
+    tie.close
+    (tie.spec
+    write-blif-requires
+    written-length-requires
+    slice-reshare-prefix-read-blif
+    slice-aggregate-read-blif
+    read-blif-requires
+    trip-answer-requires
+    same-length
+    same-length-2
+    same-length-3
+    same-length-4
+    same-length-5
+    same-length-6
+    returns)

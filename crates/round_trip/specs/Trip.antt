@@ -1,0 +1,120 @@
+-- Demand 3: "Write then read: a valid, loop-free network with no exclusive gate over 12 inputs and plain flip-flops, whose written text is
+-- within the sizes, is written and read back with as many inputs and outputs, and for every list of input rows the two give equal outputs
+-- at every clock from zero". Assumes nothing: these are definitions.
+use mathlib.Core.Path.{_≡_}
+use mathlib.Core.Bool.{Bool, true, false}
+use mathlib.Core.List.{List}
+use mathlib.Core.Logic.{_↔_}
+use Prim.Native.Nat.{ℕ, _≤_}
+use lib.ListN.{length, take}
+use Rattle.lists.specs.Lists.{Bytes, zeros, any, over}
+use Rattle.signal.specs.Signal.{zeroS, oneS}
+use Rattle.gates.specs.Gate.{FlipFlop, Gate, Dff}
+use Rattle.network.specs.Net.{Net, GateIs, Loop}
+use Rattle.network.specs.Cells.{Lent, lent, netOf, isNetwork}
+use Rattle.network.specs.Clock.{NetRuns}
+use Rattle.network.specs.Settle.{run}
+use Rattle.network.specs.declared.Counts.{Counts}
+use Rattle.blif_text.specs.Places.{maxText}
+use Rattle.blif_model.specs.Render.{textOf}
+use Rattle.blif_model.specs.Read.{tooLarge, declsOf}
+use Rattle.blif_read.specs.Into as reading
+use Rattle.blif_read.specs.Into.{Lengths, enough, readInto}
+use Rattle.blif_read.specs.declared.ReadAnswer.{ReadAnswer}
+use Rattle.blif_read.specs.declared.ReadAnswer.the-variants as read
+use Rattle.blif_write.specs.Into as writing
+use Rattle.blif_write.specs.Into.{wide, writeInto}
+use Rattle.blif_write.specs.declared.WriteAnswer.{WriteAnswer}
+use Rattle.blif_write.specs.declared.WriteAnswer.the-variants as write
+use Rattle.round_trip.specs.declared.TripAnswer.{TripAnswer}
+use Rattle.round_trip.specs.declared.TripAnswer.the-variants.{NotWritten, NotRead, ReadBack}
+
+-- ---- what is answered, whatever is lent
+
+-- how much was written: nothing where writing was refused
+abbrev pub writtenLength : WriteAnswer → ℕ
+writtenLength (write.Written n) = n
+writtenLength (write.Refused k) = 0
+
+-- the reader's refusal of a text of n bytes, or its length with the counts of the network read back
+abbrev pub readAnswer : ℕ → ReadAnswer → TripAnswer
+readAnswer n (read.Refused k) = NotRead k
+readAnswer n (read.Read counts) = ReadBack n counts
+
+-- the writer's refusal, or the reader's answer
+abbrev pub answerOf : WriteAnswer → ReadAnswer → TripAnswer
+answerOf (write.Refused k) r = NotWritten k
+answerOf (write.Written n) r = readAnswer n r
+
+-- an answer, and what the slices to be filled hold then
+pub record Outcome : Type 0 where
+  -- what was answered
+  pub answer : TripAnswer
+  -- the text's slice
+  pub text : Bytes
+  -- the slices of the network read back
+  pub gates : List ℕ
+  -- its pins
+  pub pins : List ℕ
+  -- its outputs
+  pub outputs : List ℕ
+  -- the working gates
+  pub workGates : List ℕ
+  -- the working pins
+  pub workPins : List ℕ
+
+-- the same, from its parts
+abbrev pub outcome : TripAnswer → Bytes → List ℕ → List ℕ → List ℕ → List ℕ → List ℕ → Outcome
+outcome a t gs ps os wgs wps = record { answer = a; text = t; gates = gs; pins = ps; outputs = os; workGates = wgs; workPins = wps }
+
+-- writing into so many bytes, then reading exactly the bytes written into slices of these lengths
+unfoldable pub tripInto : Lent → ℕ → Lengths → Outcome
+tripInto l n m =
+    let w = writeInto l n in
+    let r = readInto (take (writtenLength (w .answer)) (w .out)) m in
+    outcome (answerOf (w .answer) (r .answer)) (w .out) (r .gates) (r .pins) (r .outputs) (r .workGates) (r .workPins)
+
+-- ---- demand 3
+
+-- the conditions: n is the length of the text's slice, m are the lengths of those to be filled
+pub record Meets (l : Lent) (n : ℕ) (m : Lengths) : Type 0 where
+  -- "Its networks have the layout and signals that 20 asks for"
+  pub layout : isNetwork l ≡ true
+  -- no combinational loop
+  pub free : Loop (netOf l) → ⊥
+  -- "its exclusive gates are those of 21"
+  pub narrow : any wide (netOf l .gates) ≡ false
+  -- "plain flip-flops": enable one, reset zero
+  pub plain : (g : ℕ) (s : FlipFlop) → GateIs (netOf l) g (Dff s) → (s .enable ≡ oneS) × (s .reset ≡ zeroS)
+  -- the text, counted as a text to be read, is within the sizes
+  pub sized : tooLarge (declsOf (textOf (netOf l))) ≡ false
+  -- and within the bytes of a text
+  pub short : length (textOf (netOf l)) ≤ maxText
+  -- and within the slice
+  pub room : length (textOf (netOf l)) ≤ n
+  -- "enough cells are those that 1 asks for"
+  pub cells : enough m ≡ true
+
+-- what then holds of the network written and of what is left
+pub record ReadsBack (net : Net) (o : Outcome) : Type 0 where
+  -- the counts of the network read back
+  pub counts : Counts
+  -- it is read back, and the text's length is answered too
+  pub answered : o .answer ≡ ReadBack (length (textOf net)) counts
+  -- the text is the network's, with zero bytes after it
+  pub text : o .text ≡ over (textOf net) (zeros (length (o .text)))
+  -- as many inputs
+  pub inputs : counts .inputs ≡ net .inputs
+  -- as many outputs
+  pub outputs : counts .outputs ≡ length (net .outputs)
+  -- for every list of rows, the empty one too, equal outputs at every clock from zero
+  pub runs : (rows : List (List Bool)) → run (netOf (lent counts (o .gates) (o .pins) (o .outputs))) rows ≡ run net rows
+  -- the same by the relation: what the one may answer, the other may
+  pub same : (rows outs : List (List Bool)) → NetRuns (netOf (lent counts (o .gates) (o .pins) (o .outputs))) rows outs ↔ NetRuns net rows outs
+
+-- the contract of `write_then_read`
+pub record WritesThenReads (l : Lent) (n : ℕ) (m : Lengths) (o : Outcome) : Type 0 where
+  -- the answer and every cell and byte are determined, whatever is lent
+  pub determined : o ≡ tripInto l n m
+  -- demand 3
+  pub demand : Meets l n m → ReadsBack (netOf l) o
