@@ -5,17 +5,24 @@
 //        oracle reads SEED COUNT GIVEN WANTED      files of texts and of what `read_blif` answers, as document 01 has it
 //        oracle compare SEED COUNT DEPTH PROGRAM   such texts, with every sequence of up to DEPTH fragments, read by a program
 //        oracle files PROGRAM FILE..               the same for files of one text each, cut behind 32,769 bytes
+//        oracle writes SEED COUNT GIVEN WANTED     files of lent networks and of what `write_blif` writes, as document 01 has it
+//        oracle written SEED COUNT PROGRAM         such networks, with every one of a single gate, written by a program
 mod compare;
 mod generate;
 mod io;
+mod layouts;
+mod lent;
 mod limits;
 mod models;
+mod nets;
 mod network;
+mod plain_writer;
 mod points;
 mod reads;
 mod texts;
 mod tricky;
 mod variants;
+mod writes;
 pub use network::{BinaryType, Gate, NaryType, Network, Signal, TernaryType};
 
 use generate::{filled, make, over_sizes, smallest, Numbers, Plain, Shape};
@@ -161,6 +168,17 @@ fn run(a: &[String]) {
             let texts: Vec<Vec<u8>> = a[3..].iter().map(|f| std::fs::read(f).unwrap().into_iter().take(32769).collect()).collect();
             let wanted = reads::answers(&texts).0;
             std::process::exit(!compare::compare(&a[2], &texts, &wanted) as i32);
+        }
+        "writes" => {
+            let networks = writes::networks(a[2].parse().unwrap(), a[3].parse().unwrap());
+            writes::told_apart(&networks);
+            std::fs::write(&a[4], writes::all_given(&networks)).unwrap();
+            std::fs::write(&a[5], writes::answers(&networks).concat()).unwrap();
+        }
+        "written" => {
+            let mut networks = writes::networks(a[2].parse().unwrap(), a[3].parse().unwrap());
+            networks.extend(nets::singles());
+            std::process::exit(!writes::compare(&a[4], &networks) as i32);
         }
         "checks" => println!("{}", models::checks(a[2].parse().unwrap(), a[3].parse().unwrap())),
         other => panic!("no list {other}"),

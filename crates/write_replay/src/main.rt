@@ -1,0 +1,154 @@
+// Writes lent networks as texts and prints the answers, in the notation of the stored answers of Quaigh's write_blif. Standard input
+// has how many networks there are, then for each its counts, how long the output slice is, how many cells of each kind are lent, and
+// the cells. Before a write every byte of the output slice is 165; a byte behind the text, or one after a refusal, that is not zero is
+// told, and so is a cell that has changed.
+use blif_write::WriteAnswer;
+use blif_write::write_blif;
+use network::Counts;
+use replay::read_word;
+
+const WORD: usize = 0x1_0000_0000;
+
+// The next number of two words, the upper one first.
+fn read_count() -> usize {
+    let upper = read_word() as usize % WORD;
+    let lower = read_word() as usize % WORD;
+    upper * WORD + lower
+}
+
+// The next four numbers as counts.
+fn read_counts() -> Counts {
+    let inputs = read_count();
+    let gates = read_count();
+    let pins = read_count();
+    let outputs = read_count();
+    Counts {
+        inputs,
+        gates,
+        pins,
+        outputs,
+    }
+}
+
+// Puts a word into cell i, if there is one.
+fn put_word(cells: &mut [u32], i: usize, word: u32) {
+    if i < cells.len() {
+        cells[i] = word;
+    }
+}
+
+// Cell i, or zero if there is none.
+fn word_at(cells: &[u32], i: usize) -> u32 {
+    if i < cells.len() {
+        return cells[i];
+    }
+    0
+}
+
+// The next words, as cells and once more to compare them with.
+fn read_words(cells: &mut [u32], kept: &mut [u32]) {
+    let n = cells.len();
+    for i in 0..n {
+        let word = read_word();
+        put_word(cells, i, word);
+        put_word(kept, i, word);
+    }
+}
+
+// A line that no stored answer has, unless the cells are those kept.
+fn expect_same(cells: &[u32], kept: &[u32]) {
+    for i in 0..cells.len() {
+        if word_at(cells, i) != word_at(kept, i) {
+            io::write_all(1, b"changed\n");
+            return;
+        }
+    }
+}
+
+// A line that no stored answer has, unless every byte is zero.
+fn expect_zero(bytes: &[u8]) {
+    for i in 0..bytes.len() {
+        if bytes[i] != 0 {
+            io::write_all(1, b"not zero\n");
+            return;
+        }
+    }
+}
+
+// A word, a number and the end of the line.
+fn print_number(word: &[u8], n: usize) {
+    io::write_all(1, word);
+    io::print_decimal(1, n as u64);
+    io::write_all(1, b"\n");
+}
+
+// A text's length and the text; the bytes behind it must be zero.
+fn print_written(out: &[u8], n: usize) {
+    print_number(b"length=", n);
+    if n > out.len() {
+        io::write_all(1, b"more than are lent\n");
+        return;
+    }
+    io::write_all(1, &out[..n]);
+    expect_zero(&out[n..]);
+}
+
+// A refusal's number; every byte must be zero.
+fn print_refused(out: &[u8], number: u32) {
+    print_number(b"refused=", number as usize);
+    expect_zero(out);
+}
+
+// Reads the cells of a network, writes it and prints the answer.
+fn replay_cells(
+    counts: Counts,
+    gates: &mut [u32],
+    pins: &mut [u32],
+    outputs: &mut [u32],
+    kept: &mut [u32],
+    out: &mut [u8],
+) {
+    let mut kept_gates = [0u32; 3076];
+    let mut kept_outputs = [0u32; 258];
+    read_words(gates, &mut kept_gates);
+    read_words(pins, kept);
+    read_words(outputs, &mut kept_outputs);
+    let answer = write_blif(counts, gates, pins, outputs, out);
+    match answer {
+        WriteAnswer::Written(n) => print_written(out, n),
+        WriteAnswer::Refused(number) => print_refused(out, number),
+    }
+    expect_same(gates, &kept_gates);
+    expect_same(pins, kept);
+    expect_same(outputs, &kept_outputs);
+}
+
+// The next network: its number, then what writing answers.
+fn replay_network(number: u32) {
+    print_number(b"network ", number as usize);
+    let counts = read_counts();
+    let l = read_word() as usize % 32801;
+    let g = read_word() as usize % 3077;
+    let p = read_word() as usize % 16387;
+    let o = read_word() as usize % 259;
+    let mut gates = [0u32; 3076];
+    let mut pins = [0u32; 16386];
+    let mut outputs = [0u32; 258];
+    let mut kept = [0u32; 16386];
+    let mut out = [165u8; 32800];
+    replay_cells(
+        counts,
+        &mut gates[..g],
+        &mut pins[..p],
+        &mut outputs[..o],
+        &mut kept,
+        &mut out[..l],
+    );
+}
+
+fn main() {
+    let networks = read_word();
+    for i in 0..networks {
+        replay_network(i);
+    }
+}
