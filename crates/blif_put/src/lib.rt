@@ -57,7 +57,7 @@ pub fn append(out: &mut [u8], at: usize, s: &[u8]) -> usize
 }
 
 // Writes n in decimal: the two last digits, and the others before them.
-fn append_number(out: &mut [u8], at: usize, n: u32) -> usize
+pub fn append_number(out: &mut [u8], at: usize, n: u32) -> usize
     ensures { λ r. ⌜ Appended (decimal n []) (now (out .entry)) at (now (out .exit)) r ⌝ }
 {
     let ones = 48 + (n % 10) as u8;

@@ -1,3 +1,4 @@
 pub mod Demand
 pub mod Determined
+pub mod Witnessed
 pub mod Summary

@@ -1,0 +1,86 @@
+-- `read_input` is safe and ends: each read that does not end the loop fills a byte or more. Assumes nothing.
+use mathlib.Core.Path.{refl}
+use Prim.Native.Nat.{_-_}
+use native.Mathlib.Omega.{arith}
+use lib.ListN.{length}
+use borrow.Author.Needs.{needs}
+use Rattle.blifnorm.proofs.Input.{Filled, still-long, filled-next}
+use Rattle.blifnorm.proofs.read_input.Statement.{statement}
+use Rattle.blifnorm.proofs.read_input.Tie as tie
+
+abbrev Inv-loop : tie.InvT-loop
+Inv-loop text₀ done₀ text done = Filled text₀ text done
+
+abbrev μ-loop : tie.MeasureT-loop
+μ-loop text₀ done₀ text done = length text₀ - done
+
+loop-holds : tie.Need-loop-holds Inv-loop μ-loop
+loop-holds c = record { inside = omega arith; kept = refl }
+
+sub-read-some : tie.Need-sub-read-some Inv-loop μ-loop
+sub-read-some c = search needs
+
+part-read-some-start : tie.Need-part-read-some-start Inv-loop μ-loop
+part-read-some-start c = search needs
+
+part-read-some-end : tie.Need-part-read-some-end Inv-loop μ-loop
+part-read-some-end c = search needs
+
+read-some-requires : tie.Need-read-some-requires Inv-loop μ-loop
+read-some-requires c κs = search needs
+
+sub-if1 : tie.Need-sub-if1 Inv-loop μ-loop
+sub-if1 c = omega (arith, still-long (c .before .before .read-some .last .0) (c .before .before .before .before .before .loop .inv) (c .before .before .read-some .kept .0), c .before .before .before .before .before .loop .inv .inside, c .before .before .before .before .before .loop .inv .kept)
+
+add-result : tie.Need-add-result Inv-loop μ-loop
+add-result c = omega (arith, still-long (c .before .before .before .read-some .last .0) (c .before .before .before .before .before .before .loop .inv) (c .before .before .before .read-some .kept .0), c .before .before .before .before .before .before .before .before .good .0 .1)
+
+same-length : tie.Need-same-length Inv-loop μ-loop
+same-length c = still-long (c .before .before .before .read-some .last .0) (c .before .before .before .before .before .before .loop .inv) (c .before .before .before .read-some .kept .0)
+
+returns : tie.Need-returns Inv-loop μ-loop
+returns c = tt
+
+same-length-2 : tie.Need-same-length-2 Inv-loop μ-loop
+same-length-2 c = still-long (c .before .before .before .before .read-some .last .0) (c .before .before .before .before .before .before .before .loop .inv) (c .before .before .before .before .read-some .kept .0)
+
+returns-2 : tie.Need-returns-2 Inv-loop μ-loop
+returns-2 c = tt
+
+add-done : tie.Need-add-done Inv-loop μ-loop
+add-done c = omega (arith, filled-next (c .before .before .before .before .read-some .last .0) (c .before .before .before .before .before .before .before .loop .inv) (c .before .before .before .before .read-some .kept .0) (c .before .if1 .left) .inside, still-long (c .before .before .before .before .read-some .last .0) (c .before .before .before .before .before .before .before .loop .inv) (c .before .before .before .before .read-some .kept .0), c .before .before .before .before .before .before .before .before .before .good .0 .1)
+
+loop-less : tie.Need-loop-less Inv-loop μ-loop
+loop-less c = omega (arith, c .before .before .before .before .before .before .loop-test .taken, c .before .before .before .before .before .before .before .loop .inv .kept, c .if2 .left)
+
+loop-again : tie.Need-loop-again Inv-loop μ-loop
+loop-again c = filled-next (c .before .before .before .before .read-some .last .0) (c .before .before .before .before .before .before .before .loop .inv) (c .before .before .before .before .read-some .kept .0) (c .before .if1 .left)
+
+same-length-3 : tie.Need-same-length-3 Inv-loop μ-loop
+same-length-3 c = c .before .loop .inv .kept
+
+returns-3 : tie.Need-returns-3 Inv-loop μ-loop
+returns-3 c = tt
+
+pub read-input-spec : {M : Type 1} → statement M
+read-input-spec =
+    tie.close
+    (tie.spec
+    Inv-loop
+    μ-loop
+    loop-holds
+    sub-read-some
+    part-read-some-start
+    part-read-some-end
+    read-some-requires
+    sub-if1
+    add-result
+    same-length
+    returns
+    same-length-2
+    returns-2
+    add-done
+    loop-less
+    loop-again
+    same-length-3
+    returns-3)

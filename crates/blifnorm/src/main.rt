@@ -1,0 +1,132 @@
+// Reads a BLIF text from standard input and prints the text of the network read, or the line `refused=N`. `answer` says which bytes are
+// printed for which text; that main hands it standard input and prints its answer is for the reader to see, since no contract can say
+// which bytes a call of the operating system moves.
+use blif_put::append;
+use blif_put::append_number;
+use blif_read::ReadAnswer;
+use blif_read::read_blif;
+use blif_write::WriteAnswer;
+use blif_write::write_blif;
+use lists::fill_zero_bytes;
+ghost use mathlib.Core.Path.{_≡_};
+ghost use lib.ListN.{length};
+ghost use Rattle.lists.specs.Lists.{zeros};
+ghost use Rattle.blif_put.specs.Text.{Wrote};
+ghost use Rattle.blif_read.specs.Into.{lengths};
+ghost use Rattle.blif_write.specs.Into.{outcome};
+ghost use Rattle.blifnorm.specs.Norm.{refusedLine, normInto, printed};
+
+// Writes the text of the network read into out, or gives the reader's or else the writer's refusal.
+fn normalise(
+    text: &[u8],
+    out: &mut [u8],
+    gates: &mut [u32],
+    pins: &mut [u32],
+    outputs: &mut [u32],
+    work_gates: &mut [u32],
+    work_pins: &mut [u32],
+) -> WriteAnswer
+    ensures { λ r. ⌜ outcome r (now (out .exit)) ≡ normInto (now (text .entry)) (lengths (length (now (gates .entry))) (length (now (pins .entry))) (length (now (outputs .entry))) (length (now («work_gates» .entry))) (length (now («work_pins» .entry)))) (length (now (out .entry))) ⌝ }
+{
+    match read_blif(text, gates, pins, outputs, work_gates, work_pins) {
+        ReadAnswer::Read(counts) => write_blif(counts, gates, pins, outputs, out),
+        ReadAnswer::Refused(number) => {
+            fill_zero_bytes(out);
+            WriteAnswer::Refused(number)
+        }
+    }
+}
+
+// Writes the line of a refusal.
+fn put_refusal(out: &mut [u8], number: u32) -> usize
+    ensures { λ r. ⌜ Wrote (refusedLine number) (now (out .entry)) (now (out .exit)) r ⌝ }
+{
+    let mut at = append(out, 0, b"refused=");
+    at = append_number(out, at, number);
+    append(out, at, b"\n")
+}
+
+// Writes into out what is printed for a text, and gives back its length.
+fn answer(
+    text: &[u8],
+    out: &mut [u8],
+    gates: &mut [u32],
+    pins: &mut [u32],
+    outputs: &mut [u32],
+    work_gates: &mut [u32],
+    work_pins: &mut [u32],
+) -> usize
+    ensures { λ r. ⌜ Wrote (printed (normInto (now (text .entry)) (lengths (length (now (gates .entry))) (length (now (pins .entry))) (length (now (outputs .entry))) (length (now («work_gates» .entry))) (length (now («work_pins» .entry)))) (length (now (out .entry))))) (zeros (length (now (out .entry)))) (now (out .exit)) r ⌝ }
+{
+    match normalise(text, out, gates, pins, outputs, work_gates, work_pins) {
+        WriteAnswer::Written(n) => n,
+        WriteAnswer::Refused(number) => put_refusal(out, number),
+    }
+}
+
+// Prints the first n bytes, where there are as many, or says that it cannot.
+fn print_front(bytes: &[u8], n: usize) {
+    if n > bytes.len() {
+        return;
+    }
+    if io::write_all(1, &bytes[..n]) {
+        return;
+    }
+    io::write_all(2, b"blifnorm: standard output cannot be written\n");
+}
+
+// Prints what is answered for a text.
+fn print_answer(text: &[u8]) {
+    let mut out = [0u8; 32768];
+    let mut gates = [0u32; 3072];
+    let mut pins = [0u32; 16384];
+    let mut outputs = [0u32; 256];
+    let mut work_gates = [0u32; 3072];
+    let mut work_pins = [0u32; 16384];
+    let end = answer(
+        text,
+        &mut out,
+        &mut gates,
+        &mut pins,
+        &mut outputs,
+        &mut work_gates,
+        &mut work_pins,
+    );
+    print_front(&out, end);
+}
+
+// One read of standard input: how many bytes came, none at its end, or more than there is room for where the read failed.
+fn read_some(bytes: &mut [u8]) -> usize {
+    let got = libc::read(0, bytes);
+    if got < 0 {
+        return bytes.len() + 1;
+    }
+    io::count(got, bytes)
+}
+
+// Reads standard input to its end or until the slice is full: how many bytes came, or more than there is room for where a read failed.
+fn read_input(text: &mut [u8]) -> usize {
+    let mut done = 0;
+    while done < text.len() {
+        let n = read_some(&mut text[done..]);
+        if n > text.len() - done {
+            return text.len() + 1;
+        }
+        if n == 0 {
+            return done;
+        }
+        done += n;
+    }
+    done
+}
+
+// A text has at most 32,768 bytes; one byte more is read, so that a longer one is refused.
+fn main() {
+    let mut text = [0u8; 32769];
+    let n = read_input(&mut text);
+    if n > 32769 {
+        io::write_all(2, b"blifnorm: standard input cannot be read\n");
+        return;
+    }
+    print_answer(&text[..n]);
+}

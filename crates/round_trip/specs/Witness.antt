@@ -1,0 +1,30 @@
+-- A network that meets demand 3's conditions, with a flip-flop, an Xor, a Mux and an inverted output. Assumes nothing: these are
+-- definitions.
+use mathlib.Core.List.{List, [], _∷_, map}
+use Prim.Native.Nat.{ℕ}
+use Rattle.signal.specs.Signal.{Input, Gated, Signal, plain, zeroS, oneS, turned}
+use Rattle.signal.specs.Cell.{sigCell}
+use Rattle.gates.specs.Gate.{Mux3, XorN, FlipFlop, Gate, Comb, Dff}
+use Rattle.network.specs.Net.{Net}
+use Rattle.network.specs.Cells.{Lent, lent, gateCells, pinCells, countsOf}
+use Rattle.blif_read.specs.Into.{Lengths, lengths}
+
+-- x0 takes x1 at each clock
+abbrev pub flop : FlipFlop
+flop = record { dataIn = plain (Gated 1); enable = oneS; reset = zeroS }
+
+-- x1 = i0 xor x0; x2 = x0 ? i1 : x1; the output is x2 inverted
+abbrev pub net : Net
+net = record {
+  inputs = 2;
+  gates = Dff flop ∷ Comb XorN (plain (Input 0) ∷ plain (Gated 0) ∷ []) ∷ Comb Mux3 (plain (Gated 0) ∷ plain (Input 1) ∷ plain (Gated 1) ∷ []) ∷ [];
+  outputs = turned (plain (Gated 2)) ∷ [];
+}
+
+-- its cells
+abbrev pub witness : Lent
+witness = lent (countsOf net) (gateCells 0 (net .gates)) (pinCells (net .gates)) (map sigCell (net .outputs))
+
+-- as many cells as refusal 1 asks for
+abbrev pub cells : Lengths
+cells = lengths 3072 16384 256 3072 16384
