@@ -84,12 +84,16 @@ fn flop(p: &Plain, rust: &str) -> String {
     line + "\n"
 }
 
-// Quaigh's text, with document 01's `.flop` lines.
-pub fn text(p: &Plain) -> String {
+// Quaigh's text.
+pub fn quaigh(p: &Plain) -> String {
     let mut out = Vec::new();
     write_blif(&mut out, &p.network());
-    let t = String::from_utf8(out).unwrap();
-    t.split_inclusive('\n').map(|l| if l.starts_with(".flop") { flop(p, l) } else { l.to_string() }).collect()
+    String::from_utf8(out).unwrap()
+}
+
+// The same with document 01's `.flop` lines.
+pub fn text(p: &Plain) -> String {
+    quaigh(p).split_inclusive('\n').map(|l| if l.starts_with(".flop") { flop(p, l) } else { l.to_string() }).collect()
 }
 
 pub fn wanted(l: &Lent) -> Wanted {

@@ -1,6 +1,6 @@
 // The networks to write, their answers, and a comparison of a program's answers with them.
 use crate::generate::{make, Numbers, Plain, Shape};
-use crate::lent::{decoded, given, lent, shown, text, wanted, Lent, Wanted, MAX_TEXT};
+use crate::lent::{decoded, given, lent, quaigh, shown, text, wanted, Lent, Wanted, MAX_TEXT};
 use crate::nets::Hand;
 use crate::plain_writer::{written, Mistake, MISTAKES};
 use crate::variants::order;
@@ -93,10 +93,10 @@ fn unsorted(p: &Plain) -> bool {
 }
 
 // The answers, each behind the number of its network; prints how often each occurs, and of the networks written how many have a
-// `.flop` line, are not sorted, or have a loop.
+// `.flop` line, have one that Quaigh writes otherwise, are not sorted, or have a loop.
 pub fn answers(ls: &[Lent]) -> Vec<String> {
     let mut seen: BTreeMap<u32, usize> = BTreeMap::new();
-    let mut of_written = [0; 3];
+    let mut of_written = [0; 4];
     let mut all = Vec::new();
     for (n, l) in ls.iter().enumerate() {
         let w = wanted(l);
@@ -105,13 +105,14 @@ pub fn answers(ls: &[Lent]) -> Vec<String> {
         if let Wanted::Written(t) = &w {
             let p = decoded(l).unwrap();
             of_written[0] += t.contains("\n.flop ") as usize;
-            of_written[1] += unsorted(&p) as usize;
-            of_written[2] += order(&p, variants::Mistake::Nothing).is_none() as usize;
+            of_written[1] += (quaigh(&p) != *t) as usize;
+            of_written[2] += unsorted(&p) as usize;
+            of_written[3] += order(&p, variants::Mistake::Nothing).is_none() as usize;
         }
         all.push(format!("network {n}\n{s}"));
     }
     eprintln!("{} networks; answers (0 for written): {seen:?}", ls.len());
-    eprintln!("of those written, with a .flop line, not sorted, with a loop: {of_written:?}");
+    eprintln!("of those written, with a .flop line, with one that Quaigh writes otherwise, not sorted, with a loop: {of_written:?}");
     all
 }
 
