@@ -1,0 +1,46 @@
+-- `network_of` is the answer in C's struct. Assumes nothing.
+use mathlib.Core.Path.{sym, ap}
+use native.Mathlib.Omega.{arith}
+use Rattle.vumneath.specs.Handed.{networkOf}
+use borrow.Author.Needs.{needs}
+use Rattle.vumneath.proofs.network_of.Statement.{statement}
+use Rattle.vumneath.proofs.network_of.Tie as tie
+use Rattle.vumneath.proofs.network_of.Reads as reads
+use Rattle.vumneath.proofs.network_of.Lts as lts
+
+enum-known-answer : tie.Need-enum-known-answer
+enum-known-answer c = search needs
+
+cast-t5 : tie.Need-cast-t5
+cast-t5 c = let z = c .before .before .before .before .pre .fits _ (c .before .before .answer .given .1) in omega (arith, z .0, c .struct-known .given)
+
+cast-t6 : tie.Need-cast-t6
+cast-t6 c = let z = c .before .before .before .before .before .pre .fits _ (c .before .before .before .answer .given .1) in omega (arith, z .1, c .struct-known2 .given)
+
+cast-t7 : tie.Need-cast-t7
+cast-t7 c = let z = c .before .before .before .before .before .before .pre .fits _ (c .before .before .before .before .answer .given .1) in omega (arith, z .2, c .struct-known3 .given)
+
+cast-t8 : tie.Need-cast-t8
+cast-t8 c = let z = c .before .before .before .before .before .before .before .pre .fits _ (c .before .before .before .before .before .answer .given .1) in omega (arith, z .3, c .struct-known4 .given)
+
+enum-known-answer-2 : tie.Need-enum-known-answer-2
+enum-known-answer-2 c = search needs
+
+returns : tie.Need-returns
+returns c = sym (ap networkOf (c .before .before .before .before .before .answer .given .1))
+
+returns-2 : tie.Need-returns-2
+returns-2 c = sym (ap networkOf (c .before .answer2 .given .1))
+
+pub network-of-spec : {M : Type 1} → statement M
+network-of-spec =
+    tie.close
+    (tie.spec
+    enum-known-answer
+    cast-t5
+    cast-t6
+    cast-t7
+    cast-t8
+    enum-known-answer-2
+    returns
+    returns-2)

@@ -1,0 +1,27 @@
+-- `text_of` is the answer in C's struct. Assumes nothing.
+use mathlib.Core.Path.{sym, ap}
+use native.Mathlib.Omega.{arith}
+use Rattle.vumneath.specs.Handed.{textFor}
+use borrow.Author.Needs.{needs}
+use Rattle.vumneath.proofs.text_of.Statement.{statement}
+use Rattle.vumneath.proofs.text_of.Tie as tie
+use Rattle.vumneath.proofs.text_of.Reads as reads
+use Rattle.vumneath.proofs.text_of.Lts as lts
+
+enum-known-answer : tie.Need-enum-known-answer
+enum-known-answer c = search needs
+
+cast-t5 : tie.Need-cast-t5
+cast-t5 c = let z = c .before .before .before .pre .fits _ (c .before .answer .given .1) in omega (arith, z)
+
+enum-known-answer-2 : tie.Need-enum-known-answer-2
+enum-known-answer-2 c = search needs
+
+returns : tie.Need-returns
+returns c = sym (ap textFor (c .before .answer .given .1))
+
+returns-2 : tie.Need-returns-2
+returns-2 c = sym (ap textFor (c .before .answer2 .given .1))
+
+pub text-of-spec : {M : Type 1} → statement M
+text-of-spec = tie.close (tie.spec enum-known-answer cast-t5 enum-known-answer-2 returns returns-2)

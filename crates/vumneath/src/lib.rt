@@ -1,0 +1,110 @@
+// The functions that programs in C, Rust and Python link; bindings/c/vumneath.h declares them.
+use blif_read::ReadAnswer;
+use blif_read::read_blif;
+use blif_write::WriteAnswer;
+use blif_write::write_blif;
+use network::Counts;
+ghost use mathlib.Core.Path.{_≡_};
+ghost use lib.ListN.{length};
+ghost use Rattle.network.specs.Cells.{lent};
+ghost use Rattle.blif_read.specs.Into.{lengths, readInto};
+ghost use Rattle.blif_write.specs.Into.{writeInto};
+ghost use Rattle.vumneath.specs.Handed.{networkOf, textFor, ReadHanded, WriteHanded, CountsFit, LengthFits};
+
+// What reading answers: refused is zero and the counts are those of the network, or refused is the refusal's number and the counts are
+// zero.
+#[repr(C)]
+pub struct VumneathNetwork {
+    pub refused: u32,
+    pub inputs: u32,
+    pub gates: u32,
+    pub pins: u32,
+    pub outputs: u32,
+}
+
+// What writing answers: refused is zero and the length is the text's, or refused is the refusal's number and the length is zero.
+#[repr(C)]
+pub struct VumneathText {
+    pub refused: u32,
+    pub length: u32,
+}
+
+// The reader's answer in C's layout.
+fn network_of(answer: ReadAnswer) -> VumneathNetwork
+    requires { ⌜ CountsFit answer ⌝ }
+    ensures { λ r. ⌜ r ≡ networkOf answer ⌝ }
+{
+    match answer {
+        ReadAnswer::Read(counts) => VumneathNetwork {
+            refused: 0,
+            inputs: counts.inputs as u32,
+            gates: counts.gates as u32,
+            pins: counts.pins as u32,
+            outputs: counts.outputs as u32,
+        },
+        ReadAnswer::Refused(number) => VumneathNetwork {
+            refused: number,
+            inputs: 0,
+            gates: 0,
+            pins: 0,
+            outputs: 0,
+        },
+    }
+}
+
+// The writer's answer in C's layout.
+fn text_of(answer: WriteAnswer) -> VumneathText
+    requires { ⌜ LengthFits answer ⌝ }
+    ensures { λ r. ⌜ r ≡ textFor answer ⌝ }
+{
+    match answer {
+        WriteAnswer::Written(n) => VumneathText {
+            refused: 0,
+            length: n as u32,
+        },
+        WriteAnswer::Refused(number) => VumneathText {
+            refused: number,
+            length: 0,
+        },
+    }
+}
+
+// Reads a BLIF text into the lent cells (blif_read's `read_blif`).
+#[no_mangle]
+pub extern "C" fn vumneath_read_blif(
+    text: &[u8],
+    gates: &mut [u32],
+    pins: &mut [u32],
+    outputs: &mut [u32],
+    work_gates: &mut [u32],
+    work_pins: &mut [u32],
+) -> VumneathNetwork
+    ensures { λ r. ⌜ ReadHanded (readInto (now (text .entry)) (lengths (length (now (gates .entry))) (length (now (pins .entry))) (length (now (outputs .entry))) (length (now («work_gates» .entry))) (length (now («work_pins» .entry))))) r (now (gates .exit)) (now (pins .exit)) (now (outputs .exit)) (now («work_gates» .exit)) (now («work_pins» .exit)) ⌝ }
+{
+    let answer = read_blif(text, gates, pins, outputs, work_gates, work_pins);
+    network_of(answer)
+}
+
+// Writes the lent network as a BLIF text (blif_write's `write_blif`).
+#[no_mangle]
+pub extern "C" fn vumneath_write_blif(
+    inputs: u32,
+    gate_count: u32,
+    pin_count: u32,
+    output_count: u32,
+    gates: &[u32],
+    pins: &[u32],
+    outputs: &[u32],
+    out: &mut [u8],
+) -> VumneathText
+    ensures { λ r. ⌜ WriteHanded (writeInto (lent (record { inputs = inputs; gates = «gate_count»; pins = «pin_count»; outputs = «output_count» }) (now (gates .entry)) (now (pins .entry)) (now (outputs .entry))) (length (now (out .entry)))) r (now (out .exit)) ⌝ }
+{
+    let counts = Counts {
+        inputs: inputs as usize,
+        gates: gate_count as usize,
+        pins: pin_count as usize,
+        outputs: output_count as usize,
+    };
+    let answer = write_blif(counts, gates, pins, outputs, out);
+    text_of(answer)
+}
