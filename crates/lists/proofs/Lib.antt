@@ -5,6 +5,7 @@ pub mod Places
 pub mod Range
 pub mod Twice
 pub mod Find
+pub mod Any
 pub mod Counting
 pub mod Over
 pub mod OverAt

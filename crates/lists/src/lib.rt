@@ -1,7 +1,8 @@
-// Byte slices compared and cleared.
+// Slices compared and cleared.
 ghost use mathlib.Core.Path.{_≡_};
 ghost use lib.ListN.{length};
-ghost use Rattle.lists.specs.Lists.{same, zeros};
+ghost use lib.Dec.{ltb};
+ghost use Rattle.lists.specs.Lists.{same, zeros, any};
 
 // Whether two byte slices hold the same bytes.
 pub fn equal(a: &[u8], b: &[u8]) -> bool
@@ -20,8 +21,24 @@ pub fn equal(a: &[u8], b: &[u8]) -> bool
     true
 }
 
-// Zero in every cell.
-pub fn fill_zero(s: &mut [u32])
+// How many cells are looked at together.
+const BLOCK: usize = 256;
+
+// Whether some cell is not zero. It stops at none, so that the compiler can look at several at once.
+fn any_set(s: &[u32]) -> bool
+    ensures { λ r. ⌜ r ≡ any (ltb 0) (now (s .entry)) ⌝ }
+{
+    let mut set = false;
+    let mut i = 0;
+    while i < s.len() {
+        set = set | (s[i] > 0);
+        i += 1;
+    }
+    set
+}
+
+// Stores zero in every cell.
+fn store_zero(s: &mut [u32])
     ensures { λ _. ⌜ now (s .exit) ≡ zeros (length (now (s .entry))) ⌝ }
 {
     let mut i = 0;
@@ -29,6 +46,29 @@ pub fn fill_zero(s: &mut [u32])
         s[i] = 0;
         i += 1;
     }
+}
+
+// Zero in every cell, without a store where all are zero already.
+fn clear_block(s: &mut [u32])
+    ensures { λ _. ⌜ now (s .exit) ≡ zeros (length (now (s .entry))) ⌝ }
+{
+    if any_set(s) {
+        store_zero(s);
+    }
+}
+
+// Zero in every cell.
+pub fn fill_zero(s: &mut [u32])
+    ensures { λ _. ⌜ now (s .exit) ≡ zeros (length (now (s .entry))) ⌝ }
+{
+    let n = s.len();
+    let mut at = 0;
+    while n - at >= BLOCK {
+        let end = at + BLOCK;
+        clear_block(&mut s[at..end]);
+        at = end;
+    }
+    clear_block(&mut s[at..]);
 }
 
 // Zero in every byte.

@@ -1,0 +1,53 @@
+-- Whether some element passes a test, found from the front without stopping. Assumes nothing.
+use mathlib.Core.Path.{_≡_, refl, sym, ap, _∙_}
+use mathlib.Core.Bool.{Bool, true, false, _||_}
+use mathlib.Core.List.{List, [], _∷_}
+use Prim.Native.Nat.{ℕ, zero, suc, _+_, _≤_, _<_}
+use native.Mathlib.Omega.{arith}
+use lib.Dec.{ltb}
+use lib.ListN.{length, getD, take}
+use lib.Seq.{take-all}
+use borrow.Author.Tests.{ltb-false}
+use Rattle.lists.specs.Lists.{any, zeros}
+use Rattle.lists.proofs.Tests.{or-left, or-right}
+
+-- whether one of the first i elements of l passes the test p
+pub record Looked (p : ℕ → Bool) (l : List ℕ) (r : Bool) (i : ℕ) : Type 0 where
+  pub within : i ≤ length l
+  pub so : r ≡ any p (take i l)
+
+pub looked-start : (p : ℕ → Bool) (l : List ℕ) → Looked p l false 0
+looked-start p l = record { within = omega arith; so = refl }
+
+-- the next element
+any-next : (p : ℕ → Bool) (l : List ℕ) (i : ℕ) → i < length l → any p (take (suc i) l) ≡ (any p (take i l) || p (getD l i 0))
+any-next p [] i h = absurd (omega arith)
+any-next p (x ∷ l) zero h = or-none (p x)
+  where
+    or-none : (a : Bool) → (a || false) ≡ a
+    or-none true = refl
+    or-none false = refl
+any-next p (x ∷ l) (suc i) h = ap (λ (b : Bool). p x || b) (any-next p l i (omega arith)) ∙ or-moved (p x) (any p (take i l)) (p (getD l i 0))
+  where
+    or-moved : (a b c : Bool) → (a || (b || c)) ≡ ((a || b) || c)
+    or-moved true b c = refl
+    or-moved false b c = refl
+
+pub looked-next : {p : ℕ → Bool} {l : List ℕ} {r : Bool} {i : ℕ} → i < length l → Looked p l r i → Looked p l (r || p (getD l i 0)) (i + 1)
+looked-next {p} {l} {r} {i} h c =
+    let e : suc i ≡ i + 1 = omega arith in
+    record {
+      within = omega arith;
+      so = ap (λ (b : Bool). b || p (getD l i 0)) (c .so) ∙ sym (any-next p l i h) ∙ ap (λ (j : ℕ). any p (take j l)) e;
+    }
+
+pub looked-done : {p : ℕ → Bool} {l : List ℕ} {r : Bool} {i : ℕ} → length l ≤ i → Looked p l r i → r ≡ any p l
+looked-done {p} {l} {r} {i} h c = c .so ∙ ap (any p) (take-all i l h)
+
+-- where no number is over zero, all are zero
+pub none-over : (l : List ℕ) → any (ltb 0) l ≡ false → l ≡ zeros (length l)
+none-over [] e = refl
+none-over (x ∷ l) e =
+    let z : x ≤ 0 = ltb-false 0 x (or-left (ltb 0 x) (any (ltb 0) l) e) in
+    let q : x ≡ 0 = omega (arith, z) in
+    ap (λ (y : ℕ). y ∷ l) q ∙ ap (λ (m : List ℕ). 0 ∷ m) (none-over l (or-right (ltb 0 x) (any (ltb 0) l) e))
