@@ -29,9 +29,9 @@ pub hashing-start : {name : Bytes} → Hashing name 0 0
 hashing-start = record { within = omega arith; small = omega arith; rest = refl }
 
 module _ {name : Bytes} {h i : ℕ} (c : Hashing name h i) where
-  pub hashing-next : i < length name → Hashing name ((h * 31 + getD name i 0) % chains) (i + 1)
+  pub hashing-next : i < length name → Hashing name ((h * 623 + getD name i 0) % chains) (i + 1)
   hashing-next l =
-      let e : hashFrom ((h * 31 + getD name i 0) % chains) (drop (i + 1) name) ≡ hashFrom h (drop i name) = rw (add-one, drop-cons name i 0 l) in
+      let e : hashFrom ((h * 623 + getD name i 0) % chains) (drop (i + 1) name) ≡ hashFrom h (drop i name) = rw (add-one, drop-cons name i 0 l) in
       record { within = omega arith; small = omega arith; rest = e ∙ c .rest }
 
   pub hashing-done : length name ≤ i → (h ≡ hashOf name) × (h < chains)

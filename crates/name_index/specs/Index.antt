@@ -45,10 +45,10 @@ entryAt text cells e = entry (tokenOf text (nameAt cells e)) (signalAt cells e)
 abbrev pub entriesOf : Bytes → List ℕ → ℕ → List Entry
 entriesOf text cells k = map (entryAt text cells) (range 0 k)
 
--- the hash of a name's bytes, going on from h
+-- the hash of a name's bytes, going on from h; by 623 the names of usual netlists, which end in numbers, spread evenly over the chains
 abbrev pub hashFrom : ℕ → Bytes → ℕ
 hashFrom h [] = h
-hashFrom h (c ∷ s) = hashFrom ((h * 31 + c) % chains) s
+hashFrom h (c ∷ s) = hashFrom ((h * 623 + c) % chains) s
 
 -- the hash of a name, below 1,024
 abbrev pub hashOf : Bytes → ℕ

@@ -23,7 +23,7 @@ fn hash_of(name: &[u8]) -> usize
     let mut h = 0;
     let mut i = 0;
     while i < name.len() {
-        h = (h * 31 + name[i] as usize) % CHAINS;
+        h = (h * 623 + name[i] as usize) % CHAINS;
         i += 1;
     }
     h
