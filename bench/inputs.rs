@@ -1,0 +1,149 @@
+// The texts that are measured. Each family is made at sizes up to the limits, so that the growth shows.
+use std::fmt::Write;
+
+pub struct Input {
+    pub name: String,
+    pub text: Vec<u8>,
+}
+
+// Numbers from a seed.
+struct Numbers(u64);
+
+impl Numbers {
+    fn below(&mut self, n: usize) -> usize {
+        self.0 = self.0.wrapping_mul(6364136223846793005).wrapping_add(1442695040888963407);
+        (self.0 >> 33) as usize % n
+    }
+}
+
+const SIZES: [usize; 6] = [100, 300, 1_000, 3_000, 10_000, 32_768];
+
+// Gates of two inputs over three inputs, each a cover of one line, with names from `name`, up to a size.
+fn gates(size: usize, name: &dyn Fn(usize) -> String) -> String {
+    let mut numbers = Numbers(size as u64);
+    let mut names: Vec<String> = (1000..1003).map(name).collect();
+    let mut text = format!(".model m\n.inputs {}\n.outputs {}\n", names.join(" "), name(0));
+    for g in 0..1000 {
+        let (a, b) = (numbers.below(names.len()), names.len() - 1 - numbers.below(names.len().min(20)));
+        let cover = format!(".names {} {} {}\n{} 1\n", names[a], names[b], name(g), ["11", "00", "10", "-1"][numbers.below(4)]);
+        if text.len() + cover.len() + 5 > size {
+            break;
+        }
+        text += &cover;
+        names.push(name(g));
+    }
+    text + ".end\n"
+}
+
+// One cover of so many inputs and lines of all three characters, up to a size.
+fn cover(size: usize, inputs: usize) -> String {
+    let mut numbers = Numbers(size as u64);
+    let names: Vec<String> = (0..inputs).map(|i| format!("i{i}")).collect();
+    let mut text = format!(".model m\n.inputs {}\n.outputs y\n.names {} y\n", names.join(" "), names.join(" "));
+    let most = (16384 / (inputs + 2) - 1).min(1000);
+    for _ in 0..most {
+        if text.len() + inputs + 8 > size {
+            break;
+        }
+        text.extend((0..inputs).map(|_| ['0', '1', '-'][numbers.below(3)]));
+        text += " 1\n";
+    }
+    text + ".end\n"
+}
+
+// As many definitions as there may be, then covers that use them, up to a size.
+fn definitions(size: usize) -> String {
+    let mut numbers = Numbers(size as u64);
+    let inputs: Vec<String> = (0..256).map(|i| format!("n{i}")).collect();
+    let mut text = format!(".model m\n.inputs {}\n", inputs.join(" "));
+    for g in 0..1000 {
+        let mut cover = ".names".to_string();
+        for _ in 0..4 {
+            let k = numbers.below(256 + g);
+            let _ = if k < 256 { write!(cover, " n{k}") } else { write!(cover, " g{}", k - 256) };
+        }
+        let _ = write!(cover, " g{g}\n1111 1\n");
+        if text.len() + cover.len() + 5 > size {
+            break;
+        }
+        text += &cover;
+    }
+    text + ".end\n"
+}
+
+// A chain of flip-flops, up to a size.
+fn latches(size: usize) -> String {
+    let mut text = ".model m\n.inputs a\n.outputs q0\n".to_string();
+    for g in 0..1000 {
+        let line = if g == 0 { ".latch a q0 0\n".to_string() } else { format!(".latch q{} q{g} 0\n", g - 1) };
+        if text.len() + line.len() + 5 > size {
+            break;
+        }
+        text += &line;
+    }
+    text + ".end\n"
+}
+
+// The Xor of so many inputs by all its lines.
+fn xor(inputs: usize) -> String {
+    let names: Vec<String> = (0..inputs).map(|i| format!("i{i}")).collect();
+    let mut text = format!(".model m\n.inputs {}\n.outputs y\n.names {} y\n", names.join(" "), names.join(" "));
+    for mask in (0..1usize << inputs).filter(|m| m.count_ones() % 2 == 1) {
+        text.extend((0..inputs).map(|i| if mask >> i & 1 == 1 { '1' } else { '0' }));
+        text += " 1\n";
+    }
+    text + ".end\n"
+}
+
+// A text of one piece, as often as 32,768 bytes have room for.
+fn repeated(piece: &str) -> String {
+    piece.repeat(32768 / piece.len())
+}
+
+pub fn inputs() -> Vec<Input> {
+    let mut all = Vec::new();
+    let mut add = |name: String, text: String| all.push(Input { name, text: text.into_bytes() });
+    let long = |g: usize| format!("top/interlock/uplink/command/decoder/stage_{g:04}");
+    for size in SIZES {
+        add(format!("small-gates-{size}"), gates(size, &|g| format!("net{g:04}")));
+    }
+    for size in &SIZES[2..] {
+        add(format!("long-names-{size}"), gates(*size, &long));
+        add(format!("latches-{size}"), latches(*size));
+    }
+    for size in &SIZES[1..] {
+        add(format!("cover-of-16-{size}"), cover(*size, 16));
+    }
+    for size in &SIZES[3..5] {
+        add(format!("cover-of-200-{size}"), cover(*size, 200));
+    }
+    add("huge-cover".to_string(), cover(32768, 40));
+    for size in &SIZES[3..] {
+        add(format!("definitions-and-uses-{size}"), definitions(*size));
+    }
+    add("xor-of-10".to_string(), xor(10));
+    add("comment-one-line".to_string(), format!("#{}\n", "c".repeat(32766)));
+    add("comment-lines".to_string(), repeated("# made by a tool, with the date, the options and the names of its files\n"));
+    add("continuations".to_string(), repeated("\\\n"));
+    add("blanks".to_string(), repeated(" "));
+    add("empty-lines".to_string(), repeated("\n"));
+    all
+}
+
+// The BLIF files of a folder, by name.
+pub fn files(folder: &str) -> Vec<Input> {
+    let mut paths = Vec::new();
+    let mut folders = vec![std::path::PathBuf::from(folder)];
+    while let Some(f) = folders.pop() {
+        for entry in std::fs::read_dir(f).unwrap().flatten() {
+            let path = entry.path();
+            if path.is_dir() {
+                folders.push(path);
+            } else if path.extension().is_some_and(|e| e == "blif") {
+                paths.push(path);
+            }
+        }
+    }
+    paths.sort();
+    paths.iter().map(|p| Input { name: p.file_stem().unwrap().to_string_lossy().into_owned(), text: std::fs::read(p).unwrap() }).collect()
+}

@@ -1,0 +1,171 @@
+// Measures the part and Quaigh on the same inputs, by turns.
+// usage: bench names [FILES] | once NAME [FILES] | measure COUNTS DOCS [FILES]
+mod inputs;
+mod io;
+mod network;
+mod part;
+mod report;
+
+pub use network::{BinaryType, Gate, NaryType, Network, Signal, TernaryType};
+
+use inputs::Input;
+use io::blif::{read_blif, write_blif};
+use part::{Lent, NetworkAnswer, TextAnswer};
+use std::hint::black_box;
+use std::time::Instant;
+
+// The least times in nanoseconds of this part and of Quaigh; None where there is nothing to compare.
+#[derive(Clone, Copy)]
+pub struct Pair {
+    pub part: f64,
+    pub rust: f64,
+}
+
+pub struct Measured {
+    pub name: String,
+    pub bytes: usize,
+    pub read: Option<Pair>,
+    // the part's, with ones in every lent cell before each read
+    pub read_filled: f64,
+    pub write: Option<Pair>,
+    pub written: usize,
+    // the number of the refusal, of reading or else of writing
+    pub refused: (u32, u32),
+}
+
+#[no_mangle]
+#[inline(never)]
+pub extern "C" fn counted_part_read(lent: &mut Lent, text: &Vec<u8>) -> NetworkAnswer {
+    lent.read(text)
+}
+
+#[no_mangle]
+#[inline(never)]
+pub extern "C" fn counted_part_write(lent: &mut Lent, n: NetworkAnswer) -> TextAnswer {
+    lent.write(n)
+}
+
+#[no_mangle]
+#[inline(never)]
+pub fn counted_rust_read(text: &Vec<u8>) {
+    drop(black_box(read_blif(text.as_slice())));
+}
+
+#[no_mangle]
+#[inline(never)]
+pub fn counted_rust_write(out: &mut Vec<u8>, n: &Network) {
+    out.clear();
+    write_blif(out, n);
+}
+
+// An Xor of 12 inputs: its text has more lines than may be read, so the network is lent.
+fn xor_of_12(lent: &mut Lent) -> (NetworkAnswer, Network) {
+    let mut n = Network::new();
+    n.add_inputs(12);
+    let pins: Vec<Signal> = (0..12).map(|i| n.input(i)).collect();
+    lent.gates.fill(0);
+    lent.pins.fill(0);
+    lent.outputs.fill(0);
+    lent.gates[..3].copy_from_slice(&[11, 0, 12]);
+    for i in 0..12u32 {
+        lent.pins[i as usize] = 0u32.wrapping_sub(2 * (i + 1));
+    }
+    let x = n.add(Gate::Nary(pins.into_boxed_slice(), NaryType::Xor));
+    n.add_output(x);
+    lent.outputs[0] = 2;
+    (NetworkAnswer { refused: 0, inputs: 12, gates: 1, pins: 12, outputs: 1 }, n)
+}
+
+// The network of an input on both sides, if it is read.
+fn read_both(lent: &mut Lent, input: &Input) -> (NetworkAnswer, Option<Network>) {
+    if input.name == "xor-of-12" {
+        let (a, n) = xor_of_12(lent);
+        return (a, Some(n));
+    }
+    let a = lent.read(&input.text);
+    let n = if a.refused == 0 { Some(read_blif(input.text.as_slice()).expect("Quaigh reads what is read here")) } else { None };
+    (a, n)
+}
+
+fn least(best: &mut f64, f: impl FnOnce()) {
+    let start = Instant::now();
+    f();
+    *best = best.min(start.elapsed().as_nanos() as f64);
+}
+
+// How many runs: about a fifth of a second in all, a hundred at least.
+fn runs(input: &Input) -> usize {
+    (200_000_000 / (input.text.len() * 60 + 20_000)).clamp(100, 5_000)
+}
+
+fn measure(input: &Input) -> Measured {
+    let mut lent = Lent::new();
+    let (a, n) = read_both(&mut lent, input);
+    let mut w = lent.write(a);
+    let mut out = Vec::with_capacity(1 << 20);
+    let mut times = [f64::MAX; 5];
+    for _ in 0..runs(input) {
+        if !input.text.is_empty() {
+            lent.fill();
+            least(&mut times[2], || drop(black_box(counted_part_read(&mut lent, &input.text))));
+            least(&mut times[0], || drop(black_box(counted_part_read(&mut lent, &input.text))));
+            if n.is_some() {
+                least(&mut times[1], || counted_rust_read(&input.text));
+            }
+        }
+        if let Some(n) = &n {
+            least(&mut times[3], || w = black_box(counted_part_write(&mut lent, a)));
+            least(&mut times[4], || counted_rust_write(&mut out, n));
+        }
+    }
+    if n.is_some() && w.refused == 0 {
+        assert_eq!(&lent.out[..w.length as usize], &out[..], "the two texts of {} differ", input.name);
+    }
+    let compared = |part: f64, rust: f64| if rust < f64::MAX { Some(Pair { part, rust }) } else { None };
+    Measured {
+        name: input.name.clone(),
+        bytes: input.text.len(),
+        read: compared(times[0], times[1]),
+        read_filled: times[2],
+        write: if w.refused == 0 { compared(times[3], times[4]) } else { None },
+        written: w.length as usize,
+        refused: (a.refused, w.refused),
+    }
+}
+
+fn all(folder: Option<&String>) -> Vec<Input> {
+    let mut all = inputs::inputs();
+    all.push(Input { name: "xor-of-12".to_string(), text: Vec::new() });
+    if let Some(f) = folder {
+        all.extend(inputs::files(f));
+    }
+    all
+}
+
+fn main() {
+    let words: Vec<String> = std::env::args().skip(1).collect();
+    match words[0].as_str() {
+        "names" => all(words.get(1)).iter().for_each(|i| println!("{}", i.name)),
+        "once" => {
+            let all = all(words.get(2));
+            let input = all.iter().find(|i| i.name == words[1]).expect("no such input");
+            let mut lent = Lent::new();
+            let (a, n) = read_both(&mut lent, input);
+            if !input.text.is_empty() {
+                black_box(counted_part_read(&mut lent, &input.text));
+            }
+            if let Some(n) = n {
+                if !input.text.is_empty() {
+                    counted_rust_read(&input.text);
+                }
+                black_box(counted_part_write(&mut lent, a));
+                counted_rust_write(&mut Vec::with_capacity(1 << 20), &n);
+            }
+        }
+        _ => {
+            let made = all(None).len();
+            let measured: Vec<Measured> = all(words.get(3)).iter().map(measure).collect();
+            report::report(&measured, made, &words[1], &words[2]);
+        }
+    }
+}

@@ -1,0 +1,113 @@
+// The table, the plot and the page docs/speed.md.
+use crate::{Measured, Pair};
+use std::collections::HashMap;
+use std::fmt::Write;
+
+// The instructions of one call, by the counted function's name; empty where they were not counted.
+fn counts(folder: &str, name: &str) -> HashMap<String, f64> {
+    let text = std::fs::read_to_string(format!("{folder}/{name}.count")).unwrap_or_default();
+    text.lines().filter_map(|l| l.split_once(' ')).map(|(f, n)| (f.to_string(), n.parse().unwrap())).collect()
+}
+
+fn ratio(p: &Pair) -> f64 {
+    p.rust / p.part
+}
+
+fn mean(pairs: &[Pair]) -> f64 {
+    (pairs.iter().map(|p| ratio(p).ln()).sum::<f64>() / pairs.len() as f64).exp()
+}
+
+fn worst(all: &[(&str, Pair)]) -> String {
+    let (name, p) = all.iter().min_by(|a, b| ratio(&a.1).total_cmp(&ratio(&b.1))).unwrap();
+    format!("{:.2} ({name})", ratio(p))
+}
+
+// The cells of a row about reading or writing: nanoseconds and instructions of both per byte, and the ratios.
+fn cells(p: Option<Pair>, bytes: usize, counts: &HashMap<String, f64>, what: &str) -> String {
+    let Some(p) = p else {
+        return "| | | | ".to_string();
+    };
+    let b = bytes as f64;
+    let count = |side: &str| counts.get(&format!("counted_{side}_{what}")).map(|n| n / b);
+    let instructions = match (count("part"), count("rust")) {
+        (Some(x), Some(y)) => format!("{x:.1} / {y:.1}"),
+        _ => String::new(),
+    };
+    format!("| {:.2} / {:.2} | {instructions} | **{:.2}** ", p.part / b, p.rust / b, ratio(&p))
+}
+
+fn table(rows: &[Measured], folder: &str) -> String {
+    let mut t = String::from("| input | bytes | read: ns a byte, this part / Rust | instructions a byte | ratio | written bytes | write: ns a byte | instructions a byte | ratio |\n|---|---|---|---|---|---|---|---|---|\n");
+    for m in rows {
+        let c = counts(folder, &m.name);
+        let _ = writeln!(t, "| {} | {} {}| {} {}|", m.name, m.bytes, cells(m.read, m.bytes, &c, "read"), m.written, cells(m.write, m.written, &c, "write"));
+    }
+    t
+}
+
+fn pairs<'a>(rows: &'a [Measured], f: fn(&Measured) -> Option<Pair>) -> Vec<(&'a str, Pair)> {
+    rows.iter().filter_map(|m| f(m).map(|p| (m.name.as_str(), p))).collect()
+}
+
+fn summary(what: &str, rows: &[Measured], f: fn(&Measured) -> Option<Pair>) -> String {
+    let all = pairs(rows, f);
+    if all.is_empty() {
+        return String::new();
+    }
+    let only: Vec<Pair> = all.iter().map(|a| a.1).collect();
+    let slower = only.iter().filter(|p| ratio(p) < 1.0).count();
+    format!("{what}: {:.2} times as fast as the Rust in the geometric mean of {} inputs; least {}; slower on {slower}", mean(&only), only.len(), worst(&all))
+}
+
+const FAMILIES: [(&str, &str); 4] = [("small-gates-", "#1b6ca8"), ("long-names-", "#b8550f"), ("latches-", "#3a7d2c"), ("cover-of-16-", "#7b3fa0")];
+
+// Time in microseconds over bytes, both by powers of ten: a line for each family, broken for the Rust.
+fn plot(rows: &[Measured], f: fn(&Measured) -> Option<Pair>, left: f64, title: &str) -> String {
+    let x = |b: f64| left + 60.0 + (b.log10() - 1.9) / 2.7 * 330.0;
+    let y = |ns: f64| 360.0 - (ns.log10() - 2.5) / 4.0 * 320.0;
+    let mut s = format!("<text x=\"{}\" y=\"24\" font-weight=\"bold\">{title}</text>\n", left + 60.0);
+    for (b, label) in [(100.0, "100"), (1e3, "1,000"), (1e4, "10,000"), (32768.0, "32,768")] {
+        let _ = writeln!(s, "<line x1=\"{0:.1}\" y1=\"40\" x2=\"{0:.1}\" y2=\"360\" stroke=\"#ddd\"/><text x=\"{0:.1}\" y=\"376\" text-anchor=\"middle\">{label}</text>", x(b));
+    }
+    for (ns, label) in [(1e3, "1 µs"), (1e4, "10 µs"), (1e5, "100 µs"), (1e6, "1 ms")] {
+        let _ = writeln!(s, "<line x1=\"{1:.1}\" y1=\"{0:.1}\" x2=\"{2:.1}\" y2=\"{0:.1}\" stroke=\"#ddd\"/><text x=\"{3:.1}\" y=\"{0:.1}\" text-anchor=\"end\">{label}</text>", y(ns), left + 60.0, left + 390.0, left + 54.0);
+    }
+    for (family, colour) in FAMILIES {
+        let points: Vec<(f64, Pair)> = rows.iter().filter(|m| m.name.starts_with(family)).filter_map(|m| f(m).map(|p| (m.bytes as f64, p))).collect();
+        for (dash, side) in [("", 0), ("5 4", 1)] {
+            let line: String = points.iter().map(|(b, p)| format!("{:.1},{:.1} ", x(*b), y(if side == 0 { p.part } else { p.rust }))).collect();
+            let _ = writeln!(s, "<polyline points=\"{line}\" fill=\"none\" stroke=\"{colour}\" stroke-width=\"2\" stroke-dasharray=\"{dash}\"/>");
+        }
+    }
+    s
+}
+
+fn svg(rows: &[Measured]) -> String {
+    let mut s = String::from("<svg xmlns=\"http://www.w3.org/2000/svg\" width=\"840\" height=\"430\" font-family=\"sans-serif\" font-size=\"12\">\n<rect width=\"840\" height=\"430\" fill=\"white\"/>\n");
+    s += &plot(rows, |m| m.read, 0.0, "Reading: time over the text's bytes");
+    s += &plot(rows, |m| m.write, 420.0, "Writing: time over the bytes of the text that was read");
+    for (i, (family, colour)) in FAMILIES.iter().enumerate() {
+        let at = 60 + 180 * i;
+        let _ = writeln!(s, "<line x1=\"{at}\" y1=\"404\" x2=\"{}\" y2=\"404\" stroke=\"{colour}\" stroke-width=\"2\"/><text x=\"{}\" y=\"408\">{}</text>", at + 24, at + 30, family.trim_end_matches('-').replace('-', " "));
+    }
+    s + "<text x=\"60\" y=\"424\">whole lines: this part; broken lines: Quaigh, in Rust</text>\n</svg>\n"
+}
+
+pub fn report(rows: &[Measured], made: usize, folder: &str, docs: &str) {
+    let cores = std::thread::available_parallelism().map_or(1, |n| n.get());
+    let (made, given) = rows.split_at(made);
+    let mut lines = vec![summary("reading", made, |m| m.read), summary("writing", made, |m| m.write)];
+    let compared: Vec<&Measured> = given.iter().filter(|m| m.read.is_some()).collect();
+    if !given.is_empty() {
+        lines.push(format!("files: {} given, {} read, {} refused", given.len(), compared.len(), given.len() - compared.len()));
+        lines.push(summary("reading the files", given, |m| m.read));
+        lines.push(summary("writing the files", given, |m| m.write));
+    }
+    let filled: String = made.iter().filter(|m| m.name.starts_with("small-gates-")).map(|m| format!("| {} | {:.2} | {:.2} |\n", m.bytes, m.read.unwrap().part / 1e3, m.read_filled / 1e3)).collect();
+    print!("{}", table(rows, folder));
+    println!("{}", lines.join("\n"));
+    let points: String = lines.iter().map(|l| format!("- {l}\n")).collect();
+    let page = include_str!("speed.template").replace("@CORES@", &cores.to_string()).replace("@SUMMARY@", points.trim_end()).replace("@TABLE@", table(made, folder).trim_end()).replace("@FILLED@", filled.trim_end());
+    std::fs::write(format!("{docs}/speed.md"), page).unwrap();
+    std::fs::write(format!("{docs}/speed.svg"), svg(made)).unwrap();
+}
