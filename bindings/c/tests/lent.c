@@ -1,0 +1,178 @@
+#include "lent.h"
+
+#include <stdlib.h>
+#include <string.h>
+
+size_t guard = 64;
+unsigned long checks, failures;
+
+const struct sizes5 enough = {
+    VUMNEATH_LEND_GATES, VUMNEATH_LEND_PINS, VUMNEATH_LEND_OUTPUTS, VUMNEATH_LEND_GATES, VUMNEATH_LEND_PINS,
+};
+const struct sizes5 one_more = {
+    VUMNEATH_LEND_GATES + 1, VUMNEATH_LEND_PINS + 1, VUMNEATH_LEND_OUTPUTS + 1, VUMNEATH_LEND_GATES + 1, VUMNEATH_LEND_PINS + 1,
+};
+
+enum { GUARD_BYTE = 0x5c };
+
+void check(bool holds, const char *what, unsigned long place)
+{
+    checks++;
+    if (holds)
+        return;
+    failures++;
+    if (failures <= 20)
+        printf("FAILED: %s, at %lu\n", what, place);
+}
+
+struct lent lend(size_t bytes, uint8_t fill)
+{
+    struct lent lent = { malloc(bytes + 2 * guard), NULL, bytes };
+    if (!lent.block && bytes + guard) {
+        printf("no memory for %zu bytes\n", bytes);
+        exit(2);
+    }
+    lent.part = lent.block + guard;
+    memset(lent.block, GUARD_BYTE, guard);
+    memset(lent.part, fill, bytes);
+    memset(lent.part + bytes, GUARD_BYTE, guard);
+    return lent;
+}
+
+struct lent lend_copy(const void *bytes, size_t count)
+{
+    struct lent lent = lend(count, 0);
+    if (count)
+        memcpy(lent.part, bytes, count);
+    return lent;
+}
+
+void take_back(struct lent *lent, unsigned long place)
+{
+    bool same = true;
+    for (size_t i = 0; i < guard; i++)
+        same = same && lent->block[i] == GUARD_BYTE && lent->part[lent->bytes + i] == GUARD_BYTE;
+    check(same, "the bytes around a buffer are unchanged", place);
+    free(lent->block);
+}
+
+uint32_t *cells(const struct lent *lent)
+{
+    return (uint32_t *)(void *)lent->part;
+}
+
+size_t cell_count(const struct lent *lent)
+{
+    return lent->bytes / sizeof(uint32_t);
+}
+
+bool all_zero(const struct lent *lent, size_t from)
+{
+    if (from >= lent->bytes)
+        return from == lent->bytes;
+    return lent->part[from] == 0 && memcmp(lent->part + from, lent->part + from + 1, lent->bytes - from - 1) == 0;
+}
+
+struct cells5 lend_cells(struct sizes5 sizes)
+{
+    struct cells5 lent = {
+        lend(sizes.gates * sizeof(uint32_t), 0xff), lend(sizes.pins * sizeof(uint32_t), 0xff),
+        lend(sizes.outputs * sizeof(uint32_t), 0xff), lend(sizes.work_gates * sizeof(uint32_t), 0xff),
+        lend(sizes.work_pins * sizeof(uint32_t), 0xff),
+    };
+    return lent;
+}
+
+void take_back_cells(struct cells5 *lent, unsigned long place)
+{
+    take_back(&lent->gates, place);
+    take_back(&lent->pins, place);
+    take_back(&lent->outputs, place);
+    take_back(&lent->work_gates, place);
+    take_back(&lent->work_pins, place);
+}
+
+vumneath_network read_lent(const struct lent *text, const struct cells5 *lent)
+{
+    return vumneath_read_blif(text->part, text->bytes, cells(&lent->gates), cell_count(&lent->gates), cells(&lent->pins),
+        cell_count(&lent->pins), cells(&lent->outputs), cell_count(&lent->outputs), cells(&lent->work_gates),
+        cell_count(&lent->work_gates), cells(&lent->work_pins), cell_count(&lent->work_pins));
+}
+
+void check_left(vumneath_network net, const struct cells5 *lent, unsigned long place)
+{
+    check(net.refused <= VUMNEATH_REFUSED_LOOP, "a reader's refusal is 1 to 14", place);
+    if (net.refused)
+        check(!net.inputs && !net.gates && !net.pins && !net.outputs, "counts are zero after a refusal", place);
+    check(net.inputs <= VUMNEATH_MAX_INPUTS, "inputs are within the sizes", place);
+    check(all_zero(&lent->gates, (size_t)net.gates * VUMNEATH_GATE_CELLS * sizeof(uint32_t)), "gate cells beyond are zero", place);
+    check(all_zero(&lent->pins, (size_t)net.pins * sizeof(uint32_t)), "pin cells beyond are zero", place);
+    check(all_zero(&lent->outputs, (size_t)net.outputs * sizeof(uint32_t)), "output cells beyond are zero", place);
+    check(all_zero(&lent->work_gates, 0), "working gate cells are zero", place);
+    check(all_zero(&lent->work_pins, 0), "working pin cells are zero", place);
+}
+
+uint32_t read_checked(const void *text, size_t length, struct sizes5 sizes, unsigned long place)
+{
+    struct lent bytes = lend_copy(text, length);
+    struct cells5 lent = lend_cells(sizes);
+    vumneath_network net = read_lent(&bytes, &lent);
+    check_left(net, &lent, place);
+    check(length == 0 || memcmp(bytes.part, text, length) == 0, "the text is unchanged", place);
+    take_back_cells(&lent, place);
+    take_back(&bytes, place);
+    return net.refused;
+}
+
+vumneath_text write_lent(const struct network *net, const struct lent *out)
+{
+    return vumneath_write_blif(net->inputs, net->gate_count, net->pin_count, net->output_count, cells(&net->gates),
+        cell_count(&net->gates), cells(&net->pins), cell_count(&net->pins), cells(&net->outputs), cell_count(&net->outputs),
+        out->part, out->bytes);
+}
+
+void take_back_network(struct network *net, unsigned long place)
+{
+    take_back(&net->gates, place);
+    take_back(&net->pins, place);
+    take_back(&net->outputs, place);
+}
+
+struct lent load(const char *path)
+{
+    FILE *file = fopen(path, "rb");
+    if (!file || fseek(file, 0, SEEK_END) != 0) {
+        printf("cannot read %s\n", path);
+        exit(2);
+    }
+    struct lent all = lend((size_t)ftell(file), 0);
+    rewind(file);
+    if (fread(all.part, 1, all.bytes, file) != all.bytes) {
+        printf("cannot read %s\n", path);
+        exit(2);
+    }
+    fclose(file);
+    return all;
+}
+
+uint32_t next_word(const struct lent *list, size_t *at)
+{
+    char digits[9] = "";
+    if (*at + 9 > list->bytes) {
+        printf("the list ends too early\n");
+        exit(2);
+    }
+    memcpy(digits, list->part + *at, 8);
+    *at += 9;
+    return (uint32_t)strtoul(digits, NULL, 16);
+}
+
+size_t answer_start(const struct lent *answers, const char *word, unsigned long i, size_t from)
+{
+    char line[40];
+    size_t length = (size_t)snprintf(line, sizeof line, "%s %lu\n", word, i);
+    for (size_t at = from; at + length <= answers->bytes; at++)
+        if ((at == 0 || answers->part[at - 1] == '\n') && memcmp(answers->part + at, line, length) == 0)
+            return at;
+    return answers->bytes;
+}

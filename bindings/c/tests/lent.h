@@ -1,0 +1,69 @@
+/* Buffers to lend: each has guard bytes on both sides, or ends where its block ends so that memcheck sees a byte taken outside it. */
+#ifndef LENT_H
+#define LENT_H
+
+#include "vumneath.h"
+
+#include <stdbool.h>
+#include <stdio.h>
+
+struct lent {
+    uint8_t *block, *part;
+    size_t bytes;
+};
+
+/* The guard bytes on each side. */
+extern size_t guard;
+
+/* Checks made, and those that failed. */
+extern unsigned long checks, failures;
+
+/* Counts a check; one that fails is told with its place. */
+void check(bool holds, const char *what, unsigned long place);
+
+/* A buffer that is all fill, and a buffer with the bytes given. */
+struct lent lend(size_t bytes, uint8_t fill);
+struct lent lend_copy(const void *bytes, size_t count);
+/* Checks that the guards are as they were, and frees the buffer. */
+void take_back(struct lent *lent, unsigned long place);
+
+uint32_t *cells(const struct lent *lent);
+size_t cell_count(const struct lent *lent);
+bool all_zero(const struct lent *lent, size_t from);
+
+/* The five buffers that reading fills, and the counts of their cells. */
+struct cells5 { struct lent gates, pins, outputs, work_gates, work_pins; };
+struct sizes5 { size_t gates, pins, outputs, work_gates, work_pins; };
+extern const struct sizes5 enough, one_more;
+
+struct cells5 lend_cells(struct sizes5 sizes);
+void take_back_cells(struct cells5 *lent, unsigned long place);
+vumneath_network read_lent(const struct lent *text, const struct cells5 *lent);
+/* Checks that a refusal leaves zero counts and cells, and a success zeros beyond the counts and in the working cells. */
+void check_left(vumneath_network net, const struct cells5 *lent, unsigned long place);
+/* Reads a text and checks what is left; the answer is the refusal's number. */
+uint32_t read_checked(const void *text, size_t length, struct sizes5 sizes, unsigned long place);
+
+/* A network for the writer. */
+struct network { uint32_t inputs, gate_count, pin_count, output_count; struct lent gates, pins, outputs; };
+
+vumneath_text write_lent(const struct network *net, const struct lent *out);
+void take_back_network(struct network *net, unsigned long place);
+
+/* A file's bytes. Ends the test where it cannot be read. */
+struct lent load(const char *path);
+
+/* The next number of a list: eight hexadecimal digits and a separator. */
+uint32_t next_word(const struct lent *list, size_t *at);
+
+/* The place of answer i in a list of answers, each of which starts with a line 'WORD N', or the end of the list. */
+size_t answer_start(const struct lent *answers, const char *word, unsigned long i, size_t from);
+
+/* What the other files run. step: each how manyth stored text or network is taken. */
+void replay_reads(const char *texts, const char *answers, unsigned long step);
+void replay_writes(const char *networks, const char *answers, unsigned long step);
+void call_reads(void);
+void call_writes(void);
+void measure_stack(const char *texts);
+
+#endif

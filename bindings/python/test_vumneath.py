@@ -1,0 +1,158 @@
+"""The tests of the Python module: stored texts and networks with their answers, and calls by hand.
+
+Usage: python3 test_vumneath.py
+"""
+
+import ctypes
+import doctest
+import os
+import re
+import unittest
+
+import vumneath
+from vumneath import ONE, ZERO, Gate, Network, Refusal, Signal
+
+HERE = os.path.dirname(os.path.realpath(__file__))
+GUARD = 16
+ENOUGH = (3072, 16384, 256, 3072, 16384)
+GOOD = b".model m\n.inputs a b c\n.outputs y q\n.names a b c y\n11- 1\n0-1 1\n.latch y q 0\n.end\n"
+
+
+def stored(path):
+    with open(os.path.join(HERE, "../../crates", path), "rb") as file:
+        return file.read()
+
+
+class Guarded:
+    """An array of so many cells or bytes that are all ones, in a block with guards on both sides."""
+
+    def __init__(self, kind, count):
+        self.size = ctypes.sizeof(kind)
+        self.block = bytearray(b"\x5c" * GUARD + b"\xff" * (count * self.size) + b"\x5c" * GUARD)
+        self.part = (kind * count).from_buffer(self.block, GUARD)
+
+    def unharmed(self, used):
+        """Whether the guards are as they were and all is zero behind the part in use."""
+        ends = GUARD + used * self.size, GUARD + len(self.part) * self.size
+        guards = self.block[:GUARD] + self.block[ends[1] :]
+        return guards == b"\x5c" * (2 * GUARD) and not self.block[ends[0] : ends[1]].strip(b"\0")
+
+
+def read_guarded(text, sizes=ENOUGH):
+    """What reading answers, in the notation of the stored answers; 'harmed' where another cell was changed or is not zero."""
+    lent = [Guarded(ctypes.c_uint32, n) for n in sizes]
+    answer = vumneath.read_cells((ctypes.c_uint8 * len(text)).from_buffer_copy(text), *(each.part for each in lent))
+    used = (answer.gates * 3, answer.pins, answer.outputs, 0, 0)
+    if not all(each.unharmed(n) for each, n in zip(lent, used)):
+        return "harmed"
+    if answer.refused:
+        return f"refused={answer.refused}\n"
+    said = f"counts {answer.inputs} {answer.gates} {answer.pins} {answer.outputs}\n"
+    for word, each, n in zip(("gates", "pins", "outputs"), lent, used):
+        said += word + "".join(f" {cell:x}" for cell in each.part[:n]) + "\n"
+    return said
+
+
+def write_guarded(counts, cells, room):
+    """What writing answers, in the notation of the stored answers; 'harmed' where another byte or a cell was changed."""
+    out = Guarded(ctypes.c_uint8, room)
+    lent = [(ctypes.c_uint32 * len(part))(*part) for part in cells]
+    answer = vumneath.write_cells(counts, *lent, out.part)
+    if not out.unharmed(answer.length) or [list(part) for part in lent] != cells:
+        return b"harmed"
+    if answer.refused:
+        return b"refused=%d\n" % answer.refused
+    return b"length=%d\n" % answer.length + bytes(out.part[: answer.length])
+
+
+def number(call, *arguments):
+    """The refusal's number, or 0."""
+    try:
+        call(*arguments)
+    except Refusal as refusal:
+        return refusal.number
+    return 0
+
+
+class Replay(unittest.TestCase):
+    def test_stored_texts(self):
+        answers = re.split(rb"^(?:text \d+|short)\n", stored("read_replay/stdout"), flags=re.M)[1:]
+        texts, at = stored("read_replay/stdin"), 9
+        for i in range(int(texts[:8], 16)):
+            length = int(texts[at : at + 8], 16)
+            text, at = texts[at + 9 : at + 9 + length], at + 9 + length
+            sizes = ENOUGH if i % 2 == 0 else [n + 1 for n in ENOUGH]
+            self.assertEqual(read_guarded(text, sizes), answers[i].decode("ascii"), f"text {i}")
+        self.assertEqual(at, len(texts))
+
+    def test_stored_networks(self):
+        answers = re.split(rb"^network \d+\n", stored("write_replay/stdout"), flags=re.M)[1:]
+        words = iter([int(word, 16) for word in stored("write_replay/stdin").split()])
+        for i in range(next(words)):
+            counts = [next(words) * 2**32 + next(words) for _ in range(4)]
+            room, *sizes = [next(words) for _ in range(4)]
+            cells = [[next(words) for _ in range(n)] for n in sizes]
+            self.assertEqual(write_guarded(counts, cells, room), answers[i], f"network {i}")
+        self.assertEqual(list(words), [])
+
+
+class Calls(unittest.TestCase):
+    def test_damaged(self):
+        for i in range(len(GOOD)):
+            self.assertNotEqual(read_guarded(GOOD[:i]), "harmed")
+            self.assertEqual(read_guarded(GOOD[:i] + b"\x80" + GOOD[i + 1 :]), "refused=3\n")
+
+    def test_short(self):
+        for i in range(5):
+            self.assertEqual(read_guarded(GOOD, [n - (kind == i) for kind, n in enumerate(ENOUGH)]), "refused=1\n")
+        cells = [[13, 0, 1], [0xFFFFFFFE], [2]]
+        text = write_guarded((1, 1, 1, 1), cells, 32768)
+        length = len(text) - len(b"length=NNN\n")
+        self.assertEqual(write_guarded((1, 1, 1, 1), cells, length), text)
+        self.assertEqual(write_guarded((1, 1, 1, 1), cells, length - 1), b"refused=22\n")
+        for i in range(3):
+            one_short = [part[:-1] if kind == i else part for kind, part in enumerate(cells)]
+            self.assertEqual(write_guarded((1, 1, 1, 1), one_short, 32768), b"refused=20\n")
+        self.assertEqual(write_guarded((2**32 + 1, 1, 1, 1), cells, 32768), b"refused=20\n")
+
+    def test_largest(self):
+        self.assertEqual([number(vumneath.read, b" " * n) for n in (32768, 32769)], [0, 2])
+        for limit, before, each in ((256, ".inputs", " n{}"), (1024, "", ".names n{}\n")):
+            texts = [before + "".join(each.format(i) for i in range(n)) for n in (limit, limit + 1)]
+            self.assertEqual([number(vumneath.read, text.encode()) for text in texts], [0, 6])
+
+    def test_networks_of_the_caller(self):
+        a, b, c = Signal.from_input(0), ~Signal.from_input(1), Signal.from_var(13)
+        pins = {"Binary": (a, b), "Ternary": (a, b, c), "Nary": (a, b, c, ONE), "Buf": (b,), "Dff": (a, b, c)}
+        gates = [Gate(form, pins[form.split()[0]]) for form in vumneath.FORMS]
+        self.assertIn(b".flop D=i0 Q=x13 init=0 E=i1_n R=x13\n", vumneath.write(Network(2, gates, [~c, ZERO])))
+        for inputs in (257, -1, 2**32):
+            self.assertEqual(number(vumneath.write, Network(inputs, [], [])), 20)
+        self.assertEqual(number(vumneath.write, Network(0, [Gate("Binary And", (ONE,))], [])), 20)
+        self.assertEqual(number(vumneath.write, Network(0, [Gate("Nary Xor", (ONE,) * 13)], [])), 21)
+        self.assertEqual(number(vumneath.write, Network(0, [Gate("Nary And", (ONE,) * 16384)], [])), 22)
+        for network in (Network(0, [Gate("Lut", ())], []), Network(0, [], [Signal(2**32)]), Network(0, [], [Signal(-1)])):
+            self.assertRaises(ValueError, vumneath.write, network)
+
+    def test_read_and_write(self):
+        network = vumneath.read(GOOD)
+        self.assertEqual(vumneath.read(vumneath.write(network)).inputs, network.inputs)
+        self.assertEqual(vumneath.read(b""), Network(0, [], []))
+
+    def test_signals(self):
+        self.assertEqual([Signal.from_input(1).cell, Signal.from_var(1).cell], [0xFFFFFFFC, 4])
+        self.assertEqual([str(s) for s in (ZERO, ONE, ~Signal.from_input(3), Signal.from_var(4))], ["0", "1", "!i3", "x4"])
+        self.assertRaises(ValueError, Signal.from_var, 2**30)
+        self.assertRaises(ValueError, Signal.from_input, -1)
+
+    def test_sentences_of_the_header(self):
+        with open(os.path.join(HERE, "../c/vumneath.h"), encoding="ascii") as file:
+            lines = re.findall(r"^#define VUMNEATH_REFUSED_\w+ (\d+) +/\* (.*) \*/$", file.read(), flags=re.M)
+        self.assertEqual({int(n): sentence for n, sentence in lines}, vumneath.REFUSALS)
+
+    def test_doc(self):
+        self.assertEqual(doctest.testmod(vumneath).failed, 0)
+
+
+if __name__ == "__main__":
+    unittest.main()

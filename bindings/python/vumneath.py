@@ -1,0 +1,212 @@
+"""BLIF netlists, read and written, proved.
+
+BLIF is the Berkeley Logic Interchange Format, a text that describes logic gates and flip-flops. read() turns such a text into a
+sorted Network and write() turns a Network into such a text. Both call a library that is proved to answer every text and every
+network, sound or damaged, with a result or a numbered Refusal.
+
+>>> network = read(b".model m\\n.inputs a b\\n.outputs y\\n.names a b y\\n10 1\\n.end\\n")
+>>> [str(gate) for gate in network.gates], [str(signal) for signal in network.outputs]
+(['And(i0, !i1)'], ['x0'])
+>>> write(network).splitlines()[-1]
+b'.names gnd'
+>>> read(b".outputs y")
+Traceback (most recent call last):
+vumneath.Refusal: refused=11: an output, a latch's input or a cover's input is not defined
+
+The library is libvumneath.so: the file that VUMNEATH_LIB names, else the one in lib/ of the prefix that this module was installed
+into, else the one that tests/bindings leaves in the repository.
+"""
+
+import ctypes
+import os
+from typing import List, NamedTuple, Tuple
+
+MAX_TEXT = 32768
+MAX_INPUTS = 256
+MAX_OUTPUTS = 256
+MAX_GATES = 1024
+MAX_PINS = 16384
+GATE_CELLS = 3
+
+REFUSALS = {
+    1: "too few cells are lent",
+    2: "the text is over 32,768 bytes",
+    3: "the text has a byte of 128 or more",
+    4: ".model lacks a name, or .latch has fewer than two",
+    5: "a statement that starts with a dot is not supported",
+    6: "there are over 256 inputs, 256 outputs, 1,024 gates or 16,384 pins",
+    7: "there is a second .model",
+    8: ".end comes before any .model",
+    9: ".names has no names",
+    10: "a name is defined twice",
+    11: "an output, a latch's input or a cover's input is not defined",
+    12: "a cube line is wrong",
+    13: "the cube lines of a cover differ in output",
+    14: "there is a combinational loop",
+    20: "what is lent to the writer is no network",
+    21: "an Xor or Xnor of any number of inputs has over 12",
+    22: "the text does not fit into the output slice or into 32,768 bytes",
+}
+
+# The gate forms 1 to 14: Binary, Ternary, Nary, Buf and Dff, with the type where the form has several.
+FORMS = (
+    "Binary And", "Binary Xor", "Ternary And", "Ternary Xor", "Ternary Maj", "Ternary Mux", "Nary And", "Nary Or", "Nary Nand",
+    "Nary Nor", "Nary Xor", "Nary Xnor", "Buf", "Dff",
+)
+
+
+class Refusal(Exception):
+    """Why a text is not read or a network not written: its number and a plain sentence."""
+
+    def __init__(self, number: int):
+        self.number = number
+        self.sentence = REFUSALS[number]
+        super().__init__(f"refused={number}: {self.sentence}")
+
+
+class Signal(NamedTuple):
+    """A constant, an input or a gate, as it is or inverted, by its cell: bit 0 is the inversion, bit 31 marks an input."""
+
+    cell: int
+
+    @staticmethod
+    def from_input(v: int) -> "Signal":
+        """Input v, counted from 0."""
+        if not 0 <= v < 2**30:
+            raise ValueError(f"no signal holds input {v}")
+        return Signal(2**32 - 2 * (v + 1))
+
+    @staticmethod
+    def from_var(v: int) -> "Signal":
+        """Gate v, counted from 0."""
+        if not 0 <= v < 2**30 - 1:
+            raise ValueError(f"no signal holds gate {v}")
+        return Signal(2 * (v + 1))
+
+    def is_constant(self) -> bool:
+        return self.cell < 2
+
+    def is_input(self) -> bool:
+        return self.cell >= 0x80000000
+
+    def is_var(self) -> bool:
+        return not self.is_constant() and not self.is_input()
+
+    def is_inverted(self) -> bool:
+        """Whether it is inverted; constant one is zero inverted."""
+        return self.cell % 2 == 1
+
+    def number(self) -> int:
+        """The number of the input or gate, or the constant's value."""
+        if self.is_constant():
+            return self.cell
+        return (0xFFFFFFFF - self.cell) // 2 if self.is_input() else self.cell // 2 - 1
+
+    def __invert__(self) -> "Signal":
+        return Signal(self.cell ^ 1)
+
+    def __str__(self) -> str:
+        if self.is_constant():
+            return str(self.cell)
+        return f"{'!' if self.is_inverted() else ''}{'i' if self.is_input() else 'x'}{self.number()}"
+
+
+ZERO = Signal(0)
+ONE = Signal(1)
+
+
+class Gate(NamedTuple):
+    """A gate: one of FORMS, and the signals of its inputs. Those of a Dff are data, enable and reset."""
+
+    form: str
+    pins: Tuple[Signal, ...]
+
+    def __str__(self) -> str:
+        return f"{self.form.split()[-1]}({', '.join(map(str, self.pins))})"
+
+
+class Network(NamedTuple):
+    """How many inputs there are, the gates in order and the outputs' signals."""
+
+    inputs: int
+    gates: List[Gate]
+    outputs: List[Signal]
+
+
+class NetworkAnswer(ctypes.Structure):
+    """The struct that vumneath_read_blif answers."""
+
+    _fields_ = [(name, ctypes.c_uint32) for name in ("refused", "inputs", "gates", "pins", "outputs")]
+
+
+class TextAnswer(ctypes.Structure):
+    """The struct that vumneath_write_blif answers."""
+
+    _fields_ = [(name, ctypes.c_uint32) for name in ("refused", "length")]
+
+
+def _load() -> ctypes.CDLL:
+    here = os.path.dirname(os.path.realpath(__file__))
+    named = os.environ.get("VUMNEATH_LIB")
+    near = [os.path.join(here, "../../../lib"), os.path.join(here, "../../target/bindings/installed/lib")]
+    paths = [named] if named else [os.path.normpath(os.path.join(folder, "libvumneath.so")) for folder in near]
+    for path in paths:
+        if os.path.isfile(path):
+            return ctypes.CDLL(path)
+    raise ImportError(f"no shared library at {' or '.join(paths)}: ./install PREFIX makes PREFIX/lib/libvumneath.so; set VUMNEATH_LIB to it")
+
+
+_library = _load()
+_cells, _bytes, _size, _number = ctypes.POINTER(ctypes.c_uint32), ctypes.POINTER(ctypes.c_uint8), ctypes.c_size_t, ctypes.c_uint32
+_library.vumneath_read_blif.argtypes = [_bytes, _size] + [_cells, _size] * 5
+_library.vumneath_read_blif.restype = NetworkAnswer
+_library.vumneath_write_blif.argtypes = [_number] * 4 + [_cells, _size] * 3 + [_bytes, _size]
+_library.vumneath_write_blif.restype = TextAnswer
+
+
+def read_cells(text, gates, pins, outputs, work_gates, work_pins) -> NetworkAnswer:
+    """vumneath_read_blif over ctypes arrays: the text of c_uint8, the five others of c_uint32. The C header tells how a network
+    lies in cells."""
+    lent = (text, gates, pins, outputs, work_gates, work_pins)
+    return _library.vumneath_read_blif(*(part for array in lent for part in (array, len(array))))
+
+
+def write_cells(counts, gates, pins, outputs, out) -> TextAnswer:
+    """vumneath_write_blif over four counts (inputs, gates, pins, outputs) and ctypes arrays. A count that 32 bits do not hold becomes
+    the largest that they do, which is refused as well."""
+    fitting = (n if 0 <= n < 2**32 else 2**32 - 1 for n in counts)
+    return _library.vumneath_write_blif(*fitting, *(part for array in (gates, pins, outputs, out) for part in (array, len(array))))
+
+
+def read(text: bytes) -> Network:
+    """Reads a BLIF text. Flip-flops come first, then every other gate behind those that it takes its inputs from."""
+    lent = [(ctypes.c_uint32 * n)() for n in (MAX_GATES * GATE_CELLS, MAX_PINS, MAX_OUTPUTS, MAX_GATES * GATE_CELLS, MAX_PINS)]
+    answer = read_cells((ctypes.c_uint8 * len(text)).from_buffer_copy(text), *lent)
+    if answer.refused:
+        raise Refusal(answer.refused)
+    records = [lent[0][g * GATE_CELLS : (g + 1) * GATE_CELLS] for g in range(answer.gates)]
+    gates = [Gate(FORMS[form - 1], tuple(map(Signal, lent[1][first : first + n]))) for form, first, n in records]
+    return Network(answer.inputs, gates, [Signal(cell) for cell in lent[2][: answer.outputs]])
+
+
+def _lend(signals) -> List[int]:
+    """The cells of signals."""
+    cells = [signal.cell for signal in signals]
+    if not all(0 <= cell < 2**32 for cell in cells):
+        raise ValueError("a signal's cell is a number of 32 bits")
+    return cells
+
+
+def write(network: Network) -> bytes:
+    """Writes a network, read or made by the caller, as a BLIF text. What is no network is refused with 20; a form that is none of FORMS
+    and a signal that is no 32-bit number are a ValueError."""
+    records, pins = [], []
+    for gate in network.gates:
+        records += [FORMS.index(gate.form) + 1, len(pins), len(gate.pins)]
+        pins += _lend(gate.pins)
+    lent = [(ctypes.c_uint32 * len(part))(*part) for part in (records, pins, _lend(network.outputs))]
+    out = (ctypes.c_uint8 * MAX_TEXT)()
+    answer = write_cells((network.inputs, len(network.gates), len(pins), len(network.outputs)), *lent, out)
+    if answer.refused:
+        raise Refusal(answer.refused)
+    return bytes(out[: answer.length])

@@ -1,0 +1,37 @@
+//! BLIF netlists, read and written, proved.
+//!
+//! BLIF is the Berkeley Logic Interchange Format, a text that describes logic gates and flip-flops. [`Network::read`] turns such
+//! a text into a sorted network and [`Network::write`] turns a network into such a text. Both call a static library that is
+//! proved to answer every text and every network, sound or damaged, with a result or a numbered [`Refusal`].
+//!
+//! ```
+//! use vumneath::{Gate, NaryType, Network, Signal};
+//!
+//! let text = b".model m\n.inputs a b\n.outputs y\n.names a b y\n10 1\n.end\n";
+//! let network = Network::read(text)?;
+//! assert_eq!(network.inputs(), 2);
+//! let (a, b) = (Signal::from_input(0), Signal::from_input(1));
+//! assert_eq!(network.gates(), [Gate::Nary(vec![a, !b], NaryType::And)]);
+//! assert_eq!(network.outputs(), [Signal::from_var(0)]);
+//! assert!(network.write()?.ends_with(b".names i0 i1_n x0\n11 1\n.names i1 i1_n\n0 1\n.names vdd\n1\n.names gnd\n"));
+//!
+//! let refusal = Network::read(b".outputs y\n").unwrap_err();
+//! assert_eq!(refusal.number(), 11);
+//! assert_eq!(refusal.to_string(), "an output, a latch's input or a cover's input is not defined");
+//! # Ok::<(), vumneath::Refusal>(())
+//! ```
+//!
+//! [`cells`] has the two functions over slices that the caller lends, for programs that want no heap.
+#![deny(unsafe_code)]
+#![warn(missing_docs)]
+
+pub mod cells;
+mod gate;
+mod network;
+mod refusal;
+mod signal;
+
+pub use gate::{BinaryType, Gate, NaryType, TernaryType};
+pub use network::Network;
+pub use refusal::Refusal;
+pub use signal::Signal;

@@ -1,0 +1,70 @@
+//! The stored texts and networks with their answers.
+mod common;
+
+use common::{read_notation, stored, write, List, ENOUGH, ONE_MORE};
+use vumneath::cells::Counts;
+use vumneath::Network;
+
+#[test]
+fn stored_texts() {
+    let mut list = List::new(stored("read_replay/stdin"));
+    let count = list.word();
+    let mut said = String::new();
+    for i in 0..count {
+        let length = list.word();
+        let text = list.bytes(length as usize);
+        let answer = read_notation(&text, if i % 2 == 0 { ENOUGH } else { ONE_MORE });
+        let number = Network::read(&text).map_or_else(|refusal| refusal.number(), |_| 0);
+        assert_eq!(answer.strip_prefix("refused=").unwrap_or("0\n"), format!("{number}\n"), "text {i}");
+        said += &format!("text {i}\n{answer}");
+    }
+    assert!(list.ended());
+    said += "short\n";
+    for kind in 0..5 {
+        let mut sizes = ENOUGH;
+        sizes[kind] -= 1;
+        said += &read_notation(b"", sizes);
+    }
+    said += &read_notation(&[0; 32769], [0; 5]);
+    let wanted = String::from_utf8(stored("read_replay/stdout")).unwrap();
+    assert_eq!(said.lines().count(), wanted.lines().count());
+    for (place, (line, stored)) in said.lines().zip(wanted.lines()).enumerate() {
+        assert_eq!(line, stored, "line {place}");
+    }
+}
+
+/// The stored answer of network i, cut off the front of the rest.
+fn next_answer<'a>(rest: &mut &'a [u8], i: u32) -> &'a [u8] {
+    let next = format!("\nnetwork {}\n", i + 1);
+    let end = rest.windows(next.len()).position(|part| part == next.as_bytes()).map_or(rest.len(), |at| at + 1);
+    let (answer, behind) = rest.split_at(end);
+    *rest = behind;
+    answer
+}
+
+#[test]
+fn stored_networks() {
+    let mut list = List::new(stored("write_replay/stdin"));
+    let answers = stored("write_replay/stdout");
+    let mut rest = &answers[..];
+    let count = list.word();
+    let mut left_out = 0;
+    for i in 0..count {
+        let words = list.words(12);
+        let [gates, pins, outputs] = [9, 10, 11].map(|kind| list.words(words[kind]));
+        let wanted = next_answer(&mut rest, i);
+        if [0, 2, 4, 6].iter().any(|&upper| words[upper] != 0) {
+            left_out += 1; // a count over 32 bits cannot be passed
+            continue;
+        }
+        let counts = Counts { inputs: words[1], gates: words[3], pins: words[5], outputs: words[7] };
+        let (answer, text) = write(counts, [&gates, &pins, &outputs], words[8] as usize);
+        let head = match answer.refused {
+            0 => format!("network {i}\nlength={}\n", answer.length),
+            number => format!("network {i}\nrefused={number}\n"),
+        };
+        assert_eq!([head.as_bytes(), &text].concat(), wanted, "network {i}");
+    }
+    assert!(list.ended() && rest.is_empty());
+    assert!(left_out * 10 < count, "{left_out} of {count} left out");
+}
