@@ -157,7 +157,7 @@ fn of(n: &Network) -> Plain {
 }
 
 // Plain flip-flops, since Quaigh writes others in a notation of its own.
-fn plain_flops(mut p: Plain) -> Plain {
+pub fn plain_flops(mut p: Plain) -> Plain {
     for (form, ps) in &mut p.gates {
         if *form == 14 {
             ps[1] = Signal::one();

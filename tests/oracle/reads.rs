@@ -1,10 +1,12 @@
 // Texts, and what reading must answer for each: Quaigh's `read_blif`, with document 01's numbers and sizes and its And where cover
 // lines with output 0 are joined.
 use crate::cells;
+use crate::compare::{number, Case};
 use crate::generate::{Numbers, Plain};
 use crate::io::statements::{too_large, with_ones};
 use crate::models::{answer, Answer};
 use crate::points;
+use crate::smaller_texts;
 use crate::tricky;
 use std::collections::BTreeMap;
 use std::panic::catch_unwind;
@@ -78,47 +80,73 @@ fn shown(w: &Wanted) -> String {
 // What the program prints after the texts: each slice one cell short, then no cells and a text that is too long.
 const SHORT: &str = "short\nrefused=1\nrefused=1\nrefused=1\nrefused=1\nrefused=1\nrefused=1\n";
 
-// The texts by hand, every short sequence of fragments, and so many from a seed.
-pub fn texts(seed: u64, count: usize, depth: usize) -> Vec<Vec<u8>> {
-    let mut all = Vec::new();
-    for (k, t) in points::by_hand() {
+// The texts by hand, whose answers must be those on paper.
+pub fn by_hand() -> Vec<Vec<u8>> {
+    let checked = |(k, t): (u32, Vec<u8>)| {
         let w = kind(&wanted(&t));
         assert!(w == k, "{:?}: {w}, and by hand {k}", String::from_utf8_lossy(&t[..t.len().min(200)]));
-        all.push(t);
-    }
-    all.extend(points::sequences(depth));
+        t
+    };
+    points::by_hand().into_iter().map(checked).collect()
+}
+
+// The texts by hand, every short sequence of fragments, and so many from a seed: the kinds that the stored list has.
+fn texts(seed: u64, count: usize) -> Vec<Vec<u8>> {
     let mut r = Numbers(seed);
-    all.extend((0..count).map(|k| tricky::text(&mut r, k)));
-    all
+    let seeded = (0..count).map(|k| tricky::text(&mut r, k));
+    by_hand().into_iter().chain(points::sequences(3)).chain(seeded).collect()
 }
 
-pub fn given(texts: &[Vec<u8>]) -> Vec<u8> {
-    let mut g = format!("{:08x}\n", texts.len()).into_bytes();
-    for t in texts {
-        assert!(t.len() <= MAX_TEXT + 1, "a text that the program has no room for");
-        g.extend(format!("{:08x}\n", t.len()).into_bytes());
-        g.extend(t);
+#[derive(Clone)]
+pub struct Text(pub Vec<u8>);
+
+impl Case for Text {
+    const WORD: &'static str = "text";
+    const BEHIND: &'static str = SHORT;
+    const ANSWERED: &'static str = "read";
+    const NOTES: &'static [&'static str] = &[];
+
+    fn bytes(&self) -> usize {
+        self.0.len() + 9
     }
-    g
+
+    fn given(&self) -> Vec<u8> {
+        assert!(self.0.len() <= MAX_TEXT + 1, "a text that the program has no room for");
+        [format!("{:08x}\n", self.0.len()).as_bytes(), &self.0].concat()
+    }
+
+    fn wanted(&self) -> Vec<u8> {
+        shown(&wanted(&self.0)).into_bytes()
+    }
+
+    fn notes(&self, _: &[u8]) -> Vec<bool> {
+        Vec::new()
+    }
+
+    fn smaller(&self) -> Box<dyn Iterator<Item = Text> + '_> {
+        Box::new(smaller_texts::smaller(&self.0).map(Text))
+    }
+
+    fn shown(&self) -> String {
+        format!("\"{}\"", self.0.escape_ascii())
+    }
 }
 
-// The answers, each behind the number of its text, and how often each occurs.
-pub fn answers(texts: &[Vec<u8>]) -> (String, BTreeMap<u32, usize>) {
-    let mut s = String::new();
+// The stored list: the texts, and the answers, each behind the number of its text. Prints how often each answer occurs; each must.
+pub fn lists(seed: u64, count: usize) -> (Vec<u8>, Vec<u8>) {
+    let texts: Vec<Text> = texts(seed, count).into_iter().map(Text).collect();
+    let mut given = format!("{:08x}\n", texts.len()).into_bytes();
+    let mut wanted = Vec::new();
     let mut seen = BTreeMap::new();
     for (i, t) in texts.iter().enumerate() {
-        let w = wanted(t);
-        *seen.entry(kind(&w)).or_insert(0) += 1;
-        s += &format!("text {i}\n{}", shown(&w));
+        let w = t.wanted();
+        *seen.entry(number(&w)).or_insert(0) += 1;
+        given.extend(t.given());
+        wanted.extend(format!("text {i}\n").into_bytes());
+        wanted.extend(w);
     }
-    (s + SHORT, seen)
-}
-
-// Prints how often each answer occurs; each must.
-pub fn table(texts: &[Vec<u8>], seen: &BTreeMap<u32, usize>) {
-    eprintln!("{} texts", texts.len());
-    for (k, n) in seen {
-        eprintln!("{:>8} {n}", if *k == 0 { "read".to_string() } else { k.to_string() });
-    }
+    wanted.extend(SHORT.bytes());
+    eprintln!("{} texts; answers (0 for read): {seen:?}", texts.len());
     assert!((2..15).all(|k| seen.contains_key(&k)), "a refusal does not occur");
+    (given, wanted)
 }
