@@ -13,8 +13,7 @@ pub trait Case: Clone {
     const NOTES: &'static [&'static str]; // what is counted besides the answers
     fn bytes(&self) -> usize; // about how long what the program reads is
     fn given(&self) -> Vec<u8>; // what the program reads
-    fn wanted(&self) -> Vec<u8>; // what the program must print
-    fn notes(&self, wanted: &[u8]) -> Vec<bool>;
+    fn answer(&self) -> (Vec<u8>, Vec<bool>); // what the program must print, and which of the notes hold
     fn smaller(&self) -> Box<dyn Iterator<Item = Self> + '_>; // each below this one in an order without endless descent
     fn shown(&self) -> String;
 }
@@ -87,17 +86,23 @@ fn blocks<'a, C: Case>(printed: &'a [u8]) -> Vec<&'a [u8]> {
 }
 
 // The answers of a run: one for each case that has one, and what stands behind the last where all have one.
-fn answers<'a, C: Case>(printed: &'a [u8], cases: usize) -> (Vec<&'a [u8]>, Option<&'a [u8]>) {
+fn answers<'a, C: Case>(printed: &'a [u8], wanted: &[Vec<u8>]) -> (Vec<&'a [u8]>, Option<&'a [u8]>) {
     let mut all = blocks::<C>(printed);
-    if all.len() < cases || cases == 0 {
+    if all.len() < wanted.len() || wanted.is_empty() {
         return (all, None);
     }
     let last = all.pop().unwrap();
-    let line = C::BEHIND.split_inclusive('\n').next().unwrap_or("").as_bytes();
-    let starts_line = |k: usize| k == 0 || last[k - 1] == b'\n';
-    let cut = (0..last.len()).find(|k| !line.is_empty() && starts_line(*k) && last[*k..].starts_with(line)).unwrap_or(last.len());
+    let cut = if C::BEHIND.is_empty() { last.len() } else { end_of::<C>(last, wanted.last().unwrap()) };
     all.push(&last[..cut]);
     (all, Some(&last[cut..]))
+}
+
+// Where the last answer ends: before the first line of what stands behind it, else behind what is wanted.
+fn end_of<C: Case>(last: &[u8], wanted: &[u8]) -> usize {
+    let line = C::BEHIND.split_inclusive('\n').next().unwrap().as_bytes();
+    let starts_line = |k: usize| k == 0 || last[k - 1] == b'\n';
+    let found = (0..last.len()).find(|k| starts_line(*k) && last[*k..].starts_with(line));
+    found.unwrap_or(if last.starts_with(wanted) { wanted.len() } else { last.len() })
 }
 
 // An answer in a word, with the lines that tell of a cell or byte that was not left as it must be.
@@ -118,13 +123,31 @@ fn brief(answer: &[u8]) -> String {
 // The kind of a difference: the answer wanted and the one that came, each in a word.
 type Kind = (String, String);
 
+// The first word of the first line that two answers of one kind do not share.
+fn line_apart(wanted: &[u8], got: &[u8]) -> String {
+    let rows = |t: &'_ [u8]| t.split_inclusive(|b| *b == b'\n').map(|l| l.to_vec()).collect::<Vec<_>>();
+    let (w, g) = (rows(wanted), rows(got));
+    let apart = w.iter().zip(g.iter().map(Some).chain(std::iter::repeat(None))).find(|(w, g)| Some(*w) != *g);
+    let line = apart.map_or(String::new(), |(w, _)| String::from_utf8_lossy(w).into_owned());
+    match line.split_whitespace().next() {
+        Some(t) if t.starts_with(['0', '1', '-']) => "a line of a cover".to_string(),
+        Some(t) => format!("a line {}", t.split('=').next().unwrap()),
+        None => "the end".to_string(),
+    }
+}
+
 fn kind(wanted: &[u8], got: Option<&[u8]>) -> Kind {
-    (brief(wanted), got.map_or("no answer, the program ended".to_string(), brief))
+    let Some(got) = got else {
+        return (brief(wanted), "no answer, the program ended".to_string());
+    };
+    let (w, g) = (brief(wanted), brief(got));
+    if w == g { (w, format!("{g} otherwise from {} on", line_apart(wanted, got))) } else { (w, g) }
 }
 
 struct Finding<C> {
     case: C,
     count: usize,
+    got: Option<Vec<u8>>,
 }
 
 struct Report<C> {
@@ -150,27 +173,38 @@ impl<C: Case> Report<C> {
     fn add(&mut self, case: &C, wanted: &[u8], got: Option<&[u8]>) {
         self.compared += 1;
         *self.seen.entry(number(wanted)).or_insert(0) += 1;
-        for (n, yes) in self.notes.iter_mut().zip(case.notes(wanted)) {
-            *n += yes as usize;
-        }
         if got == Some(wanted) {
             return;
         }
-        let f = self.findings.entry(kind(wanted, got)).or_insert(Finding { case: case.clone(), count: 0 });
+        let new = || Finding { case: case.clone(), count: 0, got: got.map(|g| g.to_vec()) };
+        let f = self.findings.entry(kind(wanted, got)).or_insert_with(new);
         f.count += 1;
         if case.bytes() < f.case.bytes() {
-            f.case = case.clone();
+            *f = Finding { count: f.count, ..new() };
         }
+    }
+
+    // What the program must print for each case.
+    fn wanted(&mut self, cases: &[C]) -> Vec<Vec<u8>> {
+        let mut all = Vec::new();
+        for c in cases {
+            let (wanted, notes) = c.answer();
+            for (n, yes) in self.notes.iter_mut().zip(notes) {
+                *n += yes as usize;
+            }
+            all.push(wanted);
+        }
+        all
     }
 
     // Compares a batch; where the program ends early, the cases behind are given to it once more.
     fn batch(&mut self, program: &Program, cases: &[C]) {
         let mut at = 0;
         let child = program.start(cases);
-        let wanted: Vec<Vec<u8>> = cases.iter().map(|c| c.wanted()).collect();
+        let wanted = self.wanted(cases);
         let mut printed = program.finish(child);
         while at < cases.len() {
-            let (got, behind) = answers::<C>(&printed, cases.len() - at);
+            let (got, behind) = answers::<C>(&printed, &wanted[at..]);
             self.behind |= behind.is_some_and(|b| b != C::BEHIND.as_bytes());
             let n = got.len();
             for k in 0..n {
@@ -203,16 +237,18 @@ impl<C: Case> Report<C> {
     }
 }
 
-// The first of the cases that differs in this way. Each is given twice, since a program may lend a case of odd number a cell more.
-fn first_of<C: Case>(program: &Program, cases: &[C], way: &Kind) -> Option<usize> {
+// The first of the cases that differs in this way, with the answer that came. Each is given twice, since a program may lend a case of
+// odd number a cell more.
+fn first_of<C: Case>(program: &Program, cases: &[C], way: &Kind) -> Option<(usize, Option<Vec<u8>>)> {
     let twice: Vec<C> = cases.iter().flat_map(|c| [c.clone(), c.clone()]).collect();
-    let printed = program.finish(program.start(&twice));
-    let (got, _) = answers::<C>(&printed, twice.len());
-    for (k, c) in twice.iter().enumerate() {
-        let wanted = c.wanted();
+    let child = program.start(&twice);
+    let wanted: Vec<Vec<u8>> = twice.iter().map(|c| c.answer().0).collect();
+    let printed = program.finish(child);
+    let (got, _) = answers::<C>(&printed, &wanted);
+    for (k, w) in wanted.iter().enumerate() {
         let g = got.get(k).copied();
-        if g != Some(&wanted[..]) && kind(&wanted, g) == *way {
-            return Some(k / 2);
+        if g != Some(&w[..]) && kind(w, g) == *way {
+            return Some((k / 2, g.map(|g| g.to_vec())));
         }
         if g.is_none() {
             return None;
@@ -221,52 +257,54 @@ fn first_of<C: Case>(program: &Program, cases: &[C], way: &Kind) -> Option<usize
     None
 }
 
-// A case made smaller as long as it still differs in this way, and whether that came to its end.
-fn smallest<C: Case>(program: &Program, case: &C, way: &Kind) -> (C, bool) {
-    let end = Instant::now() + PATIENCE;
-    let mut best = case.clone();
-    'again: loop {
-        let mut found = None;
-        let mut candidates = best.smaller();
-        let mut n = 4;
-        loop {
-            let mut some: Vec<C> = Vec::new();
-            let mut bytes = 0;
-            while some.len() < n && bytes < BATCH_BYTES {
-                let Some(c) = candidates.next() else { break };
-                bytes += c.bytes();
-                some.push(c);
-            }
-            if some.is_empty() {
-                break;
-            }
-            if let Some(k) = first_of(program, &some, way) {
-                found = Some(some[k].clone());
-                break;
-            }
-            if Instant::now() > end {
-                drop(candidates);
-                return (best, false);
-            }
-            n = (2 * n).min(512);
-        }
-        drop(candidates);
-        match found {
-            Some(c) => best = c,
-            None => return (best, true),
-        }
-        continue 'again;
+// The next candidates, so many or as many as are enough bytes.
+fn some_of<C: Case>(candidates: &mut dyn Iterator<Item = C>, n: usize) -> Vec<C> {
+    let mut some: Vec<C> = Vec::new();
+    let mut bytes = 0;
+    while some.len() < n && bytes < BATCH_BYTES {
+        let Some(c) = candidates.next() else { break };
+        bytes += c.bytes();
+        some.push(c);
     }
+    some
+}
+
+// The first smaller case that still differs in this way; nothing where none does, or time is up.
+fn next_smaller<C: Case>(program: &Program, case: &C, way: &Kind, end: Instant) -> Option<(C, Option<Vec<u8>>)> {
+    let mut candidates = case.smaller();
+    let mut n = 4;
+    while Instant::now() < end {
+        let some = some_of(&mut *candidates, n);
+        if some.is_empty() {
+            return None;
+        }
+        if let Some((k, got)) = first_of(program, &some, way) {
+            return Some((some[k].clone(), got));
+        }
+        n = (2 * n).min(512);
+    }
+    None
+}
+
+// A finding's case made smaller as long as it still differs in this way, and how that went.
+fn smallest<C: Case>(program: &Program, way: &Kind, f: &Finding<C>) -> (C, Option<Vec<u8>>, &'static str) {
+    let Some((_, got)) = first_of(program, &[f.case.clone()], way) else {
+        return (f.case.clone(), f.got.clone(), "which alone does not differ");
+    };
+    let end = Instant::now() + PATIENCE;
+    let mut best = (f.case.clone(), got);
+    while let Some(next) = next_smaller(program, &best.0, way, end) {
+        best = next;
+    }
+    (best.0, best.1, if Instant::now() < end { "made as small as it goes" } else { "made smaller until time was up" })
 }
 
 fn print_finding<C: Case>(program: &Program, name: &str, way: &Kind, f: &Finding<C>) {
     println!("{name}: wanted {}, got {}: {} differ in this way", way.0, way.1, f.count);
-    let again = first_of(program, &[f.case.clone()], way).is_some();
-    let (case, done) = if again { smallest(program, &f.case, way) } else { (f.case.clone(), false) };
-    let how = if done { "made as small as it goes" } else if again { "made smaller" } else { "which alone does not differ" };
+    let (case, got, how) = smallest(program, way, f);
     println!("{}, {how}:\n{}", C::WORD, case.shown());
-    let printed = program.finish(program.start(&[case.clone()]));
-    println!("wanted\n{}got\n{}", String::from_utf8_lossy(&case.wanted()), String::from_utf8_lossy(&printed));
+    let got = got.map_or("nothing\n".to_string(), |g| String::from_utf8_lossy(&g).into_owned());
+    println!("wanted\n{}got\n{got}", String::from_utf8_lossy(&case.answer().0));
 }
 
 // Compares all cases, prints how often each answer occurs and what differs; answers how many were compared and how many differ.

@@ -4,7 +4,7 @@ use crate::cells;
 use crate::compare::{number, Case};
 use crate::generate::{Numbers, Plain};
 use crate::io::statements::{too_large, with_ones};
-use crate::models::{answer, Answer};
+use crate::models::{built, Answer};
 use crate::points;
 use crate::smaller_texts;
 use crate::tricky;
@@ -13,49 +13,59 @@ use std::panic::catch_unwind;
 
 const MAX_TEXT: usize = 32768;
 
-pub enum Wanted {
+enum Wanted {
     Read(Plain),
     Refused(u32),
 }
 
+// Where an answer comes from.
+#[derive(Clone, Copy, PartialEq)]
+enum Source {
+    Same,       // Quaigh's network
+    Joined,     // Quaigh's network with And in the place of Nand
+    Error,      // Quaigh's message
+    Panic,      // Quaigh's panic
+    Limit,      // a size or a byte that Quaigh takes
+}
+
 // A network as read, with And in place of the Nand that joins a cover's lines: those gates are an Or when the outputs are 1.
-fn joined_by_and(text: &[u8], mut p: Plain) -> Plain {
+fn joined_by_and(text: &[u8], mut p: Plain) -> (Plain, bool) {
     let ones = Plain::of(&with_ones(text));
     assert!(p.outputs == ones.outputs && p.gates.len() == ones.gates.len(), "a gate moved");
+    let mut any = false;
     for (gate, other) in p.gates.iter_mut().zip(&ones.gates) {
         let bare = |g: &(u32, Vec<crate::Signal>)| g.1.iter().filter(|s| s.is_var()).map(|s| s.var()).collect::<Vec<_>>();
         assert!(bare(gate) == bare(other), "a gate moved");
         if gate.0 == 9 && other.0 == 8 {
             gate.0 = 7;
+            any = true;
         }
     }
-    p
+    (p, any)
 }
 
-pub fn wanted(text: &[u8]) -> Wanted {
+fn wanted(text: &[u8]) -> (Wanted, Source) {
+    let limit = |k: u32| (Wanted::Refused(k), Source::Limit);
     if text.len() > MAX_TEXT {
-        return Wanted::Refused(2);
+        return limit(2);
     }
     if text.iter().any(|b| *b >= 128) {
-        return Wanted::Refused(3);
+        return limit(3);
     }
     match catch_unwind(|| too_large(text)) {
-        Err(_) => return Wanted::Refused(4),
-        Ok(None) => return Wanted::Refused(5),
-        Ok(Some(true)) => return Wanted::Refused(6),
+        Err(_) => return (Wanted::Refused(4), Source::Panic),
+        Ok(None) => return (Wanted::Refused(5), Source::Error),
+        Ok(Some(true)) => return limit(6),
         Ok(Some(false)) => (),
     }
-    match answer(text) {
-        Answer::Refused(k) => Wanted::Refused(k),
-        Answer::Read(n) => Wanted::Read(joined_by_and(text, Plain::of(&n))),
-    }
-}
-
-// The refusal's number, 0 where the text is read.
-pub fn kind(w: &Wanted) -> u32 {
-    match w {
-        Wanted::Read(_) => 0,
-        Wanted::Refused(k) => *k,
+    match built(text) {
+        (Answer::Refused(k), panicked) => (Wanted::Refused(k), if panicked { Source::Panic } else { Source::Error }),
+        (Answer::Read(n), _) => {
+            let p = Plain::of(&n);
+            let nand = p.gates.iter().any(|(form, _)| *form == 9);
+            let (p, any) = if nand { joined_by_and(text, p) } else { (p, false) };
+            (Wanted::Read(p), if any { Source::Joined } else { Source::Same })
+        }
     }
 }
 
@@ -83,7 +93,7 @@ const SHORT: &str = "short\nrefused=1\nrefused=1\nrefused=1\nrefused=1\nrefused=
 // The texts by hand, whose answers must be those on paper.
 pub fn by_hand() -> Vec<Vec<u8>> {
     let checked = |(k, t): (u32, Vec<u8>)| {
-        let w = kind(&wanted(&t));
+        let w = number(&Text(t.clone()).answer().0);
         assert!(w == k, "{:?}: {w}, and by hand {k}", String::from_utf8_lossy(&t[..t.len().min(200)]));
         t
     };
@@ -104,7 +114,13 @@ impl Case for Text {
     const WORD: &'static str = "text";
     const BEHIND: &'static str = SHORT;
     const ANSWERED: &'static str = "read";
-    const NOTES: &'static [&'static str] = &[];
+    const NOTES: &'static [&'static str] = &[
+        "read, as Quaigh's network",
+        "read, as Quaigh's network with And in the place of Nand where lines with output 0 are joined",
+        "refused where Quaigh gives a message",
+        "refused where Quaigh panics",
+        "refused for a size or a byte that Quaigh takes",
+    ];
 
     fn bytes(&self) -> usize {
         self.0.len() + 9
@@ -115,12 +131,10 @@ impl Case for Text {
         [format!("{:08x}\n", self.0.len()).as_bytes(), &self.0].concat()
     }
 
-    fn wanted(&self) -> Vec<u8> {
-        shown(&wanted(&self.0)).into_bytes()
-    }
-
-    fn notes(&self, _: &[u8]) -> Vec<bool> {
-        Vec::new()
+    fn answer(&self) -> (Vec<u8>, Vec<bool>) {
+        let (w, source) = wanted(&self.0);
+        let sources = [Source::Same, Source::Joined, Source::Error, Source::Panic, Source::Limit];
+        (shown(&w).into_bytes(), sources.map(|s| s == source).to_vec())
     }
 
     fn smaller(&self) -> Box<dyn Iterator<Item = Text> + '_> {
@@ -139,7 +153,7 @@ pub fn lists(seed: u64, count: usize) -> (Vec<u8>, Vec<u8>) {
     let mut wanted = Vec::new();
     let mut seen = BTreeMap::new();
     for (i, t) in texts.iter().enumerate() {
-        let w = t.wanted();
+        let w = t.answer().0;
         *seen.entry(number(&w)).or_insert(0) += 1;
         given.extend(t.given());
         wanted.extend(format!("text {i}\n").into_bytes());

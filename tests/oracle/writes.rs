@@ -109,18 +109,15 @@ impl Case for Lent {
         given(self).into_bytes()
     }
 
-    fn wanted(&self) -> Vec<u8> {
-        shown(&wanted(self)).into_bytes()
-    }
-
-    fn notes(&self, wanted: &[u8]) -> Vec<bool> {
-        if number(wanted) != 0 {
-            return vec![false; 4];
-        }
+    fn answer(&self) -> (Vec<u8>, Vec<bool>) {
+        let w = wanted(self);
+        let Wanted::Written(t) = &w else {
+            return (shown(&w).into_bytes(), vec![false; 4]);
+        };
         let p = decoded(self).unwrap();
-        let flop = wanted.windows(7).any(|w| w == b"\n.flop ");
-        let text = wanted.splitn(2, |b| *b == b'\n').last().unwrap();
-        vec![flop, flop && quaigh(&p).as_bytes() != text, unsorted(&p), order(&p, variants::Mistake::Nothing).is_none()]
+        let flop = t.contains("\n.flop ");
+        let notes = vec![flop, flop && quaigh(&p) != *t, unsorted(&p), order(&p, variants::Mistake::Nothing).is_none()];
+        (shown(&w).into_bytes(), notes)
     }
 
     fn smaller(&self) -> Box<dyn Iterator<Item = Lent> + '_> {
@@ -141,9 +138,9 @@ pub fn lists(seed: u64, count: usize) -> (Vec<u8>, Vec<u8>) {
     let mut seen: BTreeMap<u32, usize> = BTreeMap::new();
     let mut notes = [0; 4];
     for (n, l) in networks.iter().enumerate() {
-        let w = l.wanted();
+        let (w, held) = l.answer();
         *seen.entry(number(&w)).or_insert(0) += 1;
-        for (n, yes) in notes.iter_mut().zip(l.notes(&w)) {
+        for (n, yes) in notes.iter_mut().zip(held) {
             *n += yes as usize;
         }
         given.extend(Case::given(l));
