@@ -238,20 +238,20 @@ impl<C: Case> Report<C> {
 }
 
 // The first of the cases that differs in this way, with the answer that came. Each is given twice, since a program may lend a case of
-// odd number a cell more.
+// odd number a cell more. Where the program ends early at one that differs in another way, it gets those behind once more.
 fn first_of<C: Case>(program: &Program, cases: &[C], way: &Kind) -> Option<(usize, Option<Vec<u8>>)> {
     let twice: Vec<C> = cases.iter().flat_map(|c| [c.clone(), c.clone()]).collect();
-    let child = program.start(&twice);
     let wanted: Vec<Vec<u8>> = twice.iter().map(|c| c.answer().0).collect();
-    let printed = program.finish(child);
-    let (got, _) = answers::<C>(&printed, &wanted);
-    for (k, w) in wanted.iter().enumerate() {
-        let g = got.get(k).copied();
-        if g != Some(&w[..]) && kind(w, g) == *way {
-            return Some((k / 2, g.map(|g| g.to_vec())));
-        }
-        if g.is_none() {
-            return None;
+    let mut at = 0;
+    while at < twice.len() {
+        let printed = program.finish(program.start(&twice[at..]));
+        let (got, _) = answers::<C>(&printed, &wanted[at..]);
+        let got = got.into_iter().map(Some).chain([None]);
+        for (w, g) in wanted[at..].iter().zip(got) {
+            if g != Some(&w[..]) && kind(w, g) == *way {
+                return Some((at / 2, g.map(|g| g.to_vec())));
+            }
+            at += 1;
         }
     }
     None
