@@ -9,6 +9,7 @@ use std::time::{Duration, Instant};
 pub trait Case: Clone {
     const WORD: &'static str; // what stands before a case's number in what the program prints
     const BEHIND: &'static str; // what the program prints behind the last case
+    const TWICE: bool; // whether an answer may depend on whether the case's number is odd
     const ANSWERED: &'static str; // what an answer that is no refusal is called
     const NOTES: &'static [&'static str]; // what is counted besides the answers
     fn bytes(&self) -> usize; // about how long what the program reads is
@@ -21,8 +22,8 @@ pub trait Case: Clone {
 const BATCH_BYTES: usize = 2 << 20;
 const BATCH_CASES: usize = 4096;
 const STUCK: Duration = Duration::from_secs(60); // a run of a batch takes less than a second
-const PATIENCE: Duration = Duration::from_secs(90); // to make one case smaller
-const MOST_FINDINGS: usize = 8; // that are made smaller
+const PATIENCE: Duration = Duration::from_secs(60); // to make one case smaller
+const MOST_FINDINGS: usize = 6; // that are made smaller
 const MOST_ENDS: usize = 200; // after a program ended early so often, the comparison stops
 
 struct Program {
@@ -237,10 +238,11 @@ impl<C: Case> Report<C> {
     }
 }
 
-// The first of the cases that differs in this way, with the answer that came. Each is given twice, since a program may lend a case of
-// odd number a cell more. Where the program ends early at one that differs in another way, it gets those behind once more.
+// The first of the cases that differs in this way, with the answer that came. Where the program ends early at one that differs in
+// another way, it gets those behind once more.
 fn first_of<C: Case>(program: &Program, cases: &[C], way: &Kind) -> Option<(usize, Option<Vec<u8>>)> {
-    let twice: Vec<C> = cases.iter().flat_map(|c| [c.clone(), c.clone()]).collect();
+    let times = 1 + C::TWICE as usize;
+    let twice: Vec<C> = cases.iter().flat_map(|c| vec![c.clone(); times]).collect();
     let wanted: Vec<Vec<u8>> = twice.iter().map(|c| c.answer().0).collect();
     let mut at = 0;
     while at < twice.len() {
@@ -249,7 +251,7 @@ fn first_of<C: Case>(program: &Program, cases: &[C], way: &Kind) -> Option<(usiz
         let got = got.into_iter().map(Some).chain([None]);
         for (w, g) in wanted[at..].iter().zip(got) {
             if g != Some(&w[..]) && kind(w, g) == *way {
-                return Some((at / 2, g.map(|g| g.to_vec())));
+                return Some((at / times, g.map(|g| g.to_vec())));
             }
             at += 1;
         }
@@ -269,42 +271,60 @@ fn some_of<C: Case>(candidates: &mut dyn Iterator<Item = C>, n: usize) -> Vec<C>
     some
 }
 
-// The first smaller case that still differs in this way; nothing where none does, or time is up.
-fn next_smaller<C: Case>(program: &Program, case: &C, way: &Kind, end: Instant) -> Option<(C, Option<Vec<u8>>)> {
-    let mut candidates = case.smaller();
-    let mut n = 4;
+// The first of the candidates that still differs in this way, with its place and the answer that came; nothing where none does, or
+// time is up.
+fn first_candidate<C: Case>(
+    program: &Program,
+    candidates: &mut dyn Iterator<Item = C>,
+    way: &Kind,
+    end: Instant,
+) -> Option<(usize, C, Option<Vec<u8>>)> {
+    let (mut at, mut n) = (0, 4);
     while Instant::now() < end {
-        let some = some_of(&mut *candidates, n);
+        let some = some_of(candidates, n);
         if some.is_empty() {
             return None;
         }
         if let Some((k, got)) = first_of(program, &some, way) {
-            return Some((some[k].clone(), got));
+            return Some((at + k, some[k].clone(), got));
         }
+        at += some.len();
         n = (2 * n).min(512);
     }
     None
 }
 
-// A finding's case made smaller as long as it still differs in this way, and how that went.
+// A finding's case made smaller as long as it still differs in this way, and how that went. After a step the search goes on where it
+// was, and comes to its end when no candidate is left from there and from the start.
 fn smallest<C: Case>(program: &Program, way: &Kind, f: &Finding<C>) -> (C, Option<Vec<u8>>, &'static str) {
     let Some((_, got)) = first_of(program, &[f.case.clone()], way) else {
         return (f.case.clone(), f.got.clone(), "which alone does not differ");
     };
     let end = Instant::now() + PATIENCE;
-    let mut best = (f.case.clone(), got);
-    while let Some(next) = next_smaller(program, &best.0, way, end) {
-        best = next;
+    let (mut best, mut answer, mut from) = (f.case.clone(), got, 0);
+    loop {
+        let behind = first_candidate(program, &mut best.smaller().skip(from), way, end).map(|(k, c, g)| (from + k, c, g));
+        let next = behind.or_else(|| first_candidate(program, &mut best.smaller().take(from), way, end));
+        match next {
+            Some((k, c, g)) => (from, best, answer) = (k, c, g),
+            None => break,
+        }
     }
-    (best.0, best.1, if Instant::now() < end { "made as small as it goes" } else { "made smaller until time was up" })
+    (best, answer, if Instant::now() < end { "made as small as it goes" } else { "made smaller until time was up" })
+}
+
+// The front of a long answer.
+fn front(s: &str) -> String {
+    let most = s.char_indices().map(|(k, _)| k).nth(4000);
+    most.map_or(s.to_string(), |k| format!("{}... ({} bytes)\n", &s[..k], s.len()))
 }
 
 fn print_finding<C: Case>(program: &Program, name: &str, way: &Kind, f: &Finding<C>) {
     println!("{name}: wanted {}, got {}: {} differ in this way", way.0, way.1, f.count);
     let (case, got, how) = smallest(program, way, f);
-    println!("{}, {how}:\n{}", C::WORD, case.shown());
-    let got = got.map_or("nothing\n".to_string(), |g| String::from_utf8_lossy(&g).into_owned());
-    println!("wanted\n{}got\n{got}", String::from_utf8_lossy(&case.answer().0));
+    println!("{}, {how}:\n{}", C::WORD, front(&case.shown()));
+    let got = got.map_or("nothing\n".to_string(), |g| front(&String::from_utf8_lossy(&g)));
+    println!("wanted\n{}got\n{got}", front(&String::from_utf8_lossy(&case.answer().0)));
 }
 
 // Compares all cases, prints how often each answer occurs and what differs; answers how many were compared and how many differ.

@@ -113,6 +113,7 @@ pub struct Text(pub Vec<u8>);
 impl Case for Text {
     const WORD: &'static str = "text";
     const BEHIND: &'static str = SHORT;
+    const TWICE: bool = true; // a text of odd number is lent a cell more of each kind
     const ANSWERED: &'static str = "read";
     const NOTES: &'static [&'static str] = &[
         "read, as Quaigh's network",

@@ -93,6 +93,7 @@ fn unsorted(p: &Plain) -> bool {
 impl Case for Lent {
     const WORD: &'static str = "network";
     const BEHIND: &'static str = "";
+    const TWICE: bool = false;
     const ANSWERED: &'static str = "written";
     const NOTES: &'static [&'static str] = &[
         "written with a .flop line",
