@@ -87,7 +87,7 @@ fn with_plainer_gates(p: &Plain) -> impl Iterator<Item = Plain> + '_ {
 fn plainer(p: &Plain) -> impl Iterator<Item = Plain> + '_ {
     let outputs = move |(a, e): (usize, usize)| Plain { outputs: [&p.outputs[..a], &p.outputs[e..]].concat(), ..p.clone() };
     let gates = runs(p.gates.len()).map(move |(a, e)| without_gates(p, a, e));
-    gates.chain(runs(p.outputs.len()).map(outputs)).chain(with_fewer_inputs(p)).chain(with_plainer_gates(p))
+    with_fewer_inputs(p).chain(runs(p.outputs.len()).map(outputs)).chain(gates).chain(with_plainer_gates(p))
 }
 
 // The length of the text, none where it is too wide to be written.
@@ -97,17 +97,16 @@ fn length(p: &Plain) -> usize {
 }
 
 // Each plainer network with the same output slice and, where that is not the longest, with one whose length moves as the text's does.
-fn as_networks(l: &Lent) -> Box<dyn Iterator<Item = Lent> + '_> {
-    let Some(p) = decoded(l) else {
-        return Box::new(std::iter::empty());
-    };
-    let all: Vec<Plain> = plainer(&p).take(4096).collect();
-    let before = length(&p);
-    let lents = all.into_iter().flat_map(move |q| {
-        let moved = if l.room < MOST[0] { (l.room + length(&q)).saturating_sub(before) } else { l.room };
-        [Lent { room: l.room, ..lent(&q) }, Lent { room: moved, ..lent(&q) }]
-    });
-    Box::new(lents)
+fn as_networks(l: &Lent, p: &Plain) -> Vec<Lent> {
+    let before = length(p);
+    let mut all = Vec::new();
+    for q in plainer(p).take(8192) {
+        all.push(Lent { room: l.room, ..lent(&q) });
+        if l.room < MOST[0] {
+            all.push(Lent { room: (l.room + length(&q)).saturating_sub(before), ..lent(&q) });
+        }
+    }
+    all
 }
 
 fn cells_of(l: &mut Lent, place: usize) -> &mut Vec<u32> {
@@ -157,11 +156,16 @@ fn with_plainer_cells(l: &Lent, place: usize) -> impl Iterator<Item = Lent> + '_
     (0..cells.len()).flat_map(move |k| others(cells[k]).map(|n| put(k, n)))
 }
 
+// Of a network only what leaves it one is of use: the answer for cells that are none is 20.
 pub fn smaller(l: &Lent) -> Box<dyn Iterator<Item = Lent> + '_> {
     let now = weight(l);
+    let lower = move |m: &Lent| weight(m) < now;
+    let signals = (2..4).flat_map(move |place| with_plainer_cells(l, place));
+    if let Some(p) = decoded(l) {
+        return Box::new(as_networks(l, &p).into_iter().chain(with_smaller_counts(l)).chain(signals).filter(lower));
+    }
     let cells = (1..4).flat_map(move |place| with_fewer_cells(l, place));
-    let numbers = (1..4).flat_map(move |place| with_plainer_cells(l, place));
-    Box::new(as_networks(l).chain(cells).chain(with_smaller_counts(l)).chain(numbers).filter(move |m| weight(m) < now))
+    Box::new(cells.chain(with_smaller_counts(l)).chain(with_plainer_cells(l, 1)).chain(signals).filter(lower))
 }
 
 fn numbers(cells: &[u32]) -> String {
