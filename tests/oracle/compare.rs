@@ -167,6 +167,10 @@ pub fn number(wanted: &[u8]) -> u32 {
 }
 
 impl<C: Case> Report<C> {
+    fn new() -> Report<C> {
+        Report { compared: 0, seen: BTreeMap::new(), notes: vec![0; C::NOTES.len()], findings: BTreeMap::new(), behind: false, ends: 0 }
+    }
+
     fn differ(&self) -> usize {
         self.findings.values().map(|f| f.count).sum::<usize>() + self.behind as usize
     }
@@ -330,7 +334,7 @@ fn print_finding<C: Case>(program: &Program, name: &str, way: &Kind, f: &Finding
 // Compares all cases, prints how often each answer occurs and what differs; answers how many were compared and how many differ.
 pub fn compare<C: Case>(path: &str, name: &str, mut cases: impl Iterator<Item = C>) -> (usize, usize) {
     let program = Program::new(path);
-    let mut report = Report { compared: 0, seen: BTreeMap::new(), notes: vec![0; C::NOTES.len()], findings: BTreeMap::new(), behind: false, ends: 0 };
+    let mut report = Report::new();
     let (mut batch, mut bytes) = (Vec::new(), 0);
     loop {
         let next = cases.next();

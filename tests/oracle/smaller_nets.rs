@@ -47,9 +47,16 @@ fn with_signals(p: &Plain, inputs: usize, f: impl Fn(Signal) -> Signal) -> Plain
     }
 }
 
+// The network with fewer inputs: those left out become zero, or one of the others.
 fn with_fewer_inputs(p: &Plain) -> impl Iterator<Item = Plain> + '_ {
-    let cut = move |n: usize| with_signals(p, n, |s| if s.is_input() && s.input() as usize >= n { Signal::zero() ^ s.is_inverted() } else { s });
-    let folded = move |n: usize| with_signals(p, n, |s| if s.is_input() { Signal::from_input(s.input() % n as u32) ^ s.is_inverted() } else { s });
+    let cut = move |n: usize| {
+        let gone = |s: &Signal| s.is_input() && s.input() as usize >= n;
+        with_signals(p, n, |s| if gone(&s) { Signal::zero() ^ s.is_inverted() } else { s })
+    };
+    let folded = move |n: usize| {
+        let other = |s: &Signal| Signal::from_input(s.input() % n as u32) ^ s.is_inverted();
+        with_signals(p, n, |s| if s.is_input() { other(&s) } else { s })
+    };
     let least = [0, p.inputs / 2, p.inputs.saturating_sub(1)];
     least.into_iter().map(cut).chain(least.into_iter().filter(|n| *n > 0).map(folded))
 }

@@ -169,7 +169,10 @@ fn alike(r: &mut Numbers, n: usize) -> Vec<String> {
     while all.len() < n {
         let place = r.below(length);
         let letter = (b'a' + r.below(26) as u8) as char;
-        let piece = |k: usize, r: &mut Numbers| if pieces { pick(r, &["Aa", "BB"]).to_string() } else if k == place { letter.to_string() } else { "_".to_string() };
+        let piece = |k: usize, r: &mut Numbers| match pieces {
+            true => pick(r, &["Aa", "BB"]).to_string(),
+            false => if k == place { letter } else { '_' }.to_string(),
+        };
         let name: String = (0..length).map(|k| piece(k, r)).collect();
         if !all.contains(&name) {
             all.push(name);

@@ -85,7 +85,7 @@ pub fn seeded(seed: u64) -> impl Iterator<Item = Lent> {
 }
 
 // Whether a combinational gate has an input that is no lower gate.
-fn unsorted(p: &Plain) -> bool {
+pub fn unsorted(p: &Plain) -> bool {
     let higher = |g: usize, s: &Signal| s.is_var() && s.var() as usize >= g;
     p.gates.iter().enumerate().any(|(g, (form, ps))| *form != 14 && ps.iter().any(|s| higher(g, s)))
 }
