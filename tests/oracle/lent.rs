@@ -8,7 +8,7 @@ use crate::{cells, words, Signal};
 pub const MAX_TEXT: usize = 32768;
 
 // What the program has room for: bytes of the output slice, gate cells, pin cells, output cells.
-const MOST: [usize; 4] = [32800, 3076, 16386, 258];
+pub const MOST: [usize; 4] = [32800, 3076, 16386, 258];
 
 #[derive(Clone)]
 pub struct Lent {

@@ -1,12 +1,12 @@
 // The oracle: Quaigh's answers, as lists that programs of this repository replay.
 // usage: oracle checks SEED COUNT                  texts and networks with what is read and written, as terms of blif_model's Cases
-//        oracle sort SEED COUNT                    networks and what `topo_sort` makes of them
+//        oracle sort SEED COUNT GIVEN WANTED       files of networks with what `topo_sort` makes of them, and of how many they are
 //        oracle texts SEED COUNT GIVEN WANTED      files of texts and of the statements that `read_statements` finds
 //        oracle reads SEED COUNT GIVEN WANTED      files of texts and of what `read_blif` answers, as document 01 has it
-//        oracle compare SEED COUNT DEPTH PROGRAM   such texts, with every sequence of up to DEPTH fragments, read by a program
-//        oracle files PROGRAM FILE..               the same for files of one text each, cut behind 32,769 bytes
 //        oracle writes SEED COUNT GIVEN WANTED     files of lent networks and of what `write_blif` writes, as document 01 has it
-//        oracle written SEED COUNT PROGRAM         such networks, with every one of a single gate, written by a program
+//        oracle compare_reads SEED COUNT PROGRAM   so many texts read by a program, beside what `read_blif` answers
+//        oracle compare_writes SEED COUNT PROGRAM  so many networks written by a program, beside what `write_blif` writes
+//        oracle compare_files PROGRAM FILE..       files of one text each read by a program, cut behind 32,769 bytes
 mod compare;
 mod generate;
 mod io;
@@ -19,6 +19,9 @@ mod network;
 mod plain_writer;
 mod points;
 mod reads;
+mod scale;
+mod smaller_nets;
+mod smaller_texts;
 mod texts;
 mod tricky;
 mod variants;
@@ -97,7 +100,8 @@ fn random(r: &mut Numbers, k: usize, count: usize) -> Plain {
     make(r, &shape)
 }
 
-fn sort_list(seed: u64, count: usize) {
+// The list, and what the program prints for it.
+fn sort_list(seed: u64, count: usize) -> (Vec<u8>, Vec<u8>) {
     let mut r = Numbers(seed);
     let mut caught = vec![usize::MAX; MISTAKES.len()];
     let mut nets = smallest();
@@ -105,7 +109,8 @@ fn sort_list(seed: u64, count: usize) {
         nets.push(random(&mut r, k, count));
     }
     let over = over_sizes();
-    print!("{}", words(&[(nets.len() + over.len()) as u32]));
+    let n = nets.len() + over.len();
+    let mut given = words(&[n as u32]);
     for p in nets {
         let s = sorted(&p);
         let mine = order(&p, Mistake::Nothing).map(|o| permuted(&p, &o));
@@ -117,20 +122,21 @@ fn sort_list(seed: u64, count: usize) {
             }
         }
         let kind = if s.is_some() { 1 } else { 0 };
-        print!("{}", words(&[kind, p.inputs as u32, p.gates.len() as u32, p.pins() as u32, p.outputs.len() as u32]));
-        print!("{}", cell_lines(&p));
+        given += &words(&[kind, p.inputs as u32, p.gates.len() as u32, p.pins() as u32, p.outputs.len() as u32]);
+        given += &cell_lines(&p);
         if let Some(x) = &s {
-            print!("{}", cell_lines(x));
+            given += &cell_lines(x);
         }
     }
     for p in over {
-        print!("{}", words(&[2, p.inputs as u32, p.gates.len() as u32, p.pins() as u32, p.outputs.len() as u32]));
-        print!("{}", cell_lines(&p));
+        given += &words(&[2, p.inputs as u32, p.gates.len() as u32, p.pins() as u32, p.outputs.len() as u32]);
+        given += &cell_lines(&p);
     }
     for (m, n) in MISTAKES.iter().zip(&caught) {
         assert!(*n != usize::MAX, "the list does not tell {m:?} apart");
         eprintln!("{m:?} told apart by a network of {n} gates");
     }
+    (given.into_bytes(), format!("networks {n}, as stored {n}\n").into_bytes())
 }
 
 fn main() {
@@ -143,44 +149,32 @@ fn main() {
     }
 }
 
+// Writes a list's two files.
+fn store(a: &[String], list: (Vec<u8>, Vec<u8>)) {
+    std::fs::write(&a[4], list.0).unwrap();
+    std::fs::write(&a[5], list.1).unwrap();
+}
+
+// Status 0 only where nothing differs.
+fn finish(counts: (usize, usize)) {
+    std::process::exit((counts.1 > 0) as i32);
+}
+
 fn run(a: &[String]) {
+    let seed = || a[2].parse::<u64>().unwrap();
+    let count = || a[3].parse::<usize>().unwrap();
     match a[1].as_str() {
-        "sort" => sort_list(a[2].parse().unwrap(), a[3].parse().unwrap()),
-        "texts" => {
-            let (given, wanted) = texts::lists(a[2].parse().unwrap(), a[3].parse().unwrap());
-            std::fs::write(&a[4], given).unwrap();
-            std::fs::write(&a[5], wanted).unwrap();
+        "checks" => println!("{}", models::checks(seed(), count())),
+        "sort" => store(a, sort_list(seed(), count())),
+        "texts" => store(a, texts::lists(seed(), count())),
+        "reads" => store(a, reads::lists(seed(), count())),
+        "writes" => store(a, writes::lists(seed(), count())),
+        "compare_reads" => finish(compare::compare(&a[4], "reading", scale::texts(seed(), count()))),
+        "compare_writes" => finish(compare::compare(&a[4], "writing", scale::networks(seed(), count()))),
+        "compare_files" => {
+            let text = |f: &String| reads::Text(std::fs::read(f).unwrap().into_iter().take(32769).collect());
+            finish(compare::compare(&a[2], "reading", a[3..].iter().map(text)))
         }
-        "reads" => {
-            let texts = reads::texts(a[2].parse().unwrap(), a[3].parse().unwrap(), 3);
-            let (wanted, seen) = reads::answers(&texts);
-            reads::table(&texts, &seen);
-            std::fs::write(&a[4], reads::given(&texts)).unwrap();
-            std::fs::write(&a[5], wanted).unwrap();
-        }
-        "compare" => {
-            let texts = reads::texts(a[2].parse().unwrap(), a[3].parse().unwrap(), a[4].parse().unwrap());
-            let (wanted, seen) = reads::answers(&texts);
-            reads::table(&texts, &seen);
-            std::process::exit(!compare::compare(&a[5], &texts, &wanted) as i32);
-        }
-        "files" => {
-            let texts: Vec<Vec<u8>> = a[3..].iter().map(|f| std::fs::read(f).unwrap().into_iter().take(32769).collect()).collect();
-            let wanted = reads::answers(&texts).0;
-            std::process::exit(!compare::compare(&a[2], &texts, &wanted) as i32);
-        }
-        "writes" => {
-            let networks = writes::networks(a[2].parse().unwrap(), a[3].parse().unwrap());
-            writes::told_apart(&networks);
-            std::fs::write(&a[4], writes::all_given(&networks)).unwrap();
-            std::fs::write(&a[5], writes::answers(&networks).concat()).unwrap();
-        }
-        "written" => {
-            let mut networks = writes::networks(a[2].parse().unwrap(), a[3].parse().unwrap());
-            networks.extend(nets::singles());
-            std::process::exit(!writes::compare(&a[4], &networks) as i32);
-        }
-        "checks" => println!("{}", models::checks(a[2].parse().unwrap(), a[3].parse().unwrap())),
-        other => panic!("no list {other}"),
+        other => panic!("no command {other}"),
     }
 }

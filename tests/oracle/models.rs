@@ -26,24 +26,27 @@ fn number(message: &str) -> u32 {
     known.iter().find(|(m, _)| message.contains(m)).expect(message).1
 }
 
-// What `read_blif` gives. It panics where a name is missing (4), where a latch's input is undefined (11) and at a loop (14).
-pub fn answer(text: &[u8]) -> Answer {
+// What `read_blif` gives for a text in whose statements no name is missing, and whether it panics: where a latch's input is undefined
+// (11) and at a loop (14).
+pub fn built(text: &[u8]) -> (Answer, bool) {
+    match catch_unwind(|| read_blif(text)) {
+        Ok(Ok(n)) => (Answer::Read(n), false),
+        Ok(Err(m)) => (Answer::Refused(number(&m)), false),
+        Err(e) => {
+            let why = e.downcast_ref::<String>().cloned().or(e.downcast_ref::<&str>().map(|s| s.to_string())).unwrap_or_default();
+            let looped = why.to_lowercase().contains("loop");
+            assert!(looped || why.contains("no entry found"), "another panic: {why}");
+            (Answer::Refused(if looped { 14 } else { 11 }), true)
+        }
+    }
+}
+
+// What `read_blif` gives; it panics where a name is missing, too (4).
+fn answer(text: &[u8]) -> Answer {
     if catch_unwind(|| matches!(list(text), Found::Statements(_))).is_err() {
         return Answer::Refused(4);
     }
-    match catch_unwind(|| read_blif(text)) {
-        Ok(Ok(n)) => Answer::Read(n),
-        Ok(Err(m)) => Answer::Refused(number(&m)),
-        Err(e) => {
-            let why = e.downcast_ref::<String>().cloned().or(e.downcast_ref::<&str>().map(|s| s.to_string())).unwrap_or_default();
-            Answer::Refused(if why.to_lowercase().contains("loop") {
-                14
-            } else {
-                assert!(why.contains("no entry found"), "another panic: {why}");
-                11
-            })
-        }
-    }
+    built(text).0
 }
 
 const NAMES: [&str; 7] = ["a", "b", "c", "d", "y", "z", "w"];
@@ -157,7 +160,7 @@ fn of(n: &Network) -> Plain {
 }
 
 // Plain flip-flops, since Quaigh writes others in a notation of its own.
-fn plain_flops(mut p: Plain) -> Plain {
+pub fn plain_flops(mut p: Plain) -> Plain {
     for (form, ps) in &mut p.gates {
         if *form == 14 {
             ps[1] = Signal::one();

@@ -216,20 +216,18 @@ const STATEMENTS: &[&str] = &[".names a\n", ".inputs a\n", ".outputs a\n", "1\n"
 const ENDS: &[&str] = &["\\", "\n", "\r", " ", "#", "b", ".end"];
 const ROWS: &[&str] = &["11 1\n", "0- 1\n", "-- 0\n", "10 0\n", "1 1\n", "2- 1\n", ".names a b\n"];
 
-// Every sequence of up to so many fragments behind a text.
-fn every(before: &str, fragments: &[&str], depth: usize) -> Vec<Vec<u8>> {
-    let mut all = vec![before.as_bytes().to_vec()];
-    let mut last = all.clone();
-    for _ in 0..depth {
-        last = last.iter().flat_map(|t| fragments.iter().map(move |f| [t, f.as_bytes()].concat())).collect();
-        all.extend(last.clone());
-    }
-    all
+// Every sequence of up to so many fragments behind a text, the shorter ones first.
+pub fn every(before: &'static str, fragments: &'static [&'static str], depth: u32) -> impl Iterator<Item = Vec<u8>> {
+    let n = fragments.len();
+    let sequence = move |length: u32, k: usize| {
+        let parts = (0..length).rev().flat_map(move |place| fragments[k / n.pow(place) % n].bytes());
+        before.bytes().chain(parts).collect()
+    };
+    (0..=depth).flat_map(move |length| (0..n.pow(length)).map(move |k| sequence(length, k)))
 }
 
-pub fn sequences(depth: usize) -> Vec<Vec<u8>> {
-    let mut all = every("", STATEMENTS, depth);
-    all.extend(every(".model m\n.outputs a b\n.inputs a", ENDS, depth));
-    all.extend(every(".inputs a c\n.outputs y\n.names a c y\n", ROWS, depth));
-    all
+pub fn sequences(depth: u32) -> impl Iterator<Item = Vec<u8>> {
+    every("", STATEMENTS, depth)
+        .chain(every(".model m\n.outputs a b\n.inputs a", ENDS, depth))
+        .chain(every(".inputs a c\n.outputs y\n.names a c y\n", ROWS, depth))
 }

@@ -1,10 +1,12 @@
 // Texts, and what reading must answer for each: Quaigh's `read_blif`, with document 01's numbers and sizes and its And where cover
 // lines with output 0 are joined.
 use crate::cells;
+use crate::compare::{number, Case};
 use crate::generate::{Numbers, Plain};
 use crate::io::statements::{too_large, with_ones};
-use crate::models::{answer, Answer};
+use crate::models::{built, Answer};
 use crate::points;
+use crate::smaller_texts;
 use crate::tricky;
 use std::collections::BTreeMap;
 use std::panic::catch_unwind;
@@ -16,44 +18,59 @@ pub enum Wanted {
     Refused(u32),
 }
 
+// Where an answer comes from.
+#[derive(Clone, Copy, PartialEq)]
+enum Source {
+    Same,   // Quaigh's network
+    Joined, // Quaigh's network with And in the place of Nand
+    Error,  // Quaigh's message
+    Panic,  // Quaigh's panic
+    Limit,  // a size or a byte that Quaigh takes
+}
+
 // A network as read, with And in place of the Nand that joins a cover's lines: those gates are an Or when the outputs are 1.
-fn joined_by_and(text: &[u8], mut p: Plain) -> Plain {
+fn joined_by_and(text: &[u8], mut p: Plain) -> (Plain, bool) {
     let ones = Plain::of(&with_ones(text));
     assert!(p.outputs == ones.outputs && p.gates.len() == ones.gates.len(), "a gate moved");
+    let mut any = false;
     for (gate, other) in p.gates.iter_mut().zip(&ones.gates) {
         let bare = |g: &(u32, Vec<crate::Signal>)| g.1.iter().filter(|s| s.is_var()).map(|s| s.var()).collect::<Vec<_>>();
         assert!(bare(gate) == bare(other), "a gate moved");
         if gate.0 == 9 && other.0 == 8 {
             gate.0 = 7;
+            any = true;
         }
     }
-    p
+    (p, any)
 }
 
+// What reading must answer.
 pub fn wanted(text: &[u8]) -> Wanted {
+    sourced(text).0
+}
+
+fn sourced(text: &[u8]) -> (Wanted, Source) {
+    let limit = |k: u32| (Wanted::Refused(k), Source::Limit);
     if text.len() > MAX_TEXT {
-        return Wanted::Refused(2);
+        return limit(2);
     }
     if text.iter().any(|b| *b >= 128) {
-        return Wanted::Refused(3);
+        return limit(3);
     }
     match catch_unwind(|| too_large(text)) {
-        Err(_) => return Wanted::Refused(4),
-        Ok(None) => return Wanted::Refused(5),
-        Ok(Some(true)) => return Wanted::Refused(6),
+        Err(_) => return (Wanted::Refused(4), Source::Panic),
+        Ok(None) => return (Wanted::Refused(5), Source::Error),
+        Ok(Some(true)) => return limit(6),
         Ok(Some(false)) => (),
     }
-    match answer(text) {
-        Answer::Refused(k) => Wanted::Refused(k),
-        Answer::Read(n) => Wanted::Read(joined_by_and(text, Plain::of(&n))),
-    }
-}
-
-// The refusal's number, 0 where the text is read.
-pub fn kind(w: &Wanted) -> u32 {
-    match w {
-        Wanted::Read(_) => 0,
-        Wanted::Refused(k) => *k,
+    match built(text) {
+        (Answer::Refused(k), panicked) => (Wanted::Refused(k), if panicked { Source::Panic } else { Source::Error }),
+        (Answer::Read(n), _) => {
+            let p = Plain::of(&n);
+            let nand = p.gates.iter().any(|(form, _)| *form == 9);
+            let (p, any) = if nand { joined_by_and(text, p) } else { (p, false) };
+            (Wanted::Read(p), if any { Source::Joined } else { Source::Same })
+        }
     }
 }
 
@@ -78,47 +95,81 @@ fn shown(w: &Wanted) -> String {
 // What the program prints after the texts: each slice one cell short, then no cells and a text that is too long.
 const SHORT: &str = "short\nrefused=1\nrefused=1\nrefused=1\nrefused=1\nrefused=1\nrefused=1\n";
 
-// The texts by hand, every short sequence of fragments, and so many from a seed.
-pub fn texts(seed: u64, count: usize, depth: usize) -> Vec<Vec<u8>> {
-    let mut all = Vec::new();
-    for (k, t) in points::by_hand() {
-        let w = kind(&wanted(&t));
+// The texts by hand, whose answers must be those on paper.
+pub fn by_hand() -> Vec<Vec<u8>> {
+    let checked = |(k, t): (u32, Vec<u8>)| {
+        let w = match wanted(&t) {
+            Wanted::Read(_) => 0,
+            Wanted::Refused(k) => k,
+        };
         assert!(w == k, "{:?}: {w}, and by hand {k}", String::from_utf8_lossy(&t[..t.len().min(200)]));
-        all.push(t);
-    }
-    all.extend(points::sequences(depth));
+        t
+    };
+    points::by_hand().into_iter().map(checked).collect()
+}
+
+// The texts by hand, every short sequence of fragments, and so many from a seed: the kinds that the stored list has.
+fn texts(seed: u64, count: usize) -> Vec<Vec<u8>> {
     let mut r = Numbers(seed);
-    all.extend((0..count).map(|k| tricky::text(&mut r, k)));
-    all
+    let seeded = (0..count).map(|k| tricky::text(&mut r, k));
+    by_hand().into_iter().chain(points::sequences(3)).chain(seeded).collect()
 }
 
-pub fn given(texts: &[Vec<u8>]) -> Vec<u8> {
-    let mut g = format!("{:08x}\n", texts.len()).into_bytes();
-    for t in texts {
-        assert!(t.len() <= MAX_TEXT + 1, "a text that the program has no room for");
-        g.extend(format!("{:08x}\n", t.len()).into_bytes());
-        g.extend(t);
+#[derive(Clone)]
+pub struct Text(pub Vec<u8>);
+
+impl Case for Text {
+    const WORD: &'static str = "text";
+    const BEHIND: &'static str = SHORT;
+    const TWICE: bool = true; // a text of odd number is lent a cell more of each kind
+    const ANSWERED: &'static str = "read";
+    const NOTES: &'static [&'static str] = &[
+        "read, as Quaigh's network",
+        "read, as Quaigh's network with And in the place of Nand where lines with output 0 are joined",
+        "refused where Quaigh gives a message",
+        "refused where Quaigh panics",
+        "refused for a size or a byte that Quaigh takes",
+    ];
+
+    fn bytes(&self) -> usize {
+        self.0.len() + 9
     }
-    g
+
+    fn given(&self) -> Vec<u8> {
+        assert!(self.0.len() <= MAX_TEXT + 1, "a text that the program has no room for");
+        [format!("{:08x}\n", self.0.len()).as_bytes(), &self.0].concat()
+    }
+
+    fn answer(&self) -> (Vec<u8>, Vec<bool>) {
+        let (w, source) = sourced(&self.0);
+        let sources = [Source::Same, Source::Joined, Source::Error, Source::Panic, Source::Limit];
+        (shown(&w).into_bytes(), sources.map(|s| s == source).to_vec())
+    }
+
+    fn smaller(&self) -> Box<dyn Iterator<Item = Text> + '_> {
+        Box::new(smaller_texts::smaller(&self.0).map(Text))
+    }
+
+    fn shown(&self) -> String {
+        format!("\"{}\"", self.0.escape_ascii())
+    }
 }
 
-// The answers, each behind the number of its text, and how often each occurs.
-pub fn answers(texts: &[Vec<u8>]) -> (String, BTreeMap<u32, usize>) {
-    let mut s = String::new();
+// The stored list: the texts, and the answers, each behind the number of its text. Prints how often each answer occurs; each must.
+pub fn lists(seed: u64, count: usize) -> (Vec<u8>, Vec<u8>) {
+    let texts: Vec<Text> = texts(seed, count).into_iter().map(Text).collect();
+    let mut given = format!("{:08x}\n", texts.len()).into_bytes();
+    let mut wanted = Vec::new();
     let mut seen = BTreeMap::new();
     for (i, t) in texts.iter().enumerate() {
-        let w = wanted(t);
-        *seen.entry(kind(&w)).or_insert(0) += 1;
-        s += &format!("text {i}\n{}", shown(&w));
+        let w = t.answer().0;
+        *seen.entry(number(&w)).or_insert(0) += 1;
+        given.extend(t.given());
+        wanted.extend(format!("text {i}\n").into_bytes());
+        wanted.extend(w);
     }
-    (s + SHORT, seen)
-}
-
-// Prints how often each answer occurs; each must.
-pub fn table(texts: &[Vec<u8>], seen: &BTreeMap<u32, usize>) {
-    eprintln!("{} texts", texts.len());
-    for (k, n) in seen {
-        eprintln!("{:>8} {n}", if *k == 0 { "read".to_string() } else { k.to_string() });
-    }
+    wanted.extend(SHORT.bytes());
+    eprintln!("{} texts; answers (0 for read): {seen:?}", texts.len());
     assert!((2..15).all(|k| seen.contains_key(&k)), "a refusal does not occur");
+    (given, wanted)
 }

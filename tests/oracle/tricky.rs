@@ -92,8 +92,7 @@ fn lines(r: &mut Numbers, s: &Shape, columns: usize) -> String {
 }
 
 // A model's statements: covers use inputs, flip-flops and covers of lower rank, or anything where loops are wanted.
-fn model(r: &mut Numbers, s: &Shape) -> Vec<String> {
-    let names = distinct(r, s.inputs + s.gates + 1);
+fn model(r: &mut Numbers, s: &Shape, names: &[String]) -> Vec<String> {
     let (inputs, gates) = (&names[..s.inputs], &names[s.inputs..s.inputs + s.gates]);
     let mut rank: Vec<usize> = (0..s.gates).collect();
     for i in (1..s.gates).rev() {
@@ -146,7 +145,8 @@ fn ports(r: &mut Numbers, inputs: &[String], names: &[String], all: &mut Vec<Str
 
 fn whole(r: &mut Numbers, k: usize) -> Vec<u8> {
     let s = shape(r, k);
-    let mut all = model(r, &s);
+    let names = distinct(r, s.inputs + s.gates + 1);
+    let mut all = model(r, &s, &names);
     if r.below(3) > 0 {
         all.insert(0, statement(r, &tokens(".model", &["m".to_string()])));
         let at = if r.below(4) == 0 { 1 + r.below(all.len()) } else { all.len() };
@@ -160,10 +160,42 @@ fn whole(r: &mut Numbers, k: usize) -> Vec<u8> {
     all.concat().into_bytes()
 }
 
-const BYTES: &[u8] = b"\n\n\r \t\\#.-01ab\x0b\x0c\x00\x1c\x7f\x80";
+// Distinct long names that are hard to tell apart: of the pieces `Aa` and `BB`, which one hash of names does not tell apart, or alike
+// but for one byte.
+fn alike(r: &mut Numbers, n: usize) -> Vec<String> {
+    let length = 8 + r.below(60);
+    let pieces = r.below(2) == 0;
+    let mut all: Vec<String> = Vec::new();
+    while all.len() < n {
+        let place = r.below(length);
+        let letter = (b'a' + r.below(26) as u8) as char;
+        let piece = |k: usize, r: &mut Numbers| match pieces {
+            true => pick(r, &["Aa", "BB"]).to_string(),
+            false => if k == place { letter } else { '_' }.to_string(),
+        };
+        let name: String = (0..length).map(|k| piece(k, r)).collect();
+        if !all.contains(&name) {
+            all.push(name);
+        }
+    }
+    all
+}
+
+// A model with such names, now and then one cut short.
+pub fn long_named(r: &mut Numbers, k: usize) -> Vec<u8> {
+    let s = shape(r, k);
+    let mut names = alike(r, s.inputs + s.gates + 1);
+    if r.below(3) == 0 {
+        let i = r.below(names.len());
+        names[i].pop();
+    }
+    model(r, &s, &names).concat().into_bytes()
+}
+
+pub const BYTES: &[u8] = b"\n\n\r \t\\#.-01ab\x0b\x0c\x00\x1c\x7f\x80";
 
 // One change: a byte changed, dropped, doubled or put in, a line dropped, doubled or swapped with another, the rest cut off.
-fn damaged(r: &mut Numbers, mut t: Vec<u8>) -> Vec<u8> {
+pub fn damaged(r: &mut Numbers, mut t: Vec<u8>) -> Vec<u8> {
     if t.is_empty() {
         return t;
     }
@@ -212,7 +244,7 @@ fn definition(r: &mut Numbers, inputs: usize, k: usize, wide: usize, most: usize
 }
 
 // A model about as large as the sizes allow, one or a few over them or below.
-fn near_limit(r: &mut Numbers) -> Vec<u8> {
+pub fn near_limit(r: &mut Numbers) -> Vec<u8> {
     let inputs = 1 + r.below(258);
     let mut t = ".inputs".to_string() + &(0..inputs).map(|k| " ".to_string() + &short(k)).collect::<String>() + "\n";
     let (most_gates, most_pins) = (1020 + r.below(7), 16378 + r.below(10));

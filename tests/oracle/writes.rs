@@ -1,13 +1,12 @@
-// The networks to write, their answers, and a comparison of a program's answers with them.
+// The networks to write, and their answers.
+use crate::compare::{number, Case};
 use crate::generate::{make, Numbers, Plain, Shape};
 use crate::lent::{decoded, given, lent, quaigh, shown, text, wanted, Lent, Wanted, MAX_TEXT};
 use crate::nets::Hand;
 use crate::plain_writer::{written, Mistake, MISTAKES};
 use crate::variants::order;
-use crate::{layouts, nets, variants, words, Signal};
+use crate::{layouts, nets, smaller_nets, variants, words, Signal};
 use std::collections::BTreeMap;
-use std::io::Write;
-use std::process::{Command, Stdio};
 
 // A plain flip-flop, one with an enable, one with a reset, or as it is.
 fn some_plain(r: &mut Numbers, mut p: Plain) -> Plain {
@@ -59,8 +58,8 @@ fn kind(w: &Wanted) -> u32 {
     }
 }
 
-// The networks by hand, whose answers must be those on paper, every network of one gate, and so many from a seed.
-pub fn networks(seed: u64, count: usize) -> Vec<Lent> {
+// The networks by hand, whose answers must be those on paper.
+pub fn by_hand() -> Vec<Lent> {
     let mut all = Vec::new();
     for (l, h) in nets::by_hand() {
         let got = shown(&wanted(&l));
@@ -77,48 +76,88 @@ pub fn networks(seed: u64, count: usize) -> Vec<Lent> {
         assert!(fits == (k != 20), "not as by hand: {k}\n{}", given(&l));
         all.push(l);
     }
-    let mut r = Numbers(seed);
-    all.extend((0..count).map(|k| random(&mut r, k)));
     all
 }
 
-pub fn all_given(ls: &[Lent]) -> String {
-    words(&[ls.len() as u32]) + &ls.iter().map(given).collect::<String>()
+pub fn seeded(seed: u64) -> impl Iterator<Item = Lent> {
+    let mut r = Numbers(seed);
+    (0..).map(move |k| random(&mut r, k))
 }
 
 // Whether a combinational gate has an input that is no lower gate.
-fn unsorted(p: &Plain) -> bool {
+pub fn unsorted(p: &Plain) -> bool {
     let higher = |g: usize, s: &Signal| s.is_var() && s.var() as usize >= g;
     p.gates.iter().enumerate().any(|(g, (form, ps))| *form != 14 && ps.iter().any(|s| higher(g, s)))
 }
 
-// The answers, each behind the number of its network; prints how often each occurs, and of the networks written how many have a
-// `.flop` line, have one that Quaigh writes otherwise, are not sorted, or have a loop.
-pub fn answers(ls: &[Lent]) -> Vec<String> {
-    let mut seen: BTreeMap<u32, usize> = BTreeMap::new();
-    let mut of_written = [0; 4];
-    let mut all = Vec::new();
-    for (n, l) in ls.iter().enumerate() {
-        let w = wanted(l);
-        *seen.entry(kind(&w)).or_insert(0) += 1;
-        let s = shown(&w);
-        if let Wanted::Written(t) = &w {
-            let p = decoded(l).unwrap();
-            of_written[0] += t.contains("\n.flop ") as usize;
-            of_written[1] += (quaigh(&p) != *t) as usize;
-            of_written[2] += unsorted(&p) as usize;
-            of_written[3] += order(&p, variants::Mistake::Nothing).is_none() as usize;
-        }
-        all.push(format!("network {n}\n{s}"));
+impl Case for Lent {
+    const WORD: &'static str = "network";
+    const BEHIND: &'static str = "";
+    const TWICE: bool = false;
+    const ANSWERED: &'static str = "written";
+    const NOTES: &'static [&'static str] = &[
+        "written with a .flop line",
+        "written with a .flop line that Quaigh writes otherwise",
+        "written, not sorted",
+        "written, with a combinational loop",
+    ];
+
+    fn bytes(&self) -> usize {
+        9 * (12 + self.gates.len() + self.pins.len() + self.outputs.len())
     }
-    eprintln!("{} networks; answers (0 for written): {seen:?}", ls.len());
-    eprintln!("of those written, with a .flop line, with one that Quaigh writes otherwise, not sorted, with a loop: {of_written:?}");
-    all
+
+    fn given(&self) -> Vec<u8> {
+        given(self).into_bytes()
+    }
+
+    fn answer(&self) -> (Vec<u8>, Vec<bool>) {
+        let w = wanted(self);
+        let Wanted::Written(t) = &w else {
+            return (shown(&w).into_bytes(), vec![false; 4]);
+        };
+        let p = decoded(self).unwrap();
+        let flop = t.contains("\n.flop ");
+        let notes = vec![flop, flop && quaigh(&p) != *t, unsorted(&p), order(&p, variants::Mistake::Nothing).is_none()];
+        (shown(&w).into_bytes(), notes)
+    }
+
+    fn smaller(&self) -> Box<dyn Iterator<Item = Lent> + '_> {
+        smaller_nets::smaller(self)
+    }
+
+    fn shown(&self) -> String {
+        smaller_nets::shown(self)
+    }
+}
+
+// The stored list: the networks, and the answers, each behind the number of its network. Prints how often each answer occurs.
+pub fn lists(seed: u64, count: usize) -> (Vec<u8>, Vec<u8>) {
+    let networks: Vec<Lent> = by_hand().into_iter().chain(seeded(seed).take(count)).collect();
+    told_apart(&networks);
+    let mut given = words(&[networks.len() as u32]).into_bytes();
+    let mut wanted = Vec::new();
+    let mut seen: BTreeMap<u32, usize> = BTreeMap::new();
+    let mut notes = [0; 4];
+    for (n, l) in networks.iter().enumerate() {
+        let (w, held) = l.answer();
+        *seen.entry(number(&w)).or_insert(0) += 1;
+        for (n, yes) in notes.iter_mut().zip(held) {
+            *n += yes as usize;
+        }
+        given.extend(Case::given(l));
+        wanted.extend(format!("network {n}\n").into_bytes());
+        wanted.extend(w);
+    }
+    eprintln!("{} networks; answers (0 for written): {seen:?}", networks.len());
+    for (what, n) in Lent::NOTES.iter().zip(notes) {
+        eprintln!("{what}: {n}");
+    }
+    (given, wanted)
 }
 
 // Stops unless the plain writer writes the same texts, and each mistake is told apart; prints the gate count of the smallest network
 // that does.
-pub fn told_apart(ls: &[Lent]) {
+fn told_apart(ls: &[Lent]) {
     let mut caught = vec![usize::MAX; MISTAKES.len()];
     for l in ls {
         let Wanted::Written(t) = wanted(l) else {
@@ -136,34 +175,4 @@ pub fn told_apart(ls: &[Lent]) {
         assert!(*n != usize::MAX, "the list does not tell {m:?} apart");
         eprintln!("{m:?} told apart by a network of {n} gates");
     }
-}
-
-// What the program prints for the networks, a block for each.
-fn printed(program: &str, ls: &[Lent]) -> Vec<String> {
-    let mut child = Command::new(program).stdin(Stdio::piped()).stdout(Stdio::piped()).spawn().unwrap();
-    let mut to = child.stdin.take().unwrap();
-    let all = all_given(ls);
-    let writer = std::thread::spawn(move || to.write_all(all.as_bytes()));
-    let out = child.wait_with_output().unwrap();
-    let _ = writer.join();
-    let mut blocks: Vec<String> = Vec::new();
-    for l in String::from_utf8_lossy(&out.stdout).split_inclusive('\n') {
-        if l.starts_with("network ") || blocks.is_empty() {
-            blocks.push(String::new());
-        }
-        blocks.last_mut().unwrap().push_str(l);
-    }
-    blocks
-}
-
-// Prints how many differ, and of those that do the one with the fewest cells; answers whether none does.
-pub fn compare(program: &str, ls: &[Lent]) -> bool {
-    let (want, got) = (answers(ls), printed(program, ls));
-    let at = |v: &[String], n: usize| v.get(n).cloned().unwrap_or_default();
-    let bad: Vec<usize> = (0..ls.len()).filter(|n| at(&want, *n) != at(&got, *n)).collect();
-    println!("{} compared, {} differ", ls.len(), bad.len());
-    if let Some(n) = bad.iter().min_by_key(|n| given(&ls[**n]).len()) {
-        println!("smallest network\n{}wanted\n{}got\n{}", given(&ls[*n]), at(&want, *n), at(&got, *n));
-    }
-    bad.is_empty() && got.len() == want.len()
 }
