@@ -21,9 +21,9 @@ const SIZES: [usize; 6] = [100, 300, 1_000, 3_000, 10_000, 32_768];
 // Gates of two inputs over three inputs, each a cover of one line, with names from `name`, up to a size.
 fn gates(size: usize, name: &dyn Fn(usize) -> String) -> String {
     let mut numbers = Numbers(size as u64);
-    let mut names: Vec<String> = (1000..1003).map(name).collect();
-    let mut text = format!(".model m\n.inputs {}\n.outputs {}\n", names.join(" "), name(0));
-    for g in 0..1000 {
+    let mut names: Vec<String> = (0..3).map(name).collect();
+    let mut text = format!(".model m\n.inputs {}\n.outputs {}\n", names.join(" "), name(3));
+    for g in 3..1003 {
         let (a, b) = (numbers.below(names.len()), names.len() - 1 - numbers.below(names.len().min(20)));
         let cover = format!(".names {} {} {}\n{} 1\n", names[a], names[b], name(g), ["11", "00", "10", "-1"][numbers.below(4)]);
         if text.len() + cover.len() + 5 > size {
@@ -105,7 +105,7 @@ pub fn inputs() -> Vec<Input> {
     let mut add = |name: String, text: String| all.push(Input { name, text: text.into_bytes() });
     let long = |g: usize| format!("top/interlock/uplink/command/decoder/stage_{g:04}");
     for size in SIZES {
-        add(format!("small-gates-{size}"), gates(size, &|g| format!("net{g:04}")));
+        add(format!("small-gates-{size}"), gates(size, &|g| format!("n{g}")));
     }
     for size in &SIZES[2..] {
         add(format!("long-names-{size}"), gates(*size, &long));
