@@ -11,8 +11,8 @@ use lib.ListN.{length}
 use Rattle.lists.specs.Lists.{Bytes, any}
 use Rattle.network.specs.Net.{Net}
 use Rattle.network.specs.Settle.{run}
-use Rattle.sort.specs.Sorted.{sorted}
-use Rattle.sort.proofs.Sorting.{sorted-free}
+use Rattle.sort_order.specs.Sorted.{sorted}
+use Rattle.sort_order.proofs.Sorting.{sorted-free}
 use Rattle.blif_text.specs.Statements.{parsed, firstBad, stmts}
 use Rattle.blif_text.specs.Decls.{Decl, decls, defs}
 use Rattle.blif_model.specs.Blif.{BlifRuns}

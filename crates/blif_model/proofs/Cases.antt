@@ -4,8 +4,8 @@ use native.Mathlib.Decide.{ℕ-discrete}
 use lib.Dec.{T}
 use Rattle.lists.specs.Lists.{same, all, hit}
 use Rattle.network.specs.Cells.{gateCells, pinCells}
-use Rattle.sort.specs.Order.{uses, useCount, recorded, order, sortOrder}
-use Rattle.sort.specs.Sorted.{sorted}
+use Rattle.sort_order.specs.Order.{uses, useCount, recorded, order, sortOrder}
+use Rattle.sort_order.specs.Sorted.{sorted}
 use Rattle.blif_text.specs.Lines.{consFirst, split, dropCR, lines, cut, continues, before, joined, isBlank, nonEmpty, tokens}
 use Rattle.blif_text.specs.Statements.{modelOf, latchOf, stmtOf, parsedLine, parsed, firstBad, stmts}
 use Rattle.blif_text.specs.Decls.{uses as usesOf, cubes, decls, insOf, outsOf, defsOf, ins, outs, defs, coverOut, coverIns, defines, columns, output, isOne}

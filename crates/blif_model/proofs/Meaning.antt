@@ -9,8 +9,8 @@ use Rattle.network.specs.Clock.{Clock, zeroBits, NetRuns}
 use Rattle.network.specs.Settle.{run}
 use Rattle.network.proofs.Runs.{runs-along}
 use Rattle.network.proofs.Summary.{one-run}
-use Rattle.sort.specs.Sorted.{sorted}
-use Rattle.sort.proofs.Summary.{sorted-run}
+use Rattle.sort_order.specs.Sorted.{sorted}
+use Rattle.sort_order.proofs.Summary.{sorted-run}
 use Rattle.blif_model.specs.Blif.{Model, BlifClock, BlifRuns}
 use Rattle.blif_model.specs.Build.{build, Looks}
 use Rattle.blif_model.specs.Lookup.{lookup}

@@ -10,8 +10,8 @@ use Rattle.lists.proofs.Every.{every-place}
 use Rattle.gates.specs.Gate.{Gate}
 use Rattle.network.specs.Net.{Net, Valid, Formed, Feeds, Way, last, more, Loop}
 use Rattle.network.specs.Cells.{maxInputs, maxOutputs, maxGates, maxPins, pinCells}
-use Rattle.sort.specs.Sorted.{sorted}
-use Rattle.sort.proofs.Summary.{sorted-keeps, inputs-lower}
+use Rattle.sort_order.specs.Sorted.{sorted}
+use Rattle.sort_order.proofs.Summary.{sorted-keeps, inputs-lower}
 use Rattle.blif_text.specs.Decls.{Decl, ins, outs, defs}
 use Rattle.blif_model.specs.Read.{declsOf, read, builtFrom, readText}
 use Rattle.blif_model.specs.Built.{look}

@@ -8,8 +8,8 @@ use Rattle.lists.specs.Lists.{Bytes}
 use Rattle.signal.specs.Signal.{oneS, zeroS}
 use Rattle.gates.specs.Gate.{FlipFlop, Dff}
 use Rattle.network.specs.Net.{Net, GateIs}
-use Rattle.sort.specs.Sorted.{sorted}
-use Rattle.sort.proofs.Sorting.{none-loop}
+use Rattle.sort_order.specs.Sorted.{sorted}
+use Rattle.sort_order.proofs.Sorting.{none-loop}
 use Rattle.blif_model.specs.Blif.{Model}
 use Rattle.blif_model.specs.Write.{written}
 use Rattle.blif_model.specs.Names.{nameBytes, byte-names}

@@ -16,8 +16,8 @@ use Rattle.network.specs.Clock.{Clock, zeroBits}
 use Rattle.network.specs.Settle.{run}
 use Rattle.network.proofs.OneChoice.{ranked, run-is}
 use Rattle.network.proofs.Runs.{runs-along}
-use Rattle.sort.specs.Sorted.{sorted, Preserved}
-use Rattle.sort.proofs.Summary.{sorted-keeps}
+use Rattle.sort_order.specs.Sorted.{sorted, Preserved}
+use Rattle.sort_order.proofs.Summary.{sorted-keeps}
 use Rattle.blif_model.specs.Blif.{BlifClock, BlifRuns}
 use Rattle.blif_model.specs.Build.{Closed}
 use Rattle.blif_model.specs.Lookup.{defined, lookup}

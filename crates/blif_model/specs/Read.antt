@@ -9,7 +9,7 @@ use lib.ListN.{length}
 use Rattle.lists.specs.Lists.{if_then_else_, Bytes, all, any, sumOf, elem, known}
 use Rattle.network.specs.Net.{Net}
 use Rattle.network.specs.Cells.{maxInputs, maxOutputs, maxGates, maxPins}
-use Rattle.sort.specs.Sorted.{sorted}
+use Rattle.sort_order.specs.Sorted.{sorted}
 use Rattle.blif_text.specs.Places.{maxText}
 use Rattle.blif_text.specs.Statements.{parsed, firstBad, stmts}
 use Rattle.blif_text.specs.Decls.{Def, latch, cover, Decl, model, end, inputs, outputs, gate, decls, ins, outs, defs, coverOut, defines, uses, columns, output, isOne}

@@ -16,11 +16,11 @@ use Rattle.network.specs.Net.{Net, Valid}
 use Rattle.network.specs.Cells.{maxGates, maxPins, maxOutputs, gateWidth, gateCells, pinCells, lent, netOf, countsOf, Laid}
 use Rattle.network.specs.declared.Counts.{Counts}
 use Rattle.network.proofs.Laying.{laid-over}
-use Rattle.sort.specs.Sorted.{sorted, Preserved}
+use Rattle.sort_order.specs.Sorted.{sorted, Preserved}
 use Rattle.sort.specs.Into.{Outcome, outcome, sortInto, Sortable}
 use Rattle.sort.specs.declared.Sorted.{Sorted}
 use Rattle.sort.specs.declared.Sorted.the-variants.{Order, Loop}
-use Rattle.sort.proofs.Summary.{sorted-keeps}
+use Rattle.sort_order.proofs.Summary.{sorted-keeps}
 use Rattle.blif_text.specs.Statements.{parsed, firstBad}
 use Rattle.blif_text.specs.Places.{maxText}
 use Rattle.blif_text.specs.Decls.{Def, Decl, ins, outs, defs}

@@ -7,7 +7,7 @@ use native.Mathlib.Omega.{arith}
 use lib.Dec.{ltb, leb}
 use lib.ListN.{length}
 use Rattle.lists.specs.Lists.{Bytes, any}
-use Rattle.sort.specs.Sorted.{sorted}
+use Rattle.sort_order.specs.Sorted.{sorted}
 use Rattle.blif_text.specs.Statements.{parsed, firstBad, stmts}
 use Rattle.blif_text.specs.Decls.{Decl, decls, defs}
 use Rattle.blif_text.specs.Places.{maxText, Marked}

@@ -17,9 +17,9 @@ use Rattle.gates.specs.Forms.{gateFrom}
 use Rattle.network.specs.Net.{Net, GateIs, Loop}
 use Rattle.network.specs.Cells.{gateAt, gateCells, pinCells, sizesFit, recordsFit, allValid, isNetwork, netOf, Words}
 use Rattle.network.proofs.Lent.{network-laid}
-use Rattle.sort.specs.Order.{uses, useCount, recorded, order, sortOrder}
-use Rattle.sort.specs.Sorted.{sorted}
-use Rattle.sort.proofs.Summary.{loop-exactly}
+use Rattle.sort_order.specs.Order.{uses, useCount, recorded, order, sortOrder}
+use Rattle.sort_order.specs.Sorted.{sorted}
+use Rattle.sort_order.proofs.Summary.{loop-exactly}
 use Rattle.blif_text.specs.Lines.{consFirst, split, dropCR, lines, cut, continues, before, joined, isBlank, nonEmpty, tokens}
 use Rattle.blif_text.specs.Statements.{modelOf, latchOf, stmtOf, parsedLine, parsed, firstBad, stmts}
 use Rattle.blif_text.specs.Decls.{cubes, decls, insOf, outsOf, defsOf, ins, outs, defs, coverOut, coverIns, defines, columns, output, isOne}

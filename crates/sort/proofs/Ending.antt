@@ -23,13 +23,13 @@ use Rattle.network.specs.Renumber.{remapGate, placeOf, gateOr, permuted}
 use Rattle.network.proofs.Permuting.{place-of}
 use Rattle.network.proofs.Renumbering.{pins-remap}
 use Rattle.sort.specs.declared.Sorted.the-variants.{Order, Loop}
-use Rattle.sort.specs.Order.{sortOrder}
-use Rattle.sort.specs.Sorted.{graph, sorted}
+use Rattle.sort_order.specs.Order.{sortOrder}
+use Rattle.sort_order.specs.Sorted.{graph, sorted}
 use Rattle.sort.specs.Into.{outcome, sortInto, Sortable}
 use Rattle.sort.specs.Steps.{ordered, cellGraph, Numbers, Tabled, movedGates, movedPins, pinsIn, Movable, Renewed}
-use Rattle.sort.proofs.Ordering.{place, sort-length}
-use Rattle.sort.proofs.Sorting.{graph-valid, order-sorted, none-sorted, order-has, order-orders}
-use Rattle.sort.proofs.Keeps.{place-at, once, kept-pins}
+use Rattle.sort_order.proofs.Ordering.{place, sort-length}
+use Rattle.sort_order.proofs.Sorting.{graph-valid, order-sorted, none-sorted, order-has, order-orders}
+use Rattle.sort_order.proofs.Keeps.{place-at, once, kept-pins}
 use Rattle.sort.proofs.Reading.{gate-is, cell-gate, net-gates, net-outputs, net-size, graph-cells, sortable-cells}
 
 -- a list of cells, each a 32-bit number

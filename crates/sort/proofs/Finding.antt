@@ -9,9 +9,10 @@ use lib.Dec.{eqb}
 use lib.ListN.{length, getD, take, drop, length-append}
 use lib.Seq.{take-at}
 use borrow.Author.Tests.{eq-eqb, ne-eqb}
-use Rattle.sort.specs.Order.{Graph, recorded, order, flopsTo, startTo, useCount, sortOrder}
-use Rattle.sort.specs.Steps.{ValidGraph, down, Flopped, Started, Counted, unmarked, Recorded, ordered}
-use Rattle.sort.proofs.Ordering.{order-short, sort-full, sort-short}
+use Rattle.sort_order.specs.Order.{Graph, recorded, order, flopsTo, startTo, useCount, sortOrder}
+use Rattle.sort_order.specs.Walk.{ValidGraph}
+use Rattle.sort.specs.Steps.{down, Flopped, Started, Counted, unmarked, Recorded, ordered}
+use Rattle.sort_order.proofs.Ordering.{order-short, sort-full, sort-short}
 use Rattle.sort.proofs.Starting.{start-same, flopped-unmarked}
 
 -- the first stack is that of the graph

@@ -13,7 +13,7 @@ use Rattle.network.specs.Cells.{gateWidth, Lent, isNetwork, netOf, pinCells, Wo
 use Rattle.network.proofs.Lent.{network-laid, network-readable, network-sizes}
 use Rattle.sort.specs.declared.Sorted.{Sorted}
 use Rattle.sort.specs.declared.Attempt.the-variants.{Refused, Done}
-use Rattle.sort.specs.Sorted.{sorted}
+use Rattle.sort_order.specs.Sorted.{sorted}
 use Rattle.sort.specs.Into.{Outcome, outcome, sortInto, Sortable, canSort, sortLent}
 
 -- a network that is lent can be sorted into cells that have room

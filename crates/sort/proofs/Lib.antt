@@ -1,9 +1,3 @@
-pub mod Walk
-pub mod WalkEnds
-pub mod Ordering
-pub mod Sorting
-pub mod Keeps
-pub mod Summary
 pub mod Naming
 pub mod Stack
 pub mod Uses

@@ -14,7 +14,7 @@ use Rattle.signal.specs.Signal.{Node, Const, Input, Gated, gateNode}
 use Rattle.signal.specs.Cell.{nodeOf, sigOf, gateNumber}
 use Rattle.signal.proofs.Cells.{gate-number}
 use Rattle.network.specs.Cells.{maxPins}
-use Rattle.sort.specs.Sorted.{nodeGate, gateNums}
+use Rattle.sort_order.specs.Sorted.{nodeGate, gateNums}
 use Rattle.sort.specs.Steps.{named, gateIns, Raised, Countable}
 
 -- ---- one cell

@@ -19,13 +19,14 @@ use Rattle.gates.specs.Decode.{kindComb}
 use Rattle.gates.proofs.Forms.{From, gate-from, comb-number}
 use Rattle.network.specs.declared.Counts.{Counts}
 use Rattle.network.specs.Cells.{gateWidth, formAt, firstAt, countAt, runAt, gateAt, orBuf, lent, netOf, pinCells}
-use Rattle.sort.specs.Order.{Graph, useCount}
-use Rattle.sort.specs.Sorted.{gateNums, combAt, insAt, graph}
+use Rattle.sort_order.specs.Order.{Graph, useCount}
+use Rattle.sort_order.specs.Sorted.{gateNums, combAt, insAt, graph}
 use Rattle.sort.specs.Into.{Sortable}
-use Rattle.sort.specs.Steps.{ValidGraph, gateIns, formComb, cellGates, cellComb, cellIns, cellGraph, HasRun, Cells}
+use Rattle.sort_order.specs.Walk.{ValidGraph}
+use Rattle.sort.specs.Steps.{gateIns, formComb, cellGates, cellComb, cellIns, cellGraph, HasRun, Cells}
 use Rattle.sort.proofs.Naming.{ins-nums}
-use Rattle.sort.proofs.Sorting.{graph-valid}
-use Rattle.sort.proofs.Keeps.{uses-within}
+use Rattle.sort_order.proofs.Sorting.{graph-valid}
+use Rattle.sort_order.proofs.Keeps.{uses-within}
 
 -- ---- a gate that can be read
 

@@ -13,9 +13,10 @@ use Rattle.lists.proofs.Counting.{hit-or, sum-occ, sum-le}
 use Rattle.signal.specs.Signal.{gateNode}
 use Rattle.signal.specs.Cell.{nodeOf, gateNumber}
 use Rattle.network.specs.Cells.{maxGates}
-use Rattle.sort.specs.Order.{Graph, lowered, pushed, countsAfter, stackAfter}
-use Rattle.sort.specs.Steps.{Good, named, gateIns, down, Walks, Lowers, Lowered}
-use Rattle.sort.proofs.Walk.{good-lower, next-below, next-count, next-fresh}
+use Rattle.sort_order.specs.Order.{Graph, lowered, pushed, countsAfter, stackAfter}
+use Rattle.sort_order.specs.Walk.{Good}
+use Rattle.sort.specs.Steps.{named, gateIns, down, Walks, Lowers, Lowered}
+use Rattle.sort_order.proofs.Walk.{good-lower, next-below, next-count, next-fresh}
 use Rattle.sort.proofs.Naming.{named-gate, named-none, named-own, drop-next}
 
 pub length-down : (k : ℕ) (l : List ℕ) → length (down k l) ≡ k

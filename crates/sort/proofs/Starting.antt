@@ -14,7 +14,7 @@ use borrow.Author.Tests.{eq-eqb, ne-eqb, lt-ltb, le-ltb}
 use Rattle.lists.proofs.Counting.{hit-or}
 use Rattle.lists.proofs.Tests.{le-or-lt}
 use Rattle.network.specs.Cells.{maxGates}
-use Rattle.sort.specs.Order.{Graph, pushed, flopsTo, startTo}
+use Rattle.sort_order.specs.Order.{Graph, pushed, flopsTo, startTo}
 use Rattle.sort.specs.Steps.{flopMark, Flopped, unmarked, Started, Marked}
 use Rattle.sort.proofs.Stack.{down-push}
 use Rattle.sort.proofs.Uses.{getD-zeros}

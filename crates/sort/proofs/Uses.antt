@@ -10,9 +10,9 @@ use lib.ListN.{length, getD, replicate, length-replicate}
 use Rattle.lists.specs.Lists.{occ, sumTo}
 use Rattle.lists.proofs.Counting.{last-or}
 use Rattle.network.specs.Cells.{maxGates, runAt}
-use Rattle.sort.specs.Order.{Graph, uses, useCount}
+use Rattle.sort_order.specs.Order.{Graph, uses, useCount}
 use Rattle.sort.specs.Steps.{gateIns, formComb, cellGraph, Cells, Raised, Countable, Counted}
-use Rattle.sort.proofs.Walk.{uses-comb, uses-flop, uses-ins}
+use Rattle.sort_order.proofs.Walk.{uses-comb, uses-flop, uses-ins}
 
 pub getD-zeros : (k v : ℕ) → getD {A = ℕ} (replicate k 0) v 0 ≡ 0
 getD-zeros zero v = refl

@@ -10,10 +10,11 @@ use lib.Seq.{drop-cons, getD-set-same, getD-set-other, drop-set-lt, take-set-le,
 use Rattle.lists.specs.Lists.{occ, listTo}
 use Rattle.lists.proofs.Counting.{hit-or, sum-occ, sum-le, length-listTo, getD-listTo}
 use Rattle.network.specs.Cells.{maxGates}
-use Rattle.sort.specs.Order.{Graph, uses, pushed, lowered, kept, countsAfter, stackAfter, walk, recorded, useCount}
-use Rattle.sort.specs.Steps.{ValidGraph, Good, budget, gateIns, down, Lowered, Walks, Marked, Ready, Visited, Begins, Recorded}
-use Rattle.sort.proofs.Walk.{good-lower, next-below, good-pop, good-all, budget-all, top-low, top-fresh, uses-comb, uses-flop}
-use Rattle.sort.proofs.WalkEnds.{good-start, budget-start}
+use Rattle.sort_order.specs.Order.{Graph, uses, pushed, lowered, kept, countsAfter, stackAfter, walk, recorded, useCount}
+use Rattle.sort_order.specs.Walk.{ValidGraph, Good, budget}
+use Rattle.sort.specs.Steps.{gateIns, down, Lowered, Walks, Marked, Ready, Visited, Begins, Recorded}
+use Rattle.sort_order.proofs.Walk.{good-lower, next-below, good-pop, good-all, budget-all, top-low, top-fresh, uses-comb, uses-flop}
+use Rattle.sort_order.proofs.WalkEnds.{good-start, budget-start}
 use Rattle.sort.proofs.Stack.{length-down}
 
 -- ---- lengths of the stack and of the recorded gates

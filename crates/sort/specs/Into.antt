@@ -16,7 +16,7 @@ use Rattle.sort.specs.declared.Sorted.{Sorted}
 use Rattle.sort.specs.declared.Sorted.the-variants.{Order, Loop}
 use Rattle.sort.specs.declared.Attempt.{Attempt}
 use Rattle.sort.specs.declared.Attempt.the-variants.{Refused, Done}
-use Rattle.sort.specs.Sorted.{sorted}
+use Rattle.sort_order.specs.Sorted.{sorted}
 
 -- an answer, and what the cells hold then
 pub record Outcome (A : Type 0) : Type 0 where

@@ -1,4 +1,2 @@
-pub mod Order
-pub mod Sorted
 pub mod Into
 pub mod Steps

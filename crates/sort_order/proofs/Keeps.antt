@@ -20,11 +20,11 @@ use Rattle.network.specs.Net.{Net, GateIs, Valid, Formed}
 use Rattle.network.specs.Cells.{pinCells}
 use Rattle.network.specs.Renumber.{remapGate, orZero, placeOf, gateOr, permuted}
 use Rattle.network.proofs.Renumbering.{renumbered-valid, pins-remap}
-use Rattle.sort.specs.Order.{uses, useCount, sortOrder}
-use Rattle.sort.specs.Sorted.{nodeGate, gateNums, combAt, insAt, graph}
-use Rattle.sort.proofs.Walk.{uses-comb, uses-ins}
-use Rattle.sort.proofs.Ordering.{place, place-here, place-there, place-right, sort-permutes, sort-length, sort-inputs, order-once, some-full}
-use Rattle.sort.proofs.Sorting.{point-nums, graph-valid, order-has, order-renumbers}
+use Rattle.sort_order.specs.Order.{uses, useCount, sortOrder}
+use Rattle.sort_order.specs.Sorted.{nodeGate, gateNums, combAt, insAt, graph}
+use Rattle.sort_order.proofs.Walk.{uses-comb, uses-ins}
+use Rattle.sort_order.proofs.Ordering.{place, place-here, place-there, place-right, sort-permutes, sort-length, sort-inputs, order-once, some-full}
+use Rattle.sort_order.proofs.Sorting.{point-nums, graph-valid, order-has, order-renumbers}
 
 -- ---- the new number is the place in the order
 

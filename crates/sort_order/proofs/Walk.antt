@@ -9,8 +9,8 @@ use lib.ListN.{length, getD, length-set}
 use lib.Seq.{getD-set-same, getD-set-other}
 use Rattle.lists.specs.Lists.{hit, occ}
 use Rattle.lists.proofs.Counting.{hit-ne, hit-or, hit-same, sum-point, part-le, zero-or}
-use Rattle.sort.specs.Order.{Graph, uses, lowered, pushed, countsAfter, stackAfter, kept, walk}
-use Rattle.sort.specs.Steps.{ValidGraph, pos, left, usesLeft, Good, budget}
+use Rattle.sort_order.specs.Order.{Graph, uses, lowered, pushed, countsAfter, stackAfter, kept, walk}
+use Rattle.sort_order.specs.Walk.{ValidGraph, pos, left, usesLeft, Good, budget}
 
 -- ---- one input
 

@@ -11,10 +11,10 @@ use lib.ListN.{length, getD}
 use borrow.Author.Tests.{eq-eqb, ne-eqb}
 use Rattle.lists.specs.Lists.{hit, occ, sumTo}
 use Rattle.lists.proofs.Counting.{hit-or, sum-le, sum-occ, all-one, some-zero, part-of, zero-or, occ-append}
-use Rattle.sort.specs.Order.{Graph, uses, flopsTo, recorded, order, sortOrder, walk, countsAfter, stackAfter, kept}
-use Rattle.sort.specs.Steps.{ValidGraph, Before, Good, usesLeft, left, budget}
-use Rattle.sort.proofs.Walk.{Ended, uses-comb, uses-ins, good-pop, good-all, budget-all}
-use Rattle.sort.proofs.WalkEnds.{flop-only, flop-has, recorded-ended}
+use Rattle.sort_order.specs.Order.{Graph, uses, flopsTo, recorded, order, sortOrder, walk, countsAfter, stackAfter, kept}
+use Rattle.sort_order.specs.Walk.{ValidGraph, Before, Good, usesLeft, left, budget}
+use Rattle.sort_order.proofs.Walk.{Ended, uses-comb, uses-ins, good-pop, good-all, budget-all}
+use Rattle.sort_order.proofs.WalkEnds.{flop-only, flop-has, recorded-ended}
 
 -- ---- loops of a graph
 

@@ -16,11 +16,11 @@ use Rattle.network.specs.Net.{Net, Valid, ValidNode, Feeds, Way, last, Loop}
 use Rattle.network.specs.Renumber.{permuted, placeOf, Orders, Renumbered}
 use Rattle.network.proofs.OneChoice.{way-snoc}
 use Rattle.network.proofs.Permuting.{permuted-renumbers}
-use Rattle.sort.specs.Order.{sortOrder}
-use Rattle.sort.specs.Sorted.{nodeGate, gateNums, combAt, insAt, graph, sortedBy, sorted}
-use Rattle.sort.specs.Steps.{ValidGraph}
-use Rattle.sort.proofs.Ordering as ord
-use Rattle.sort.proofs.Ordering.{one, more, some-full, order-below, sort-permutes, sort-none}
+use Rattle.sort_order.specs.Order.{sortOrder}
+use Rattle.sort_order.specs.Sorted.{nodeGate, gateNums, combAt, insAt, graph, sortedBy, sorted}
+use Rattle.sort_order.specs.Walk.{ValidGraph}
+use Rattle.sort_order.proofs.Ordering as ord
+use Rattle.sort_order.proofs.Ordering.{one, more, some-full, order-below, sort-permutes, sort-none}
 
 -- a gate among the signals' gates is what a signal points at
 nums-point : (d : ℕ) (ss : List Signal) → List·Memᴰ d (gateNums ss) → (s : Signal) × List·Memᴰ s ss × (s .node ≡ Gated d)

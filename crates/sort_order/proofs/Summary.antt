@@ -17,12 +17,12 @@ use Rattle.network.specs.Clock.{zeroBits}
 use Rattle.network.specs.Settle.{runFrom, run}
 use Rattle.network.specs.Renumber.{placeOf, permuted}
 use Rattle.network.proofs.Summary.{renumbered-runs}
-use Rattle.sort.specs.Order.{useCount, startTo, walk, recorded, sortOrder}
-use Rattle.sort.specs.Sorted.{graph, sorted, Preserved}
-use Rattle.sort.proofs.WalkEnds.{good-start, budget-start}
-use Rattle.sort.proofs.Ordering as ord
-use Rattle.sort.proofs.Sorting.{graph-valid, sorted-order, none-loop, sorted-free, order-renumbers}
-use Rattle.sort.proofs.Keeps.{lower, uses-within, kept-valid, kept-formed, kept-gates, kept-outputs, kept-pins}
+use Rattle.sort_order.specs.Order.{useCount, startTo, walk, recorded, sortOrder}
+use Rattle.sort_order.specs.Sorted.{graph, sorted, Preserved}
+use Rattle.sort_order.proofs.WalkEnds.{good-start, budget-start}
+use Rattle.sort_order.proofs.Ordering as ord
+use Rattle.sort_order.proofs.Sorting.{graph-valid, sorted-order, none-loop, sorted-free, order-renumbers}
+use Rattle.sort_order.proofs.Keeps.{lower, uses-within, kept-valid, kept-formed, kept-gates, kept-outputs, kept-pins}
 
 -- "New order: flip-flops in old order, then the recorded gates backwards": every gate's number stands in the order exactly once
 pub sort-permutes : (net : Net) → Valid net → (l : List ℕ) → sortOrder (graph net) ≡ some l

@@ -11,7 +11,7 @@ use Rattle.gates.specs.Gate.{Gate, pins, isComb}
 use Rattle.network.specs.Net.{Net, Valid, Formed}
 use Rattle.network.specs.Cells.{pinCells}
 use Rattle.network.specs.Renumber.{permuted}
-use Rattle.sort.specs.Order.{Graph, sortOrder}
+use Rattle.sort_order.specs.Order.{Graph, sortOrder}
 
 -- a node's gate before others; a constant and an input are no gates
 abbrev pub nodeGate : Node → List ℕ → List ℕ

@@ -8,9 +8,9 @@ use native.Mathlib.Omega.{arith}
 use lib.ListN.{length, getD}
 use Rattle.lists.specs.Lists.{hit, occ, sumTo, listTo}
 use Rattle.lists.proofs.Counting.{hit-eq, hit-or, sum-cong, last-or, zero-or, occ-append, length-listTo, getD-listTo}
-use Rattle.sort.specs.Order.{Graph, useCount, pushed, flopsTo, startTo, recorded}
-use Rattle.sort.specs.Steps.{ValidGraph, pos, Good, budget}
-use Rattle.sort.proofs.Walk.{Ended, walk-ends}
+use Rattle.sort_order.specs.Order.{Graph, useCount, pushed, flopsTo, startTo, recorded}
+use Rattle.sort_order.specs.Walk.{ValidGraph, pos, Good, budget}
+use Rattle.sort_order.proofs.Walk.{Ended, walk-ends}
 
 module _ (G : Graph) (f : ℕ → ℕ) where
   -- v stands in l at most once, and only if it is below k with count zero
