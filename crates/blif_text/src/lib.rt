@@ -318,6 +318,12 @@ pub fn token(text: &[u8], cell: u32) -> &[u8]
 pub fn keyword_of(token: &[u8]) -> Keyword
     ensures { λ r. ⌜ r ≡ keywordOf (now (token .entry)) ⌝ }
 {
+    if token.len() == 0 {
+        return Keyword::Cube;
+    }
+    if token[0] != b'.' {
+        return Keyword::Cube;
+    }
     if equal(token, b".model") {
         return Keyword::Model;
     }
@@ -339,13 +345,7 @@ pub fn keyword_of(token: &[u8]) -> Keyword
     if equal(token, b".exdc") {
         return Keyword::Exdc;
     }
-    if token.len() == 0 {
-        return Keyword::Cube;
-    }
-    if token[0] == b'.' {
-        return Keyword::Unsupported;
-    }
-    Keyword::Cube
+    Keyword::Unsupported
 }
 
 // The end of the row that starts at a place: the next row's start, or n.
