@@ -71,27 +71,32 @@ enough-same h a b c d e =
       workPins = omega (arith, h .workPins, e);
     }
 
--- ---- a search for one that passes the test
+-- ---- whether one passes the test
 
--- none of the first i passes: what is left tests as the whole does
-pub record Seeking (p : ℕ → Bool) (l : List ℕ) (i : ℕ) : Type 0 where
+-- found says of the first i whether one passes: with what is left it says so of the whole
+pub record Seeking (p : ℕ → Bool) (l : List ℕ) (found : Bool) (i : ℕ) : Type 0 where
   pub within : i ≤ length l
-  pub rest : any p (drop i l) ≡ any p l
+  pub rest : (found || any p (drop i l)) ≡ any p l
 
-pub seek-start : {p : ℕ → Bool} {l : List ℕ} → Seeking p l 0
+pub seek-start : {p : ℕ → Bool} {l : List ℕ} → Seeking p l false 0
 seek-start = record { within = omega arith; rest = refl }
 
-module _ {p : ℕ → Bool} {l : List ℕ} {i : ℕ} (c : Seeking p l i) where
-  pub seek-next : i < length l → p (getD l i 0) ≡ false → Seeking p l (i + 1)
-  seek-next h t =
-      let e : any p (drop (i + 1) l) ≡ any p (drop i l) = rw (add-one, drop-cons l i 0 h, t) in
-      record { within = omega arith; rest = e ∙ c .rest }
+or-assoc : (a b c : Bool) → ((a || b) || c) ≡ (a || (b || c))
+or-assoc true b c = refl
+or-assoc false b c = refl
 
-  pub seek-found : i < length l → p (getD l i 0) ≡ true → true ≡ any p l
-  seek-found h t = let e : any p (drop i l) ≡ true = rw (drop-cons l i 0 h, t) in sym e ∙ c .rest
+or-none : (a : Bool) → (a || false) ≡ a
+or-none true = refl
+or-none false = refl
 
-  pub seek-none : length l ≤ i → false ≡ any p l
-  seek-none h = let e : any p (drop i l) ≡ false = rw (drop-of-length-le l h) in sym e ∙ c .rest
+module _ {p : ℕ → Bool} {l : List ℕ} {found : Bool} {i : ℕ} (c : Seeking p l found i) where
+  pub seek-next : i < length l → Seeking p l (found || p (getD l i 0)) (i + 1)
+  seek-next h =
+      let e : (p (getD l i 0) || any p (drop (i + 1) l)) ≡ any p (drop i l) = rw (add-one, drop-cons l i 0 h) in
+      record { within = omega arith; rest = or-assoc found (p (getD l i 0)) (any p (drop (i + 1) l)) ∙ ap (λ (b : Bool). found || b) e ∙ c .rest }
+
+  pub seek-done : length l ≤ i → found ≡ any p l
+  seek-done h = let e : any p (drop i l) ≡ false = rw (drop-of-length-le l h) in sym (ap (λ (b : Bool). found || b) e ∙ or-none found) ∙ c .rest
 
 -- ---- cells cleared
 
