@@ -1,16 +1,14 @@
--- Refusal 1, the search for a byte of 128 or more, and cells cleared from a place on. Assumes nothing.
-use mathlib.Core.Path.{_≡_, refl, sym, ap, _∙_, subst}
-use mathlib.Core.Bool.{Bool, true, false, _&&_, _||_}
+-- Refusal 1, and cells cleared from a place on. Assumes nothing.
+use mathlib.Core.Path.{_≡_, refl, sym, ap, _∙_}
+use mathlib.Core.Bool.{true, false, _&&_}
 use mathlib.Core.List.{List, [], _∷_, _++_, append-nil}
 use Prim.Native.Nat.{ℕ, zero, suc, _+_, _-_, _*_, _≤_, _<_}
 use native.Mathlib.Omega.{arith}
-use native.Mathlib.Numerals.{add-one}
 use lib.Dec.{leb}
-use lib.ListN.{length, getD, take, drop, replicate, length-drop, drop-of-length-le}
-use lib.Seq.{drop-cons, take-all}
+use lib.ListN.{length, take, drop, length-drop, drop-of-length-le}
 use borrow.Rule.Slice.PartMut.{midOf, putMid, post-is, mid-len}
 use borrow.Author.Tests.{le-leb, lt-leb, leb-true}
-use Rattle.lists.specs.Lists.{Bytes, any, zeros, over}
+use Rattle.lists.specs.Lists.{zeros, over}
 use Rattle.lists.proofs.Tests.{and-false, and-left, and-right}
 use Rattle.network.specs.Cells.{gateWidth, maxGates, maxPins, maxOutputs}
 use Rattle.blif_read.specs.Into.{Lengths, lengths, enough}
@@ -70,33 +68,6 @@ enough-same h a b c d e =
       workGates = omega (arith, h .workGates, d);
       workPins = omega (arith, h .workPins, e);
     }
-
--- ---- whether one passes the test
-
--- found says of the first i whether one passes: with what is left it says so of the whole
-pub record Seeking (p : ℕ → Bool) (l : List ℕ) (found : Bool) (i : ℕ) : Type 0 where
-  pub within : i ≤ length l
-  pub rest : (found || any p (drop i l)) ≡ any p l
-
-pub seek-start : {p : ℕ → Bool} {l : List ℕ} → Seeking p l false 0
-seek-start = record { within = omega arith; rest = refl }
-
-or-assoc : (a b c : Bool) → ((a || b) || c) ≡ (a || (b || c))
-or-assoc true b c = refl
-or-assoc false b c = refl
-
-or-none : (a : Bool) → (a || false) ≡ a
-or-none true = refl
-or-none false = refl
-
-module _ {p : ℕ → Bool} {l : List ℕ} {found : Bool} {i : ℕ} (c : Seeking p l found i) where
-  pub seek-next : i < length l → Seeking p l (found || p (getD l i 0)) (i + 1)
-  seek-next h =
-      let e : (p (getD l i 0) || any p (drop (i + 1) l)) ≡ any p (drop i l) = rw (add-one, drop-cons l i 0 h) in
-      record { within = omega arith; rest = or-assoc found (p (getD l i 0)) (any p (drop (i + 1) l)) ∙ ap (λ (b : Bool). found || b) e ∙ c .rest }
-
-  pub seek-done : length l ≤ i → found ≡ any p l
-  seek-done h = let e : any p (drop i l) ≡ false = rw (drop-of-length-le l h) in sym (ap (λ (b : Bool). found || b) e ∙ or-none found) ∙ c .rest
 
 -- ---- cells cleared
 

@@ -4,7 +4,7 @@ use native.Mathlib.Omega.{arith}
 use lib.Dec.{leb}
 use lib.ListN.{length}
 use borrow.Author.Needs.{needs}
-use Rattle.blif_read.proofs.Lending.{Seeking, seek-start, seek-next, seek-done}
+use Rattle.blif_text.proofs.Loops.{Seeking, seek-start, seek-next, seek-done}
 use Rattle.blif_read.proofs.has_high_byte.Statement.{statement}
 use Rattle.blif_read.proofs.has_high_byte.Tie as tie
 
