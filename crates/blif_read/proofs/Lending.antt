@@ -1,16 +1,14 @@
--- Refusal 1, the search for a byte of 128 or more, and cells cleared from a place on. Assumes nothing.
-use mathlib.Core.Path.{_≡_, refl, sym, ap, _∙_, subst}
-use mathlib.Core.Bool.{Bool, true, false, _&&_, _||_}
+-- Refusal 1, and cells cleared from a place on. Assumes nothing.
+use mathlib.Core.Path.{_≡_, refl, sym, ap, _∙_}
+use mathlib.Core.Bool.{true, false, _&&_}
 use mathlib.Core.List.{List, [], _∷_, _++_, append-nil}
 use Prim.Native.Nat.{ℕ, zero, suc, _+_, _-_, _*_, _≤_, _<_}
 use native.Mathlib.Omega.{arith}
-use native.Mathlib.Numerals.{add-one}
 use lib.Dec.{leb}
-use lib.ListN.{length, getD, take, drop, replicate, length-drop, drop-of-length-le}
-use lib.Seq.{drop-cons, take-all}
+use lib.ListN.{length, take, drop, length-drop, drop-of-length-le}
 use borrow.Rule.Slice.PartMut.{midOf, putMid, post-is, mid-len}
 use borrow.Author.Tests.{le-leb, lt-leb, leb-true}
-use Rattle.lists.specs.Lists.{Bytes, any, zeros, over}
+use Rattle.lists.specs.Lists.{zeros, over}
 use Rattle.lists.proofs.Tests.{and-false, and-left, and-right}
 use Rattle.network.specs.Cells.{gateWidth, maxGates, maxPins, maxOutputs}
 use Rattle.blif_read.specs.Into.{Lengths, lengths, enough}
@@ -70,28 +68,6 @@ enough-same h a b c d e =
       workGates = omega (arith, h .workGates, d);
       workPins = omega (arith, h .workPins, e);
     }
-
--- ---- a search for one that passes the test
-
--- none of the first i passes: what is left tests as the whole does
-pub record Seeking (p : ℕ → Bool) (l : List ℕ) (i : ℕ) : Type 0 where
-  pub within : i ≤ length l
-  pub rest : any p (drop i l) ≡ any p l
-
-pub seek-start : {p : ℕ → Bool} {l : List ℕ} → Seeking p l 0
-seek-start = record { within = omega arith; rest = refl }
-
-module _ {p : ℕ → Bool} {l : List ℕ} {i : ℕ} (c : Seeking p l i) where
-  pub seek-next : i < length l → p (getD l i 0) ≡ false → Seeking p l (i + 1)
-  seek-next h t =
-      let e : any p (drop (i + 1) l) ≡ any p (drop i l) = rw (add-one, drop-cons l i 0 h, t) in
-      record { within = omega arith; rest = e ∙ c .rest }
-
-  pub seek-found : i < length l → p (getD l i 0) ≡ true → true ≡ any p l
-  seek-found h t = let e : any p (drop i l) ≡ true = rw (drop-cons l i 0 h, t) in sym e ∙ c .rest
-
-  pub seek-none : length l ≤ i → false ≡ any p l
-  seek-none h = let e : any p (drop i l) ≡ false = rw (drop-of-length-le l h) in sym e ∙ c .rest
 
 -- ---- cells cleared
 

@@ -74,14 +74,13 @@ fn enough_cells(
 fn has_high_byte(text: &[u8]) -> bool
     ensures { λ r. ⌜ r ≡ any (leb 128) (now (text .entry)) ⌝ }
 {
+    let mut high = false;
     let mut i = 0;
     while i < text.len() {
-        if text[i] >= 128 {
-            return true;
-        }
+        high = high | (text[i] >= 128);
         i += 1;
     }
-    false
+    high
 }
 
 // Builds the covers' gates and sorts the network: refusal 14.

@@ -53,16 +53,18 @@ unfolding headD
 head-is [] = refl
 head-is (c ∷ k) = refl
 
--- an empty token is no keyword
-pub dot-empty : (k : Bytes) → length k ≡ 0 → dotted k ≡ key.Cube
-unfolding headD
-dot-empty [] h = refl
-dot-empty (c ∷ k) h = absurd (omega arith)
-
 -- a dot first, and none of the names
 pub dot-first : (k : Bytes) → getD k 0 0 ≡ 46 → dotted k ≡ key.Unsupported
 dot-first k h = rw (eq-eqb 46 (headD k 0) (sym (head-is k ∙ h)))
 
--- no dot first
-pub no-dot-first : (k : Bytes) → (getD k 0 0 ≡ 46 → ⊥) → dotted k ≡ key.Cube
-no-dot-first k f = rw (ne-eqb 46 (headD k 0) (λ q. f (sym (q ∙ head-is k))))
+-- no dot first: no keyword
+pub no-dot-first : (k : Bytes) → (getD k 0 0 ≡ 46 → ⊥) → keywordOf k ≡ key.Cube
+unfolding keywordOf same headD
+no-dot-first [] f = refl
+no-dot-first (c ∷ k) f = rw (ne-eqb c 46 f, ne-eqb 46 c (λ q. f (sym q)))
+
+-- an empty token is no keyword
+pub no-bytes : (k : Bytes) → length k ≡ 0 → keywordOf k ≡ key.Cube
+unfolding keywordOf same headD
+no-bytes [] h = refl
+no-bytes (c ∷ k) h = absurd (omega arith)

@@ -3,9 +3,10 @@ pub mod Splitting
 pub mod Saying
 pub mod Scan
 pub mod Loops
-pub mod LineLaws
 pub mod WordLaws
+pub mod LineLaws
 pub mod RowLaws
+pub mod ScanLaws
 pub mod KeywordLaws
 pub mod StatementLaws
 pub mod RowWalk

@@ -1,21 +1,21 @@
--- The line at a place, and the part of a line that holds its tokens. Assumes nothing.
-use mathlib.Core.Path.{_≡_, refl, sym, ap, _∙_, subst}
-use mathlib.Core.Bool.{Bool, true, false, not, _&&_, _||_}
-use mathlib.Core.List.{List, [], _∷_, _++_, append-nil}
-use mathlib.Core.Logic.{_⊎_, inl, inr}
-use Prim.Native.Nat.{ℕ, zero, suc, _+_, _-_, _≤_, _<_}
+-- The line at a place, its last byte, and what a comment leaves of it. Assumes nothing.
+use mathlib.Core.Path.{_≡_, refl, sym, ap, ap₂, _∙_, subst}
+use mathlib.Core.Bool.{true, false}
+use mathlib.Core.List.{[], _∷_, _++_, append-nil}
+use Prim.Native.Nat.{ℕ, suc, _+_, _-_, _≤_, _<_}
 use native.Mathlib.Omega.{arith}
 use native.Mathlib.Numerals.{add-one}
 use lib.Dec.{eqb}
 use lib.ListN.{length, getD, take, drop, drop-of-length-le}
-use lib.Seq.{drop-cons, take-suc, drop-append-le, length-take-le, slice, slice-empty, take-all}
+use lib.Seq.{drop-cons, take-suc, take-take, drop-append-le, length-take-le, getD-take, getD-drop, slice, slice-empty, length-slice}
 use borrow.Author.Tests.{eq-eqb, ne-eqb}
 use Rattle.lists.specs.Lists.{if_then_else_, Bytes, any}
-use Rattle.lists.proofs.Tests.{and-false, by-test}
+use Rattle.lists.proofs.Tests.{by-test, or-left, or-right}
 use Rattle.blif_text.specs.Lines.{lines, split, dropCR, cut, continues}
-use Rattle.blif_text.specs.Scan.{LineTo, LineAt, PartOf}
+use Rattle.blif_text.specs.Scan.{LineTo}
 use Rattle.blif_text.proofs.Parts.{Without}
 use Rattle.blif_text.proofs.Scan.{without-slice, slice-drop, chop, lines-at, lines-end}
+use Rattle.blif_text.proofs.WordLaws.{drop-take}
 
 -- ---- CR
 
@@ -33,7 +33,15 @@ slice-snoc t a m h k =
 
 -- ---- the line at a place
 
-lines-none : lines [] ≡ []
+-- the text from at on is a line up to stop, and lines from next on
+pub record LineAt (t : Bytes) (at stop next : ℕ) : Type 0 where
+  pub low : at ≤ stop
+  pub moves : at < next
+  pub high : next ≤ length t
+  -- "LF ends a line, and one CR directly before it goes too"
+  pub is : lines (drop at t) ≡ slice at stop t ∷ lines (drop next t)
+
+pub lines-none : lines [] ≡ []
 unfolding lines split dropCR
 lines-none = refl
 
@@ -61,8 +69,6 @@ module _ {t : Bytes} {at end : ℕ} (l : at < length t) (e : LineTo t at end) wh
         low = e .low;
         moves = omega arith;
         high = e .high;
-        before = omega arith;
-        apart = inr (omega (arith, e .high));
         is = s ∙ rw (drop-of-length-le t {i = end} h, lines-none) (ap (λ (x : Bytes). x ∷ []) q);
       }
 
@@ -73,13 +79,11 @@ module _ {t : Bytes} {at end : ℕ} (l : at < length t) (e : LineTo t at end) wh
         low = e .low;
         moves = omega arith;
         high = omega arith;
-        before = omega arith;
-        apart = inl (omega arith);
         is = ended h ∙ ap (λ (x : Bytes). x ∷ lines (drop (end + 1) t)) (rw n (unfold chop in refl));
       }
 
   module _ (h : end < length t) (d : end ≡ at → ⊥) where
-    last-byte : slice at end t ≡ slice at (end - 1) t ++ getD t (end - 1) 0 ∷ []
+    pub last-byte : slice at end t ≡ slice at (end - 1) t ++ getD t (end - 1) 0 ∷ []
     last-byte =
         let q : end ≡ suc (end - 1) = omega (arith, e .low) in
         ap (λ (k : ℕ). slice at k t) q ∙ slice-snoc t at (end - 1) (omega (arith, e .low)) (omega arith)
@@ -90,8 +94,6 @@ module _ {t : Bytes} {at end : ℕ} (l : at < length t) (e : LineTo t at end) wh
           low = omega (arith, e .low);
           moves = omega (arith, e .low);
           high = omega arith;
-          before = omega arith;
-          apart = inl (omega arith);
           is =
               ended h
               ∙ ap (λ (x : Bytes). x ∷ lines (drop (end + 1) t))
@@ -104,8 +106,6 @@ module _ {t : Bytes} {at end : ℕ} (l : at < length t) (e : LineTo t at end) wh
           low = e .low;
           moves = omega (arith, e .low);
           high = omega arith;
-          before = omega arith;
-          apart = inl (omega arith);
           is =
               ended h
               ∙ ap (λ (x : Bytes). x ∷ lines (drop (end + 1) t))
@@ -113,74 +113,47 @@ module _ {t : Bytes} {at end : ℕ} (l : at < length t) (e : LineTo t at end) wh
               ∙ rw (ne-eqb 13 (getD t (end - 1) 0) (λ z. c (sym z))) (sym last-byte));
         }
 
--- ---- the part of a line
+-- ---- comments
 
-cut-take : (l : Bytes) → take (length (cut l)) l ≡ cut l
+pub cut-plain : (l : Bytes) → Without (eqb 35) l → cut l ≡ l
 unfolding cut
-cut-take [] = refl
-cut-take (c ∷ l) = by-test (eqb 35 c) (λ h. rw h) (λ h. rw h (ap (λ (s : Bytes). c ∷ s) (cut-take l)))
+cut-plain [] f = refl
+cut-plain (c ∷ l) f = rw (or-left (eqb 35 c) (any (eqb 35) l) f) (ap (λ (s : Bytes). c ∷ s) (cut-plain l (or-right (eqb 35 c) (any (eqb 35) l) f)))
 
-pub cut-short : (l : Bytes) → length (cut l) ≤ length l
+pub cut-behind : (w s : Bytes) → Without (eqb 35) w → cut (w ++ 35 ∷ s) ≡ w
 unfolding cut
-cut-short [] = omega arith
-cut-short (c ∷ l) = by-test (eqb 35 c) (λ h. rw h (omega arith)) (λ h. rw h (omega (arith, cut-short l)))
+cut-behind [] s f = refl
+cut-behind (c ∷ w) s f = rw (or-left (eqb 35 c) (any (eqb 35) w) f) (ap (λ (r : Bytes). c ∷ r) (cut-behind w s (or-right (eqb 35 c) (any (eqb 35) w) f)))
 
--- a line that is cut has a `#`
-cut-some : (l : Bytes) → length (cut l) < length l → any (eqb 35) l ≡ true
-unfolding cut
-cut-some [] h = absurd (omega arith)
-cut-some (c ∷ l) h =
-    by-test (eqb 35 c) (λ e. rw e)
-    (λ e. let k : suc (length (cut l)) < suc (length l) = rw e at h in rw e (cut-some l (omega arith)))
+has-comment : (w s : Bytes) → any (eqb 35) (w ++ 35 ∷ s) ≡ true
+has-comment [] s = refl
+has-comment (c ∷ w) s = by-test (eqb 35 c) (λ h. rw h) (λ h. rw h (has-comment w s))
 
-cut-whole : (l : Bytes) → length l ≤ length (cut l) → any (eqb 35) l ≡ false
-unfolding cut
-cut-whole [] h = refl
-cut-whole (c ∷ l) h =
-    by-test (eqb 35 c) (λ e. let k : suc (length l) ≤ 0 = rw e at h in absurd (omega arith))
-    (λ e. let k : suc (length l) ≤ suc (length (cut l)) = rw e at h in rw e (cut-whole l (omega arith)))
-
-continues-cut : (s : Bytes) → any (eqb 35) s ≡ true → continues s ≡ false
+-- a line with a comment does not go on
+pub comment-ends : (w s : Bytes) → continues (w ++ 35 ∷ s) ≡ false
 unfolding continues
-continues-cut s q = rw q
+comment-ends w s = rw (has-comment w s)
 
-continues-none : (s : Bytes) → length s ≡ 0 → continues s ≡ false
+-- ---- the last byte
+
+pub continues-none : (s : Bytes) → length s ≡ 0 → continues s ≡ false
 unfolding continues
 continues-none [] q = refl
 continues-none (c ∷ s) q = absurd (omega arith)
 
--- the code's places: where the comment starts
-module _ (l : Bytes) {end : ℕ} (e : end ≡ length (cut l)) where
-  to-cut : take end l ≡ cut l
-  to-cut = ap (λ (k : ℕ). take k l) e ∙ cut-take l
+module _ (t : Bytes) (a e : ℕ) (h : a < e) (k : e ≤ length t) where
+  last-is : getD (slice a e t) (length (slice a e t) - 1) 0 ≡ getD t (e - 1) 0
+  last-is =
+      let q : a + (length (slice a e t) - 1) ≡ e - 1 = omega (arith, length-slice a e t k) in
+      getD-drop a (take e t) (length (slice a e t) - 1) 0 ∙ ap (λ (j : ℕ). getD (take e t) j 0) q ∙ getD-take e t (e - 1) 0 (omega arith)
 
-  stays : continues l ≡ false → PartOf l end false
-  stays c =
-      record { high = omega (arith, cut-short l); goes = sym c; part = rw c to-cut }
+  -- a line without a comment goes on where its last byte is a backslash
+  pub continues-last : Without (eqb 35) (slice a e t) → continues (slice a e t) ≡ eqb 92 (getD t (e - 1) 0)
+  unfolding continues
+  continues-last w = rw w (ap (eqb 92) last-is)
 
-  pub part-comment : end < length l → PartOf l end false
-  part-comment h = stays (continues-cut l (cut-some l (omega arith)))
-
-  module _ (h : length l ≤ end) where
-    whole : any (eqb 35) l ≡ false
-    whole = cut-whole l (omega arith)
-
-    all-of : end ≡ length l
-    all-of = omega (arith, cut-short l)
-
-    last-is : getD l (length l - 1) 0 ≡ getD l (end - 1) 0
-    last-is = ap (λ (k : ℕ). getD l (k - 1) 0) (sym all-of)
-
-    pub part-empty : end ≡ 0 → PartOf l end false
-    part-empty z =
-        let n : length l ≡ 0 = omega (arith, all-of) in
-        stays (continues-none l n)
-
-    pub part-goes : (end ≡ 0 → ⊥) → getD l (end - 1) 0 ≡ 92 → PartOf l (end - 1) true
-    part-goes z c =
-        let on : continues l ≡ true = unfold continues in rw (whole) (eq-eqb 92 (getD l (length l - 1) 0) (sym (last-is ∙ c))) in
-        let k : end - 1 ≡ length l - 1 = ap (λ (m : ℕ). m - 1) all-of in
-        record { high = omega (arith, all-of); goes = sym on; part = rw on (ap (λ (m : ℕ). take m l) k) }
-
-    pub part-plain : (getD l (end - 1) 0 ≡ 92 → ⊥) → PartOf l end false
-    part-plain c = stays (unfold continues in rw (whole) (ne-eqb 92 (getD l (length l - 1) 0) (λ q. c (sym last-is ∙ sym q))))
+  -- the line without it
+  pub front-is : take (length (slice a e t) - 1) (slice a e t) ≡ slice a (e - 1) t
+  front-is =
+      let n : length (slice a e t) - 1 ≡ e - 1 - a = omega (arith, length-slice a e t k) in
+      ap₂ (λ (j : ℕ) (l : Bytes). take j l) n (drop-take a e t) ∙ take-take (e - 1 - a) (e - a) (drop a t) (omega arith) ∙ sym (drop-take a (e - 1) t)

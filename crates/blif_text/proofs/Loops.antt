@@ -1,39 +1,51 @@
 -- One step of each scanning loop. Assumes nothing.
 use mathlib.Core.Path.{_≡_, refl, sym, ap, _∙_, subst}
-use mathlib.Core.Bool.{Bool, true, false}
+use mathlib.Core.Bool.{Bool, true, false, _||_}
 use mathlib.Core.List.{List, [], _∷_}
-use Prim.Native.Nat.{ℕ, suc, _+_, _≤_, _<_}
+use Prim.Native.Nat.{ℕ, zero, suc, _+_, _-_, _≤_, _<_}
 use native.Mathlib.Omega.{arith}
 use native.Mathlib.Numerals.{add-one}
 use lib.Dec.{eqb}
-use lib.ListN.{length, getD, drop, drop-of-length-le}
-use lib.Seq.{drop-cons}
-use borrow.Author.Tests.{eq-eqb, ne-eqb}
-use Rattle.lists.specs.Lists.{Bytes}
-use Rattle.lists.proofs.Tests.{by-order}
-use Rattle.blif_text.specs.Lines.{cut, isBlank, tokens}
+use lib.ListN.{length, getD, take, drop, length-drop, drop-of-length-le}
+use lib.Seq.{drop-cons, length-take-le, getD-take, getD-drop}
+use Rattle.lists.specs.Lists.{Bytes, any}
+use Rattle.lists.proofs.Tests.{by-order, or-left, or-right}
 use Rattle.blif_text.specs.Places.{isFirst}
 use Rattle.blif_text.specs.Keywords.{RowTo}
-use Rattle.blif_text.specs.Scan.{BlanksTo, WordTo, LineTo}
-use Rattle.blif_text.proofs.Scan.{tokens-skip}
+use Rattle.blif_text.specs.Scan.{endsWord, WordTo, NoLine, LineTo}
 
--- ---- blanks
+-- ---- whether one passes the test
 
--- blanks so far
-pub record Blanks (t : Bytes) (at i : ℕ) : Type 0 where
-  pub low : at ≤ i
-  pub high : i ≤ length t
-  pub kept : tokens (drop i t) ≡ tokens (drop at t)
+-- found says of the first i whether one passes: with what is left it says so of the whole
+pub record Seeking (p : ℕ → Bool) (l : List ℕ) (found : Bool) (i : ℕ) : Type 0 where
+  pub within : i ≤ length l
+  pub rest : (found || any p (drop i l)) ≡ any p l
 
-pub blanks-start : {t : Bytes} {at : ℕ} → at ≤ length t → Blanks t at at
-blanks-start h = record { low = omega arith; high = h; kept = refl }
+pub seek-start : {p : ℕ → Bool} {l : List ℕ} → Seeking p l false 0
+seek-start = record { within = omega arith; rest = refl }
 
-module _ {t : Bytes} {at i : ℕ} (c : Blanks t at i) where
-  pub blanks-next : i < length t → isBlank (getD t i 0) ≡ true → Blanks t at (i + 1)
-  blanks-next h e = record { low = omega (arith, c .low); high = omega arith; kept = tokens-skip t i h e ∙ c .kept }
+or-assoc : (a b c : Bool) → ((a || b) || c) ≡ (a || (b || c))
+or-assoc true b c = refl
+or-assoc false b c = refl
 
-  pub blanks-stop : (i < length t → isBlank (getD t i 0) ≡ false) → BlanksTo t at i
-  blanks-stop f = record { low = c .low; high = c .high; kept = c .kept; stop = f }
+pub or-none : (a : Bool) → (a || false) ≡ a
+or-none true = refl
+or-none false = refl
+
+module _ {p : ℕ → Bool} {l : List ℕ} {found : Bool} {i : ℕ} (c : Seeking p l found i) where
+  pub seek-next : i < length l → Seeking p l (found || p (getD l i 0)) (i + 1)
+  seek-next h =
+      let e : (p (getD l i 0) || any p (drop (i + 1) l)) ≡ any p (drop i l) = rw (add-one, drop-cons l i 0 h) in
+      record { within = omega arith; rest = or-assoc found (p (getD l i 0)) (any p (drop (i + 1) l)) ∙ ap (λ (b : Bool). found || b) e ∙ c .rest }
+
+  pub seek-done : length l ≤ i → found ≡ any p l
+  seek-done h = let e : any p (drop i l) ≡ false = rw (drop-of-length-le l h) in sym (ap (λ (b : Bool). found || b) e ∙ or-none found) ∙ c .rest
+
+-- where none passes, no element does
+none-passes : (p : ℕ → Bool) (l : List ℕ) → any p l ≡ false → (k : ℕ) → k < length l → p (getD l k 0) ≡ false
+none-passes p [] e k h = absurd (omega arith)
+none-passes p (x ∷ l) e zero h = or-left (p x) (any p l) e
+none-passes p (x ∷ l) e (suc k) h = none-passes p l (or-right (p x) (any p l) e) k (omega arith)
 
 -- ---- words, lines and rows: bytes that fail a test so far
 
@@ -54,8 +66,32 @@ module _ {p : ℕ → Bool} {t : Bytes} {at i : ℕ} (c : Passed p t at i) where
         none = λ k a b. by-order i k (λ m. let q : i ≡ k = omega arith in subst (λ (j : ℕ). p (getD t j 0) ≡ false) q e) (λ m. c .none k a m);
       }
 
-pub word-stop : {t : Bytes} {at i : ℕ} → Passed isBlank t at i → (i < length t → isBlank (getD t i 0) ≡ true) → WordTo t at i
+  -- a block in which none passes
+  pub passed-block : (n : ℕ) → i + n ≤ length t → any p (take (i + n - i) (drop i t)) ≡ false → Passed p t at (i + n)
+  passed-block n h e =
+      let m : i + n - i ≡ n = omega arith in
+      let f : any p (take n (drop i t)) ≡ false = subst (λ (j : ℕ). any p (take j (drop i t)) ≡ false) m e in
+      record {
+        low = omega (arith, c .low);
+        high = h;
+        none = λ k a b.
+            by-order i k
+            (λ o.
+            let j : ℕ = k - i in
+            let q : i + j ≡ k = omega arith in
+            let z : j < length (take n (drop i t)) = rw (length-take-le n (drop i t) (rw (length-drop i t) (omega arith))) (omega arith) in
+            subst (λ (x : ℕ). p x ≡ false) (getD-take n (drop i t) j 0 (omega arith) ∙ getD-drop i t j 0 ∙ ap (λ (x : ℕ). getD t x 0) q) (none-passes p (take n (drop i t)) f j z))
+            (λ o. c .none k a o);
+      }
+
+pub word-stop : {t : Bytes} {at i : ℕ} → Passed endsWord t at i → (i < length t → endsWord (getD t i 0) ≡ true) → WordTo t at i
 word-stop c f = record { low = c .low; high = c .high; word = c .none; stop = f }
+
+pub no-line : {t : Bytes} {at i : ℕ} → Passed (eqb 10) t at i → NoLine t at i
+no-line c = record { low = c .low; high = c .high; none = c .none }
+
+pub passed-line : {t : Bytes} {at i : ℕ} → NoLine t at i → Passed (eqb 10) t at i
+passed-line c = record { low = c .low; high = c .high; none = c .none }
 
 pub line-stop : {t : Bytes} {at i : ℕ} → Passed (eqb 10) t at i → (i < length t → getD t i 0 ≡ 10) → LineTo t at i
 line-stop c f = record { low = c .low; high = c .high; none = c .none; stop = f }
@@ -63,42 +99,3 @@ line-stop c f = record { low = c .low; high = c .high; none = c .none; stop = f 
 -- a row's end, where each cell behind its first has been passed
 pub row-stop : {t : List ℕ} {at n i : ℕ} → Passed isFirst t (at + 1) i → i ≤ n → (i < n → isFirst (getD t i 0) ≡ true) → RowTo t at n i
 row-stop c h f = record { low = omega (arith, c .low); high = h; inner = λ k a b. c .none k (omega arith) b; stop = f }
-
--- ---- comments
-
--- no `#` so far
-pub record NoComment (t : Bytes) (i : ℕ) : Type 0 where
-  pub high : i ≤ length t
-  pub rest : length (cut t) ≡ i + length (cut (drop i t))
-
-pub comment-start : (t : Bytes) → NoComment t 0
-comment-start t = record { high = omega arith; rest = omega arith }
-
-cut-here : (c : ℕ) (s : Bytes) → c ≡ 35 → cut (c ∷ s) ≡ []
-unfolding cut
-cut-here c s e = rw (eq-eqb 35 c (sym e))
-
-cut-more : (c : ℕ) (s : Bytes) → (c ≡ 35 → ⊥) → cut (c ∷ s) ≡ c ∷ cut s
-unfolding cut
-cut-more c s f = rw (ne-eqb 35 c (λ e. f (sym e)))
-
-cut-none : cut [] ≡ []
-unfolding cut
-cut-none = refl
-
-module _ {t : Bytes} {i : ℕ} (c : NoComment t i) where
-  pub comment-next : i < length t → (getD t i 0 ≡ 35 → ⊥) → NoComment t (i + 1)
-  comment-next h f =
-      let e : length (cut (drop i t)) ≡ suc (length (cut (drop (i + 1) t))) =
-      rw (drop-cons t i 0 h, add-one) (ap length (cut-more (getD t i 0) (drop (suc i) t) f)) in
-      record { high = omega arith; rest = omega (arith, c .rest) }
-
-  pub comment-here : i < length t → getD t i 0 ≡ 35 → i ≡ length (cut t)
-  comment-here h e =
-      let q : length (cut (drop i t)) ≡ 0 = rw (drop-cons t i 0 h) (ap length (cut-here (getD t i 0) (drop (suc i) t) e)) in
-      omega (arith, c .rest)
-
-  pub comment-none : length t ≤ i → i ≡ length (cut t)
-  comment-none h =
-      let q : length (cut (drop i t)) ≡ 0 = rw (drop-of-length-le t {i = i} h) (ap length cut-none) in
-      omega (arith, c .rest)

@@ -1,7 +1,7 @@
 -- Laws that code over places in the text cites: lines from a place on, the tokens of a line from a place on, and that a statement's
 -- tokens are those of its lines, one line after the other. Assumes nothing.
 use mathlib.Core.Path.{_≡_, refl, sym, ap, _∙_}
-use mathlib.Core.Bool.{Bool, true, false, _&&_, _||_, not, false≢true, true≢false}
+use mathlib.Core.Bool.{Bool, true, false}
 use mathlib.Core.List.{List, [], _∷_, _++_, map, headD, append-assoc, append-nil}
 use Prim.Native.Nat.{ℕ, zero, suc, _+_, _-_, _≤_, _<_}
 use native.Mathlib.Numerals.{add-one}
@@ -67,13 +67,6 @@ tokens-at t a e h k f g =
     rw (slice-drop t a e (omega arith) k, drop-cons t e 0 m, w)
     (tokens-word _ _ (getD t e 0) (drop (suc e) t) q (g m)
     ∙ ap (λ (r : List Bytes). (getD t a 0 ∷ slice (suc a) e t) ∷ r) (sym (tokens-blank (getD t e 0) (drop (suc e) t) (g m)))))
-
--- a word is not empty
-pub word-moves : (t : Bytes) (a e : ℕ) → a ≤ e → a < length t → isBlank (getD t a 0) ≡ false → (e < length t → isBlank (getD t e 0) ≡ true) → a < e
-word-moves t a e h k f g =
-    by-order e a
-    (λ m. let q : e ≡ a = omega arith in absurd (false≢true (sym f ∙ (rw (← q) (g (omega arith))))))
-    (λ m. m)
 
 -- ---- a blank between two texts parts their tokens
 

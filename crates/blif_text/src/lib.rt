@@ -1,19 +1,20 @@
 // BLIF text: lines, tokens, keywords and statements, as places in the caller's text (Quaigh's src/io/blif.rs).
 use lists::equal;
 ghost use mathlib.Core.Path.{_≡_};
-ghost use mathlib.Core.Bool.{true};
+ghost use mathlib.Core.Bool.{false};
+ghost use lib.Dec.{eqb};
 ghost use mathlib.Core.List.{[], _∷_};
 ghost use Prim.Native.Nat.{_+_, _*_, _≤_, _<_};
 ghost use lib.ListN.{length, getD, take, drop};
 ghost use lib.Seq.{slice};
-ghost use Rattle.lists.specs.Lists.{overAt};
-ghost use Rattle.blif_text.specs.Lines.{isBlank, cut, continues};
+ghost use Rattle.lists.specs.Lists.{any, overAt};
+ghost use Rattle.blif_text.specs.Lines.{isBlank};
 ghost use Rattle.blif_text.specs.Places.{maxText, maxTokens, tokenCell, isFirst, tokenStart, tokenLength, tokenOf, tokensOf, Marked};
 ghost use Rattle.blif_text.specs.Keywords.{keywordOf, said, RowTo, StatementOf, refusal};
 ghost use Rattle.blif_text.specs.Statements.{parsed, firstBad};
 ghost use Rattle.blif_text.specs.Rows.{rowStmt};
 ghost use Rattle.blif_text.specs.Blocks.{blockWidth, firstName, nameCount, lineCount};
-ghost use Rattle.blif_text.specs.Scan.{BlanksTo, WordTo, LineTo, LineAt, PartOf, WordsMarked, Walked, WordsIn};
+ghost use Rattle.blif_text.specs.Scan.{endsWord, WordTo, NoLine, LineTo, LineAfter, StopOf, WordPut, Scanned};
 
 pub const MAX_TEXT: usize = 32768;
 
@@ -22,25 +23,7 @@ pub const MAX_TOKENS: usize = 16384;
 // The cells of a block's record: first name, name count, line count.
 pub const BLOCK_CELLS: usize = 3;
 
-// A line: it stops before its LF, and CR directly before that; the next line starts at next.
-struct Line {
-    stop: usize,
-    next: usize,
-}
-
-// The part of a line that holds its tokens, and whether the statement goes on in the next line.
-struct Part {
-    end: usize,
-    more: bool,
-}
-
-// How many tokens are marked, and whether the next one is a statement's first.
-struct Words {
-    count: usize,
-    fresh: bool,
-}
-
-// The same, with the place of the next line.
+// How far the scan has come: the place, how many tokens are marked, and whether the next one is a statement's first.
 struct Marks {
     at: usize,
     count: usize,
@@ -100,14 +83,33 @@ pub fn is_blank(c: u8) -> bool
     true
 }
 
-// The place of the first byte from at on that is no blank, or the line's length.
-fn skip_blanks(line: &[u8], at: usize) -> usize
-    requires { ⌜ at ≤ length (now line) ⌝ }
-    ensures { λ r. ⌜ BlanksTo (now (line .entry)) at r ⌝ }
+// Whether a byte ends a word: a blank, or the start of a comment.
+fn ends_word(c: u8) -> bool
+    ensures { λ r. ⌜ r ≡ endsWord c ⌝ }
+{
+    if 35 < c {
+        return false;
+    }
+    if c == b' ' {
+        return true;
+    }
+    if c == 10 {
+        return true;
+    }
+    if c == b'#' {
+        return true;
+    }
+    is_blank(c)
+}
+
+// The place of the first byte from at on that ends a word, or the text's length.
+fn word_end(text: &[u8], at: usize) -> usize
+    requires { ⌜ at ≤ length (now text) ⌝ }
+    ensures { λ r. ⌜ WordTo (now (text .entry)) at r ⌝ }
 {
     let mut i = at;
-    while i < line.len() {
-        if !is_blank(line[i]) {
+    while i < text.len() {
+        if ends_word(text[i]) {
             return i;
         }
         i += 1;
@@ -115,17 +117,31 @@ fn skip_blanks(line: &[u8], at: usize) -> usize
     i
 }
 
-// The place of the first blank from at on, or the line's length.
-fn word_end(line: &[u8], at: usize) -> usize
-    requires { ⌜ at ≤ length (now line) ⌝ }
-    ensures { λ r. ⌜ WordTo (now (line .entry)) at r ⌝ }
+// Whether an LF is among these bytes.
+fn has_line_end(block: &[u8]) -> bool
+    ensures { λ r. ⌜ r ≡ any (eqb 10) (now (block .entry)) ⌝ }
+{
+    let mut found = false;
+    let mut i = 0;
+    while i < block.len() {
+        found = found | (10 == block[i]);
+        i += 1;
+    }
+    found
+}
+
+// The place behind the blocks of 32 bytes from at on that have no LF.
+fn skip_blocks(text: &[u8], at: usize) -> usize
+    requires { ⌜ at ≤ length (now text) ⌝ }
+    ensures { λ r. ⌜ NoLine (now (text .entry)) at r ⌝ }
 {
     let mut i = at;
-    while i < line.len() {
-        if is_blank(line[i]) {
+    while text.len() - i >= 32 {
+        let e = i + 32;
+        if has_line_end(&text[i..e]) {
             return i;
         }
-        i += 1;
+        i = e;
     }
     i
 }
@@ -135,7 +151,7 @@ fn line_end(text: &[u8], at: usize) -> usize
     requires { ⌜ at ≤ length (now text) ⌝ }
     ensures { λ r. ⌜ LineTo (now (text .entry)) at r ⌝ }
 {
-    let mut i = at;
+    let mut i = skip_blocks(text, at);
     while i < text.len() {
         if text[i] == 10 {
             return i;
@@ -145,68 +161,41 @@ fn line_end(text: &[u8], at: usize) -> usize
     i
 }
 
-// The line that starts at a place.
-fn next_line(text: &[u8], at: usize) -> Line
-    requires { ⌜ at < length (now text) ⌝ }
-    ensures { λ r. ⌜ LineAt (now (text .entry)) at (r .stop) (r .next) ⌝ }
+// The place behind the first LF from at on, or the text's length.
+fn line_after(text: &[u8], at: usize) -> usize
+    requires { ⌜ at ≤ length (now text) ⌝ }
+    ensures { λ r. ⌜ LineAfter (now (text .entry)) at r ⌝ }
 {
     let end = line_end(text, at);
-    if end >= text.len() {
-        return Line {
-            stop: end,
-            next: end,
-        };
+    if end < text.len() {
+        return end + 1;
     }
-    if end == at {
-        return Line {
-            stop: end,
-            next: end + 1,
-        };
-    }
-    if text[end - 1] == 13 {
-        return Line {
-            stop: end - 1,
-            next: end + 1,
-        };
-    }
-    Line {
-        stop: end,
-        next: end + 1,
-    }
+    end
 }
 
-// The place of the line's comment, or its length.
-fn comment_at(line: &[u8]) -> usize
-    ensures { λ r. ⌜ r ≡ length (cut (now (line .entry))) ⌝ }
+// Where the next line starts if a line stops at this place: at an LF, at CR directly before it, or at the text's end; else zero.
+fn line_stop(text: &[u8], stop: usize) -> usize
+    requires { ⌜ (0 < stop) × (stop ≤ length (now text)) ⌝ }
+    ensures { λ r. ⌜ StopOf (now (text .entry)) stop r ⌝ }
 {
-    let mut i = 0;
-    while i < line.len() {
-        if line[i] == b'#' {
-            return i;
-        }
-        i += 1;
+    if stop >= text.len() {
+        return stop;
     }
-    i
-}
-
-// The part of the line before its comment, or before the backslash at its end.
-fn line_part(line: &[u8]) -> Part
-    ensures { λ r. ⌜ PartOf (now (line .entry)) (r .end) (r .more) ⌝ }
-{
-    let end = comment_at(line);
-    if end < line.len() {
-        return Part { end, more: false };
+    let byte = text[stop];
+    if byte == 10 {
+        return stop + 1;
     }
-    if end == 0 {
-        return Part { end, more: false };
+    let lf = stop + 1;
+    if lf >= text.len() {
+        return 0;
     }
-    if line[end - 1] == b'\\' {
-        return Part {
-            end: end - 1,
-            more: true,
-        };
+    if byte != 13 {
+        return 0;
     }
-    Part { end, more: false }
+    if text[lf] != 10 {
+        return 0;
+    }
+    stop + 2
 }
 
 // The cell of a token's place.
@@ -242,49 +231,73 @@ pub fn token_length(cell: u32) -> usize
     cell as usize % 65536
 }
 
-// Marks the tokens of a part of the text that starts at base.
-fn mark_words(part: &[u8], base: usize, cells: &mut [u32], count: usize, fresh: bool) -> Words
-    requires { ⌜ WordsIn (length (now part)) base (length (now cells)) count ⌝ }
-    ensures { λ r. ⌜ WordsMarked (now (part .entry)) base (now (cells .entry)) count fresh (now (cells .exit)) (r .count) (r .fresh) ⌝ }
+// Writes the cell of the word from w.at to end, and goes on at next.
+fn put_word(cells: &mut [u32], w: Marks, end: usize, next: usize) -> Marks
+    requires { ⌜ (w .count < length (now cells)) × (w .at < maxText) × (w .at ≤ end) × (end ≤ maxText) ⌝ }
+    ensures { λ r. ⌜ WordPut (now (cells .entry)) (w .at) (w .count) (w .fresh) end next (now (cells .exit)) (r .at) (r .count) (r .fresh) ⌝ }
 {
-    let mut n = count;
-    let mut first = fresh;
-    let mut i = skip_blanks(part, 0);
-    while i < part.len() {
-        let e = word_end(part, i);
-        cells[n] = token_cell(first, base + i, e - i);
-        n += 1;
-        first = false;
-        i = skip_blanks(part, e);
-    }
-    Words {
-        count: n,
-        fresh: first,
+    let n = w.count;
+    cells[n] = token_cell(w.fresh, w.at, end - w.at);
+    Marks {
+        at: next,
+        count: n + 1,
+        fresh: false,
     }
 }
 
-// Marks the tokens of the line at w.
-fn mark_line(text: &[u8], cells: &mut [u32], w: Marks) -> Marks
-    requires { ⌜ Walked (now text) (now cells) (w .at) (w .count) (w .fresh) × (w .at < length (now text)) ⌝ }
-    ensures { λ r. ⌜ Walked (now (text .entry)) (now (cells .exit)) (r .at) (r .count) (r .fresh) × (w .at < r .at) ⌝ }
+// Marks the word at w. A backslash that ends the line is no part of it, and the statement goes on in the next line.
+fn mark_word(text: &[u8], cells: &mut [u32], w: Marks) -> Marks
+    requires { ⌜ Scanned (now text) (now cells) (w .at) (w .count) (w .fresh) × (w .at < length (now text)) × (endsWord (getD (now text) (w .at) 0) ≡ false) ⌝ }
+    ensures { λ r. ⌜ Scanned (now (text .entry)) (now (cells .exit)) (r .at) (r .count) (r .fresh) × (w .at < r .at) ⌝ }
 {
     let at = w.at;
-    let line = next_line(text, at);
-    let stop = line.stop;
-    let part = line_part(&text[at..stop]);
-    let end = at + part.end;
-    let words = mark_words(&text[at..end], at, cells, w.count, w.fresh);
-    if part.more {
+    let end = word_end(text, at + 1);
+    if text[end - 1] != b'\\' {
+        return put_word(cells, w, end, end);
+    }
+    let next = line_stop(text, end);
+    if next == 0 {
+        return put_word(cells, w, end, end);
+    }
+    if end == at + 1 {
         return Marks {
-            at: line.next,
-            count: words.count,
-            fresh: words.fresh,
+            at: next,
+            count: w.count,
+            fresh: w.fresh,
+        };
+    }
+    put_word(cells, w, end - 1, next)
+}
+
+// One step of the scan: a word, a comment up to its line's end, a line's end, or another blank.
+fn mark_step(text: &[u8], cells: &mut [u32], w: Marks) -> Marks
+    requires { ⌜ Scanned (now text) (now cells) (w .at) (w .count) (w .fresh) × (w .at < length (now text)) ⌝ }
+    ensures { λ r. ⌜ Scanned (now (text .entry)) (now (cells .exit)) (r .at) (r .count) (r .fresh) × (w .at < r .at) ⌝ }
+{
+    let at = w.at;
+    let c = text[at];
+    if !ends_word(c) {
+        return mark_word(text, cells, w);
+    }
+    if c == b'#' {
+        let next = line_after(text, at);
+        return Marks {
+            at: next,
+            count: w.count,
+            fresh: true,
+        };
+    }
+    if c == 10 {
+        return Marks {
+            at: at + 1,
+            count: w.count,
+            fresh: true,
         };
     }
     Marks {
-        at: line.next,
-        count: words.count,
-        fresh: true,
+        at: at + 1,
+        count: w.count,
+        fresh: w.fresh,
     }
 }
 
@@ -299,7 +312,7 @@ pub fn mark_tokens(text: &[u8], cells: &mut [u32]) -> usize
         fresh: true,
     };
     while w.at < text.len() {
-        w = mark_line(text, cells, w);
+        w = mark_step(text, cells, w);
     }
     w.count
 }
@@ -318,6 +331,12 @@ pub fn token(text: &[u8], cell: u32) -> &[u8]
 pub fn keyword_of(token: &[u8]) -> Keyword
     ensures { λ r. ⌜ r ≡ keywordOf (now (token .entry)) ⌝ }
 {
+    if token.len() == 0 {
+        return Keyword::Cube;
+    }
+    if token[0] != b'.' {
+        return Keyword::Cube;
+    }
     if equal(token, b".model") {
         return Keyword::Model;
     }
@@ -339,13 +358,7 @@ pub fn keyword_of(token: &[u8]) -> Keyword
     if equal(token, b".exdc") {
         return Keyword::Exdc;
     }
-    if token.len() == 0 {
-        return Keyword::Cube;
-    }
-    if token[0] == b'.' {
-        return Keyword::Unsupported;
-    }
-    Keyword::Cube
+    Keyword::Unsupported
 }
 
 // The end of the row that starts at a place: the next row's start, or n.

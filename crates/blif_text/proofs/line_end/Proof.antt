@@ -1,11 +1,11 @@
--- `line_end` passes one byte of the line after the other. Assumes nothing.
+-- `line_end` passes blocks of the line, then one byte after the other. Assumes nothing.
 use mathlib.Core.Path.{sym}
 use Prim.Native.Nat.{_-_}
 use native.Mathlib.Omega.{arith}
 use lib.Dec.{eqb}
 use lib.ListN.{length}
 use borrow.Author.Tests.{ne-eqb}
-use Rattle.blif_text.proofs.Loops.{Passed, passed-start, passed-next, line-stop}
+use Rattle.blif_text.proofs.Loops.{Passed, passed-next, passed-line, line-stop}
 use Rattle.blif_text.proofs.line_end.Statement.{statement}
 use Rattle.blif_text.proofs.line_end.Tie as tie
 
@@ -15,8 +15,11 @@ Inv-loop text at i₀ i = Passed (eqb 10) text at i
 abbrev μ-loop : tie.MeasureT-loop
 μ-loop text at i₀ i = length text - i
 
+skip-blocks-requires : tie.Need-skip-blocks-requires Inv-loop μ-loop
+skip-blocks-requires c κs = c .before .pre
+
 loop-holds : tie.Need-loop-holds Inv-loop μ-loop
-loop-holds c = passed-start (eqb 10) (c .pre)
+loop-holds c = passed-line (c .skip-blocks .ensures)
 
 shared-slice-read-if1 : tie.Need-shared-slice-read-if1 Inv-loop μ-loop
 shared-slice-read-if1 c = omega arith
@@ -42,6 +45,7 @@ line-end-spec =
     (tie.spec
     Inv-loop
     μ-loop
+    skip-blocks-requires
     loop-holds
     shared-slice-read-if1
     returns

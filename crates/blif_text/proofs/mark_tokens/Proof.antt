@@ -1,36 +1,37 @@
--- `mark_tokens` walks one line after the other. Assumes nothing.
+-- `mark_tokens` takes one step after the other. Assumes nothing.
 use mathlib.Core.Path.{_≡_, refl, _∙_}
 use Prim.Native.Nat.{_-_}
 use native.Mathlib.Omega.{arith}
 use lib.ListN.{length}
-use Rattle.blif_text.specs.Scan.{Walked}
-use Rattle.blif_text.proofs.RowLaws.{walked-start, walked-done}
+use Rattle.blif_text.specs.Scan.{Scanned}
+use Rattle.blif_text.proofs.RowLaws.{scan-start}
+use Rattle.blif_text.proofs.ScanLaws.{scan-done}
 use Rattle.blif_text.proofs.mark_tokens.Statement.{statement}
 use Rattle.blif_text.proofs.mark_tokens.Tie as tie
 
 abbrev Inv-loop : tie.InvT-loop
-Inv-loop text cells₀ w₀ cells w = Walked text cells (w .at) (w .count) (w .fresh) × (length cells ≡ length cells₀)
+Inv-loop text cells₀ w₀ cells w = Scanned text cells (w .at) (w .count) (w .fresh) × (length cells ≡ length cells₀)
 
 abbrev μ-loop : tie.MeasureT-loop
 μ-loop text cells₀ w₀ cells w = length text - w .at
 
 loop-holds : tie.Need-loop-holds Inv-loop μ-loop
-loop-holds c = (walked-start (c .before .before .pre .0) (c .before .before .pre .1), refl)
+loop-holds c = (scan-start (c .before .before .pre .0) (c .before .before .pre .1), refl)
 
-mark-line-requires : tie.Need-mark-line-requires Inv-loop μ-loop
-mark-line-requires c κs = (c .before .before .before .loop .inv .0, c .before .if1 .taken)
+mark-step-requires : tie.Need-mark-step-requires Inv-loop μ-loop
+mark-step-requires c κs = (c .before .before .before .loop .inv .0, c .before .if1 .taken)
 
 loop-less : tie.Need-loop-less Inv-loop μ-loop
-loop-less c = omega (arith, c .before .before .mark-line .ensures .1, c .before .before .mark-line .ensures .0 .high)
+loop-less c = omega (arith, c .before .before .mark-step .ensures .1, c .before .before .mark-step .ensures .0 .high)
 
 loop-again : tie.Need-loop-again Inv-loop μ-loop
-loop-again c = (c .before .before .mark-line .ensures .0, c .before .before .mark-line .kept .1 .0 ∙ c .before .before .before .before .before .before .loop .inv .1)
+loop-again c = (c .before .before .mark-step .ensures .0, c .before .before .mark-step .kept .1 .0 ∙ c .before .before .before .before .before .before .loop .inv .1)
 
 same-length : tie.Need-same-length Inv-loop μ-loop
 same-length c = c .before .before .loop .inv .1
 
 returns : tie.Need-returns Inv-loop μ-loop
-returns c = walked-done (c .before .before .loop .inv .0) (c .if1 .left)
+returns c = scan-done (c .before .before .loop .inv .0) (c .if1 .left)
 
 pub mark-tokens-spec : {M : Type 1} → statement M
 mark-tokens-spec =
@@ -39,7 +40,7 @@ mark-tokens-spec =
     Inv-loop
     μ-loop
     loop-holds
-    mark-line-requires
+    mark-step-requires
     loop-less
     loop-again
     same-length

@@ -1,0 +1,38 @@
+-- `has_line_end` looks at one byte after the other. Assumes nothing.
+use Prim.Native.Nat.{_-_}
+use native.Mathlib.Omega.{arith}
+use lib.Dec.{eqb}
+use lib.ListN.{length}
+use borrow.Author.Needs.{needs}
+use Rattle.blif_text.proofs.Loops.{Seeking, seek-start, seek-next, seek-done}
+use Rattle.blif_text.proofs.has_line_end.Statement.{statement}
+use Rattle.blif_text.proofs.has_line_end.Tie as tie
+
+abbrev Inv-loop : tie.InvT-loop
+Inv-loop block found₀ i₀ found i = Seeking (eqb 10) block found i
+
+abbrev μ-loop : tie.MeasureT-loop
+μ-loop block found₀ i₀ found i = length block - i
+
+loop-holds : tie.Need-loop-holds Inv-loop μ-loop
+loop-holds c = seek-start
+
+shared-slice-read-found : tie.Need-shared-slice-read-found Inv-loop μ-loop
+shared-slice-read-found c = search needs
+
+add-i : tie.Need-add-i Inv-loop μ-loop
+add-i c = omega arith
+
+loop-less : tie.Need-loop-less Inv-loop μ-loop
+loop-less c = omega arith
+
+loop-again : tie.Need-loop-again Inv-loop μ-loop
+loop-again c = seek-next (c .before .before .loop .inv) (c .before .loop-test .taken)
+
+returns : tie.Need-returns Inv-loop μ-loop
+returns c = seek-done (c .before .loop .inv) (c .loop-test .left)
+
+pub has-line-end-spec : {M : Type 1} → statement M
+has-line-end-spec =
+    tie.close
+    (tie.spec Inv-loop μ-loop loop-holds shared-slice-read-found add-i loop-less loop-again returns)

@@ -1,0 +1,66 @@
+-- `mark_step` goes by the byte at the place. Assumes nothing.
+use mathlib.Core.Path.{sym, _∙_}
+use native.Mathlib.Omega.{arith}
+use borrow.Author.Needs.{needs}
+use borrow.Author.Tests.{not-true, not-false}
+use Rattle.blif_text.proofs.ScanLaws.{scan-lf, scan-comment, comment-moves, scan-blank}
+use Rattle.blif_text.proofs.mark_step.Statement.{statement}
+use Rattle.blif_text.proofs.mark_step.Tie as tie
+
+shared-slice-read-c : tie.Need-shared-slice-read-c
+shared-slice-read-c c = search needs
+
+ends-word-requires : tie.Need-ends-word-requires
+ends-word-requires c κs = search needs
+
+mark-word-requires : tie.Need-mark-word-requires
+mark-word-requires c κs =
+    let s = c .before .before .before .before .before .before in (s .pre .0, s .pre .1, sym (c .before .before .ends-word .ensures) ∙ not-true _ (c .before .if1 .taken))
+
+same-length : tie.Need-same-length
+same-length c = search needs
+
+returns : tie.Need-returns
+returns c = c .before .before .mark-word .ensures
+
+line-after-requires : tie.Need-line-after-requires
+line-after-requires c κs = search needs
+
+returns-2 : tie.Need-returns-2
+returns-2 c =
+    let s = c .before .before .before .before .before .before .before in (
+      scan-comment (s .pre .0) (s .pre .1) (c .before .if2 .taken) (c .line-after .ensures),
+      comment-moves (s .pre .0) (s .pre .1) (c .before .if2 .taken) (c .line-after .ensures),
+    )
+
+add-t13 : tie.Need-add-t13
+add-t13 c = search needs
+
+returns-3 : tie.Need-returns-3
+returns-3 c = let s = c .before .before .before .before .before .before .before in (scan-lf (s .pre .0) (s .pre .1) (c .if3 .taken), omega arith)
+
+add-t14 : tie.Need-add-t14
+add-t14 c = search needs
+
+returns-4 : tie.Need-returns-4
+returns-4 c =
+    let s = c .before .before .before .before .before .before .before in (
+      scan-blank (s .pre .0) (s .pre .1) (sym (c .before .before .before .ends-word .ensures) ∙ not-false _ (c .before .before .if1 .left)) (c .before .if2 .left) (c .if3 .left),
+      omega arith,
+    )
+
+pub mark-step-spec : {M : Type 1} → statement M
+mark-step-spec =
+    tie.close
+    (tie.spec
+    shared-slice-read-c
+    ends-word-requires
+    mark-word-requires
+    same-length
+    returns
+    line-after-requires
+    returns-2
+    add-t13
+    returns-3
+    add-t14
+    returns-4)

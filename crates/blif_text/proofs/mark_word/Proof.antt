@@ -1,0 +1,115 @@
+-- `mark_word` finds the word's end, and looks behind a backslash for the line's. Assumes nothing.
+use native.Mathlib.Omega.{arith}
+use borrow.Author.Needs.{needs}
+use Rattle.blif_text.proofs.ScanLaws.{word-room, word-place, scan-word, scan-alone, scan-goes, goes-moves, scan-put}
+use Rattle.blif_text.proofs.mark_word.Statement.{statement}
+use Rattle.blif_text.proofs.mark_word.Tie as tie
+
+add-word-end : tie.Need-add-word-end
+add-word-end c = search needs
+
+word-end-requires : tie.Need-word-end-requires
+word-end-requires c κs = search needs
+
+sub-if1 : tie.Need-sub-if1
+sub-if1 c = search needs
+
+shared-slice-read-if1 : tie.Need-shared-slice-read-if1
+shared-slice-read-if1 c = search needs
+
+put-word-requires : tie.Need-put-word-requires
+put-word-requires c κs =
+    let s = c .before .before .before .before .before .before in
+    let w = c .before .before .before .word-end .ensures in
+    let p = word-place (s .pre .0) (s .pre .1) (s .pre .2) w in
+    (word-room (s .pre .0) (s .pre .1) (s .pre .2) w, p .0, omega (arith, w .low), omega (arith, p .1))
+
+same-length : tie.Need-same-length
+same-length c = search needs
+
+returns : tie.Need-returns
+returns c =
+    let s = c .before .before .before .before .before .before .before .before .before in
+    let w = c .before .before .before .before .before .before .word-end .ensures in (
+      scan-put (c .before .before .put-word .ensures) (scan-word (s .pre .0) (s .pre .1) (s .pre .2) w (λ e. absurd (c .before .before .before .before .if1 .taken e))),
+      omega (arith, c .before .before .put-word .ensures .place, w .low),
+    )
+
+line-stop-requires : tie.Need-line-stop-requires
+line-stop-requires c κs = search needs
+
+put-word-requires-2 : tie.Need-put-word-requires-2
+put-word-requires-2 c κs =
+    let s = c .before .before .before .before .before .before .before .before in
+    let w = c .before .before .before .before .before .word-end .ensures in
+    let p = word-place (s .pre .0) (s .pre .1) (s .pre .2) w in
+    (word-room (s .pre .0) (s .pre .1) (s .pre .2) w, p .0, omega (arith, w .low), omega (arith, p .1))
+
+same-length-2 : tie.Need-same-length-2
+same-length-2 c = search needs
+
+returns-2 : tie.Need-returns-2
+returns-2 c =
+    let s = c .before .before .before .before .before .before .before .before .before .before .before in
+    let w = c .before .before .before .before .before .before .before .before .word-end .ensures in (
+      scan-put (c .before .before .put-word2 .ensures) (scan-word (s .pre .0) (s .pre .1) (s .pre .2) w (λ e. c .before .before .before .before .before .line-stop .ensures .none (c .before .before .before .before .if2 .taken))),
+      omega (arith, c .before .before .put-word2 .ensures .place, w .low),
+    )
+
+add-if3 : tie.Need-add-if3
+add-if3 c = search needs
+
+returns-3 : tie.Need-returns-3
+returns-3 c =
+    let s = c .before .before .before .before .before .before .before .before in
+    let w = c .before .before .before .before .before .word-end .ensures in
+    let t = c .before .before .line-stop .ensures .some (omega arith) in
+    let e = c .before .before .before .if1 .left in (
+      scan-alone (s .pre .0) (s .pre .1) (s .pre .2) w e t (c .if3 .taken),
+      goes-moves (s .pre .0) (s .pre .1) (s .pre .2) w e t,
+    )
+
+sub-put-word : tie.Need-sub-put-word
+sub-put-word c = search needs
+
+put-word-requires-3 : tie.Need-put-word-requires-3
+put-word-requires-3 c κs =
+    let s = c .before .before .before .before .before .before .before .before .before in
+    let w = c .before .before .before .before .before .before .word-end .ensures in
+    let p = word-place (s .pre .0) (s .pre .1) (s .pre .2) w in
+    (word-room (s .pre .0) (s .pre .1) (s .pre .2) w, p .0, omega (arith, w .low), omega (arith, p .1))
+
+same-length-3 : tie.Need-same-length-3
+same-length-3 c = search needs
+
+returns-4 : tie.Need-returns-4
+returns-4 c =
+    let s = c .before .before .before .before .before .before .before .before .before .before .before .before in
+    let w = c .before .before .before .before .before .before .before .before .before .word-end .ensures in
+    let t = c .before .before .before .before .before .before .line-stop .ensures .some (omega arith) in
+    let e = c .before .before .before .before .before .before .before .if1 .left in (
+      scan-put (c .before .before .put-word3 .ensures) (scan-goes (s .pre .0) (s .pre .1) (s .pre .2) w e t (c .before .before .before .before .if3 .left)),
+      omega (arith, c .before .before .put-word3 .ensures .place, goes-moves (s .pre .0) (s .pre .1) (s .pre .2) w e t),
+    )
+
+pub mark-word-spec : {M : Type 1} → statement M
+mark-word-spec =
+    tie.close
+    (tie.spec
+    add-word-end
+    word-end-requires
+    sub-if1
+    shared-slice-read-if1
+    put-word-requires
+    same-length
+    returns
+    line-stop-requires
+    put-word-requires-2
+    same-length-2
+    returns-2
+    add-if3
+    returns-3
+    sub-put-word
+    put-word-requires-3
+    same-length-3
+    returns-4)
