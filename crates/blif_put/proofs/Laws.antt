@@ -94,6 +94,21 @@ over-end a t o h = rw (drop-of-length-le o h, take-all a o h) (ap (λ (l : Bytes
 pub append-past : {t o : Bytes} {a : ℕ} → length o < a → Appended t o a o (length o + 1)
 append-past {t} {o} {a} h = record { out = sym (over-end a t o (omega arith)); len = omega arith }
 
+-- nothing more, and a byte more
+pub append-none : {o : Bytes} {a : ℕ} → a ≤ length o → Appended [] o a o a
+append-none {o} {a} h = record { out = sym (take-append-drop a o); len = omega arith }
+
+over-byte : (a x : ℕ) (o : Bytes) → a < length o → set o a x ≡ overFrom a (x ∷ []) o
+over-byte a x [] h = absurd (not-suc-le-zero h)
+over-byte zero x (y ∷ o) h = refl
+over-byte (suc a) x (y ∷ o) h = ap (λ (l : Bytes). y ∷ l) (over-byte a x o (le-of-suc-le-suc h))
+
+pub append-end : {o : Bytes} {a x : ℕ} → length o ≤ a → Appended (x ∷ []) o a o (length o + 1)
+append-end {o} {a} {x} h = record { out = sym (over-end a (x ∷ []) o h); len = omega arith }
+
+pub append-one : {o : Bytes} {a x : ℕ} → a < length o → Appended (x ∷ []) o a (set o a x) (a + 1)
+append-one {o} {a} {x} h = record { out = over-byte a x o h; len = omega arith }
+
 pub append-room : {t o q : Bytes} {a r : ℕ} → a ≤ length o → Wrote t (take (length o - a) (drop a o)) q r
     → Appended t o a (take a o ++ (q ++ drop (length o - a) (drop a o))) (a + r)
 append-room {t} {o} {q} {a} {r} h w =
@@ -155,7 +170,7 @@ pub record Going (w left o : Bytes) (a : ℕ) (p : Bytes) (at : ℕ) : Type 0 wh
 
 pub going-start : {w left o : Bytes} {a : ℕ} → left ≡ w → a ≤ length o → Going w left o a o a
 going-start {w} {left} {o} {a} e h =
-    record { done = []; whole = e; wrote = record { out = sym (take-append-drop a o); len = omega arith } }
+    record { done = []; whole = e; wrote = append-none h }
 
 module _ {w left o p : Bytes} {a at : ℕ} (g : Going w left o a p at) where
   pub going-kept : length p ≡ length o

@@ -2,7 +2,7 @@
 use mathlib.Core.Path.{_≡_, refl, sym, _∙_, ap}
 use mathlib.Core.Bool.{Bool, true, false, true≢false, false≢true}
 use mathlib.Core.List.{[], _∷_, _++_}
-use Prim.Native.Nat.{ℕ, zero, suc, _+_, _/_, _%_, _≤_, _<_}
+use Prim.Native.Nat.{ℕ, zero, suc, _+_, _^_, _/_, _%_, _≤_, _<_}
 use native.Mathlib.Omega.{arith}
 use borrow.Author.Tests.{lt-ltb, le-ltb}
 use Rattle.lists.specs.Lists.{Bytes, bytes}
@@ -11,6 +11,8 @@ use Rattle.signal.specs.Signal.{Node, Const, Input, Gated, inputNode, constNode
 use Rattle.signal.specs.Cell.{nodeOf, sigOf, inputNumber, gateNumber}
 use Rattle.signal.proofs.Cells.{input-number, gate-number}
 use Rattle.blif_model.specs.Names.{decimalBefore, decimal, suffix, nodeBytes, nameBytes}
+use Rattle.blif_put.specs.Text.{digitOf, leading, Appended}
+use Rattle.blif_put.proofs.Laws.{and-append, as-text}
 
 -- the two cases of `decimalBefore`
 abbrev pick : ℕ → ℕ → Bytes → Bool → Bytes
@@ -46,30 +48,77 @@ tens-first n s h = next-digit n n s h ∙ same-fuel n (suc (n / 10)) (n / 10) ((
 pub decimal-then : (n : ℕ) (s : Bytes) → decimal n [] ++ s ≡ decimal n s
 decimal-then n s = sym (digits-before (suc n) n [] s)
 
-pub one-digit : (n : ℕ) → n < 10 → (48 + n % 10) ∷ [] ≡ decimal n []
+one-digit : (n : ℕ) → n < 10 → (48 + n % 10) ∷ [] ≡ decimal n []
 one-digit n h =
     let e : n % 10 ≡ n = omega arith in
     ap (λ (k : ℕ). (48 + k) ∷ []) e ∙ sym (last-digit n n [] h)
 
-two-last : (n : ℕ) (s : Bytes) → 10 ≤ n → n < 100 → (48 + n / 10 % 10) ∷ (48 + n % 10) ∷ s ≡ decimal n s
-two-last n s k h =
-    let e : n / 10 % 10 ≡ n / 10 = omega arith in
-    let l : n / 10 < 10 = omega arith in
-    ap (λ (m : ℕ). (48 + m) ∷ (48 + n % 10) ∷ s) e ∙ sym (last-digit (n / 10) (n / 10) ((48 + n % 10) ∷ s) l) ∙ sym (tens-first n s k)
+more-digits : (n : ℕ) → 10 ≤ n → decimal (n / 10) [] ++ ((48 + n % 10) ∷ []) ≡ decimal n []
+more-digits n h = decimal-then (n / 10) ((48 + n % 10) ∷ []) ∙ sym (tens-first n [] h)
 
-pub two-digits : (n : ℕ) → 10 ≤ n → n < 100 → (48 + n / 10 % 10) ∷ (48 + n % 10) ∷ [] ≡ decimal n []
-two-digits n k h = two-last n [] k h
+-- ---- digit by digit
 
-pub more-digits : (n : ℕ) → 100 ≤ n → decimal (n / 100) [] ++ ((48 + n / 10 % 10) ∷ (48 + n % 10) ∷ []) ≡ decimal n []
-more-digits n h =
-    let s : Bytes = (48 + n / 10 % 10) ∷ (48 + n % 10) ∷ [] in
-    let e : n / 100 ≡ n / 10 / 10 = omega arith in
-    let k : 10 ≤ n / 10 = omega arith in
-    let l : 10 ≤ n = omega arith in
-    decimal-then (n / 100) s
-    ∙ ap (λ (m : ℕ). decimal m s) e
-    ∙ sym (tens-first (n / 10) ((48 + n % 10) ∷ []) k)
-    ∙ sym (tens-first n [] l)
+pub digit-none : (n : ℕ) → n ≡ 0 → [] ≡ digitOf n
+digit-none n e = ap digitOf (sym e)
+
+pub digit-some : (n : ℕ) → 1 ≤ n → (48 + n % 10) ∷ [] ≡ digitOf n
+digit-some zero h = absurd (omega arith)
+digit-some (suc n) h = refl
+
+pub leading-none : (n : ℕ) → n ≡ 0 → [] ≡ leading n
+leading-none n e = ap leading (sym e)
+
+leading-some : (n : ℕ) → 1 ≤ n → leading n ≡ decimal n []
+leading-some zero h = absurd (omega arith)
+leading-some (suc n) h = refl
+
+-- the last digit behind the others
+pub all-digits : (n : ℕ) → leading (n / 10) ++ ((48 + n % 10) ∷ []) ≡ decimal n []
+all-digits n =
+    by-order 10 n
+    (λ l. ap (λ (t : Bytes). t ++ ((48 + n % 10) ∷ [])) (leading-some (n / 10) (omega arith)) ∙ more-digits n l)
+    (λ l. ap (λ (t : Bytes). t ++ ((48 + n % 10) ∷ [])) (sym (leading-none (n / 10) (omega arith))) ∙ one-digit n l)
+
+leading-next : (n : ℕ) → leading (n / 10) ++ digitOf n ≡ leading n
+leading-next zero = refl
+leading-next (suc n) = all-digits (suc n)
+
+-- m has the digits of n but for the last one
+module _ (n : ℕ) {m : ℕ} (e : m ≡ n / 10) {o p q : Bytes} {a b r : ℕ} (w : Appended (leading m) o a p b) where
+  digit-more : Appended (digitOf n) p b q r → Appended (leading n) o a q r
+  digit-more v = as-text (ap (λ (k : ℕ). leading k ++ digitOf n) e ∙ leading-next n) (and-append w v)
+
+  digit-last : Appended ((48 + n % 10) ∷ []) p b q r → Appended (decimal n []) o a q r
+  digit-last v = as-text (ap (λ (k : ℕ). leading k ++ ((48 + n % 10) ∷ [])) e ∙ all-digits n) (and-append w v)
+
+digit-first : (n : ℕ) {o p : Bytes} {a r : ℕ} → n < 10 → Appended (digitOf n) o a p r → Appended (leading n) o a p r
+digit-first n h v = as-text (ap (λ (t : Bytes). t ++ digitOf n) (leading-none (n / 10) (omega arith)) ∙ leading-next n) v
+
+-- the digits as the code writes them: those before the last four, and the last four
+module _ (n : ℕ) {o : Bytes} {a : ℕ} where
+  pub upper-digits : {p q r s t u : Bytes} {b c d e f g : ℕ} → n < 2 ^ 32 → Appended (digitOf (n / 1000000000)) o a p b
+      → Appended (digitOf (n / 100000000)) p b q c → Appended (digitOf (n / 10000000)) q c r d → Appended (digitOf (n / 1000000)) r d s e
+      → Appended (digitOf (n / 100000)) s e t f → Appended (digitOf (n / 10000)) t f u g → Appended (leading (n / 10000)) o a u g
+  upper-digits h v₁ v₂ v₃ v₄ v₅ v₆ =
+      let e₁ : n / 1000000000 ≡ n / 100000000 / 10 = omega arith in
+      let e₂ : n / 100000000 ≡ n / 10000000 / 10 = omega arith in
+      let e₃ : n / 10000000 ≡ n / 1000000 / 10 = omega arith in
+      let e₄ : n / 1000000 ≡ n / 100000 / 10 = omega arith in
+      let e₅ : n / 100000 ≡ n / 10000 / 10 = omega arith in
+      let w₁ = digit-first (n / 1000000000) (omega arith) v₁ in
+      let w₂ = digit-more (n / 100000000) e₁ w₁ v₂ in
+      let w₃ = digit-more (n / 10000000) e₂ w₂ v₃ in
+      let w₄ = digit-more (n / 1000000) e₃ w₃ v₄ in
+      digit-more (n / 10000) e₅ (digit-more (n / 100000) e₄ w₄ v₅) v₆
+
+  pub four-digits : {p q r s t : Bytes} {b c d e f : ℕ} → Appended (leading (n / 10000)) o a p b → Appended (digitOf (n / 1000)) p b q c
+      → Appended (digitOf (n / 100)) q c r d → Appended (digitOf (n / 10)) r d s e → Appended ((48 + n % 10) ∷ []) s e t f
+      → Appended (decimal n []) o a t f
+  four-digits w v₁ v₂ v₃ v₄ =
+      let e₁ : n / 10000 ≡ n / 1000 / 10 = omega arith in
+      let e₂ : n / 1000 ≡ n / 100 / 10 = omega arith in
+      let e₃ : n / 100 ≡ n / 10 / 10 = omega arith in
+      digit-last n refl (digit-more (n / 10) e₃ (digit-more (n / 100) e₂ (digit-more (n / 1000) e₁ w v₁) v₂) v₃) v₄
 
 -- ---- names
 

@@ -1,10 +1,11 @@
 -- Text in the output slice: "Each block is written into what is left of the output slice" (document 01). Assumes nothing: these are
 -- definitions.
 use mathlib.Core.Path.{_≡_}
-use mathlib.Core.List.{_++_}
-use Prim.Native.Nat.{ℕ, _+_, min}
+use mathlib.Core.List.{[], _∷_, _++_}
+use Prim.Native.Nat.{ℕ, zero, suc, _+_, _%_, min}
 use lib.ListN.{length, take, drop}
 use Rattle.lists.specs.Lists.{Bytes, over}
+use Rattle.blif_model.specs.Names.{decimal}
 
 -- a writer of the text t was lent the slice o, left p in it and gave back r
 pub record Wrote (t o p : Bytes) (r : ℕ) : Type 0 where
@@ -23,3 +24,15 @@ pub record Appended (t o : Bytes) (a : ℕ) (p : Bytes) (r : ℕ) : Type 0 where
   pub out : p ≡ overFrom a t o
   -- the place after it, or one past the slice's end where the text goes further
   pub len : r ≡ min (a + length t) (length o + 1)
+
+-- ---- "the decimal number", digit by digit
+
+-- the last digit of a number, and nothing for zero
+abbrev pub digitOf : ℕ → Bytes
+digitOf zero = []
+digitOf (suc n) = (48 + suc n % 10) ∷ []
+
+-- the digits that stand before others: the number in decimal, and nothing for zero
+abbrev pub leading : ℕ → Bytes
+leading zero = []
+leading (suc n) = decimal (suc n) []

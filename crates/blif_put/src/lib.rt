@@ -7,7 +7,7 @@ use signal::Signal;
 ghost use mathlib.Core.Path.{_≡_};
 ghost use mathlib.Core.Bool.{true};
 ghost use mathlib.Core.List.{[], _∷_, _++_, map};
-ghost use Prim.Native.Nat.{_≤_, _<_};
+ghost use Prim.Native.Nat.{_/_, _≤_, _<_};
 ghost use lib.ListN.{length, getD, replicate};
 ghost use Rattle.lists.specs.Lists.{over};
 ghost use Rattle.signal.specs.Signal.{Const};
@@ -17,7 +17,7 @@ ghost use Rattle.network.specs.Cells.{maxGates};
 ghost use Rattle.blif_model.specs.Names.{decimal, suffix, nodeBytes, nameBytes};
 ghost use Rattle.blif_model.specs.Write.{linesOf, isConst, gateName, formBlock, bufBlock};
 ghost use Rattle.blif_model.specs.Render.{spaced, line, latchLine};
-ghost use Rattle.blif_put.specs.Text.{Wrote, Appended};
+ghost use Rattle.blif_put.specs.Text.{Wrote, digitOf, leading, Appended};
 ghost use Rattle.blif_put.specs.Lines.{outputText, columnsOf, cubeOf, sameCube, mintermAt, maskLines, linesText, rowsOf, Narrow};
 ghost use Rattle.blif_put.specs.Blocks.{blockText, fieldText, flopText, storedText};
 
@@ -56,20 +56,57 @@ pub fn append(out: &mut [u8], at: usize, s: &[u8]) -> usize
     at + put_bytes(&mut out[at..], s)
 }
 
-// Writes n in decimal: the two last digits, and the others before them.
+// Writes one byte.
+fn append_byte(out: &mut [u8], at: usize, x: u8) -> usize
+    ensures { λ r. ⌜ Appended (x ∷ []) (now (out .entry)) at (now (out .exit)) r ⌝ }
+{
+    if at >= out.len() {
+        return out.len() + 1;
+    }
+    out[at] = x;
+    at + 1
+}
+
+// Writes the last digit of n, and nothing for zero.
+fn append_digit(out: &mut [u8], at: usize, n: u32) -> usize
+    ensures { λ r. ⌜ Appended (digitOf n) (now (out .entry)) at (now (out .exit)) r ⌝ }
+{
+    if at > out.len() {
+        return out.len() + 1;
+    }
+    if n == 0 {
+        return at;
+    }
+    append_byte(out, at, 48 + (n % 10) as u8)
+}
+
+// Writes the digits of n before the last four.
+fn append_upper(out: &mut [u8], at: usize, n: u32) -> usize
+    ensures { λ r. ⌜ Appended (leading (n / 10000)) (now (out .entry)) at (now (out .exit)) r ⌝ }
+{
+    if at > out.len() {
+        return out.len() + 1;
+    }
+    if n < 10000 {
+        return at;
+    }
+    let mut end = append_digit(out, at, n / 1000000000);
+    end = append_digit(out, end, n / 100000000);
+    end = append_digit(out, end, n / 10000000);
+    end = append_digit(out, end, n / 1000000);
+    end = append_digit(out, end, n / 100000);
+    append_digit(out, end, n / 10000)
+}
+
+// Writes n in decimal. Each digit goes straight into the slice: an array of digits would be written and read again.
 pub fn append_number(out: &mut [u8], at: usize, n: u32) -> usize
     ensures { λ r. ⌜ Appended (decimal n []) (now (out .entry)) at (now (out .exit)) r ⌝ }
 {
-    let ones = 48 + (n % 10) as u8;
-    if n < 10 {
-        return append(out, at, &[ones]);
-    }
-    let tens = 48 + (n / 10 % 10) as u8;
-    if n < 100 {
-        return append(out, at, &[tens, ones]);
-    }
-    let next = append_number(out, at, n / 100);
-    append(out, next, &[tens, ones])
+    let mut end = append_upper(out, at, n);
+    end = append_digit(out, end, n / 1000);
+    end = append_digit(out, end, n / 100);
+    end = append_digit(out, end, n / 10);
+    append_byte(out, end, 48 + (n % 10) as u8)
 }
 
 // Writes the name of a constant.
@@ -86,7 +123,7 @@ fn append_constant(out: &mut [u8], at: usize, one: bool) -> usize
 fn append_numbered(out: &mut [u8], at: usize, letter: u8, n: u32, inverted: bool) -> usize
     ensures { λ r. ⌜ Appended (letter ∷ decimal n (suffix inverted)) (now (out .entry)) at (now (out .exit)) r ⌝ }
 {
-    let first = append(out, at, &[letter]);
+    let first = append_byte(out, at, letter);
     let end = append_number(out, first, n);
     if inverted {
         return append(out, end, b"_n");
@@ -339,7 +376,8 @@ fn append_gate(out: &mut [u8], at: usize, before: &[u8], g: usize) -> usize
     requires { ⌜ g < maxGates ⌝ }
     ensures { λ r. ⌜ Appended (now (before .entry) ++ gateName nameBytes g) (now (out .entry)) at (now (out .exit)) r ⌝ }
 {
-    append_name(out, at, before, Signal::from_var(g as u32))
+    let next = append(out, at, before);
+    append_numbered(out, next, b'x', g as u32, false)
 }
 
 // Whether a signal is the constant of this value.
@@ -457,7 +495,8 @@ pub fn append_signals(out: &mut [u8], at: usize, cells: &[u32]) -> usize
         if end > out.len() {
             return end;
         }
-        end = append_name(out, end, b" ", Signal { a: cells[i] });
+        let next = append_byte(out, end, b' ');
+        end = sig_to_string(out, next, Signal { a: cells[i] });
         i += 1;
     }
     end

@@ -57,32 +57,27 @@ pub enum Decoded {
     Bad,
 }
 
-const KINDS: [Kind; 15] = [
-    Kind::Unknown,
-    Kind::Binary(BinaryType::And),
-    Kind::Binary(BinaryType::Xor),
-    Kind::Ternary(TernaryType::And),
-    Kind::Ternary(TernaryType::Xor),
-    Kind::Ternary(TernaryType::Maj),
-    Kind::Ternary(TernaryType::Mux),
-    Kind::Nary(NaryType::And),
-    Kind::Nary(NaryType::Or),
-    Kind::Nary(NaryType::Nand),
-    Kind::Nary(NaryType::Nor),
-    Kind::Nary(NaryType::Xor),
-    Kind::Nary(NaryType::Xnor),
-    Kind::Buf,
-    Kind::Dff,
-];
-
 // The kind of a form number.
 pub fn kind_of(form: u32) -> Kind
     ensures { λ r. ⌜ r ≡ kindOf form ⌝ }
 {
-    if form >= 15 {
-        return Kind::Unknown;
+    match form {
+        1 => Kind::Binary(BinaryType::And),
+        2 => Kind::Binary(BinaryType::Xor),
+        3 => Kind::Ternary(TernaryType::And),
+        4 => Kind::Ternary(TernaryType::Xor),
+        5 => Kind::Ternary(TernaryType::Maj),
+        6 => Kind::Ternary(TernaryType::Mux),
+        7 => Kind::Nary(NaryType::And),
+        8 => Kind::Nary(NaryType::Or),
+        9 => Kind::Nary(NaryType::Nand),
+        10 => Kind::Nary(NaryType::Nor),
+        11 => Kind::Nary(NaryType::Xor),
+        12 => Kind::Nary(NaryType::Xnor),
+        13 => Kind::Buf,
+        14 => Kind::Dff,
+        _ => Kind::Unknown,
     }
-    KINDS[form as usize]
 }
 
 fn binary_number(t: BinaryType) -> u32

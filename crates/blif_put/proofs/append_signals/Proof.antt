@@ -3,16 +3,16 @@ use native.Mathlib.Omega.{arith}
 use borrow.Author.Needs.{needs}
 use Prim.Native.Nat.{_-_}
 use lib.ListN.{length}
-use Rattle.blif_put.proofs.Laws.{append-past, going-kept, going-full}
+use Rattle.blif_put.proofs.Laws.{append-past, and-append, going-kept, going-full}
 use Rattle.blif_put.proofs.Texts.{Naming, naming-start, naming-next, naming-done}
 use Rattle.blif_put.proofs.append_signals.Statement.{statement}
 use Rattle.blif_put.proofs.append_signals.Tie as tie
 
 abbrev Inv-loop : tie.InvT-loop
-Inv-loop out₀ at cells end₀ i₀ t6 out end i = Naming cells out₀ at out end i
+Inv-loop out₀ at cells end₀ i₀ out end i = Naming cells out₀ at out end i
 
 abbrev μ-loop : tie.MeasureT-loop
-μ-loop out₀ at cells end₀ i₀ t6 out end i = length cells - i
+μ-loop out₀ at cells end₀ i₀ out end i = length cells - i
 
 add-result : tie.Need-add-result Inv-loop μ-loop
 add-result c = search needs
@@ -29,26 +29,26 @@ same-length c = going-kept (c .before .before .loop .inv .going)
 returns-2 : tie.Need-returns-2 Inv-loop μ-loop
 returns-2 c = going-full (c .before .before .loop .inv .going) (c .if2 .taken)
 
-slice-aggregate-append-name : tie.Need-slice-aggregate-append-name Inv-loop μ-loop
-slice-aggregate-append-name c = search needs
+append-byte-requires : tie.Need-append-byte-requires Inv-loop μ-loop
+append-byte-requires c κs = search needs
 
 mul-t10 : tie.Need-mul-t10 Inv-loop μ-loop
 mul-t10 c = search needs
 
 shared-slice-read-t17 : tie.Need-shared-slice-read-t17 Inv-loop μ-loop
-shared-slice-read-t17 c = omega (arith, c .before .before .before .before .loop-test .taken)
+shared-slice-read-t17 c = omega (arith, c .before .before .before .before .before .before .before .loop-test .taken)
 
-append-name-requires : tie.Need-append-name-requires Inv-loop μ-loop
-append-name-requires c κs = search needs
+sig-to-string-requires : tie.Need-sig-to-string-requires Inv-loop μ-loop
+sig-to-string-requires c κs = search needs
 
 add-i : tie.Need-add-i Inv-loop μ-loop
-add-i c = omega (arith, c .before .before .before .before .before .before .before .loop-test .taken)
+add-i c = omega (arith, c .before .before .before .before .before .before .before .before .before .before .loop-test .taken)
 
 loop-less : tie.Need-loop-less Inv-loop μ-loop
-loop-less c = omega (arith, c .before .before .before .before .before .before .before .loop-test .taken)
+loop-less c = omega (arith, c .before .before .before .before .before .before .before .before .before .before .loop-test .taken)
 
 loop-again : tie.Need-loop-again Inv-loop μ-loop
-loop-again c = naming-next (c .before .before .before .before .before .before .before .before .loop .inv) (c .before .before .before .before .before .before .before .loop-test .taken) (c .before .before .append-name .ensures)
+loop-again c = naming-next (c .before .before .before .before .before .before .before .before .before .before .before .loop .inv) (c .before .before .before .before .before .before .before .before .before .before .loop-test .taken) (and-append (c .before .before .before .before .before .before .before .append-byte .ensures) (c .before .before .sig-to-string .ensures))
 
 same-length-2 : tie.Need-same-length-2 Inv-loop μ-loop
 same-length-2 c = going-kept (c .before .loop .inv .going)
@@ -67,10 +67,10 @@ append-signals-spec =
     loop-holds
     same-length
     returns-2
-    slice-aggregate-append-name
+    append-byte-requires
     mul-t10
     shared-slice-read-t17
-    append-name-requires
+    sig-to-string-requires
     add-i
     loop-less
     loop-again
