@@ -16,12 +16,12 @@ use Rattle.blif_text.proofs.RefusalLaws.{stmts-end}
 use Rattle.name_index.specs.Search.{Entry}
 use Rattle.name_index.specs.Index.{entriesOf, Index}
 use Rattle.blif_model.specs.Read.{when, naming}
-use Rattle.blif_decls.specs.Rows.{names, RowIs, LinesAt}
+use Rattle.blif_sizes.specs.Rows.{names, RowIs, LinesAt}
 use Rattle.blif_decls.specs.Entries.{inputEntries}
 use Rattle.blif_decls.specs.Naming.{namesIn, InputsEntered, Tabled, Going, Steps}
 use Rattle.blif_decls.specs.declared.Walk.{Walk}
-use Rattle.blif_decls.proofs.RowStarts.{names-length, stmts-behind}
-use Rattle.blif_decls.proofs.Counting.{sizes-within, no-decls}
+use Rattle.blif_sizes.proofs.RowStarts.{names-length, stmts-behind}
+use Rattle.blif_sizes.proofs.Counting.{sizes-within, no-decls}
 use Rattle.blif_decls.proofs.Tabling.{inside-more, tabled-model, tabled-end, tabled-inputs, tabled-outputs, outputs-few}
 use Rattle.blif_decls.proofs.Refusing.{chain-stop, chain-go, naming-model, naming-end, naming-inputs, naming-outputs}
 

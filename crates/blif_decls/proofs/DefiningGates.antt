@@ -16,11 +16,11 @@ use Rattle.blif_text.specs.declared.Run.{Run}
 use Rattle.blif_text.specs.declared.Statement.the-variants as place
 use Rattle.name_index.specs.Index.{entriesOf}
 use Rattle.blif_model.specs.Read.{_then_, when, gateCount, naming}
-use Rattle.blif_decls.specs.Rows.{names, RowIs}
+use Rattle.blif_sizes.specs.Rows.{names, RowIs}
 use Rattle.blif_decls.specs.Naming.{namesIn, GateDefined, gateWalk, LatchStep, CoverStep, Going, Steps}
 use Rattle.blif_decls.specs.declared.Walk.{Walk}
-use Rattle.blif_decls.proofs.RowStarts.{names-length}
-use Rattle.blif_decls.proofs.Counting.{sizes-within}
+use Rattle.blif_sizes.proofs.RowStarts.{names-length}
+use Rattle.blif_sizes.proofs.Counting.{sizes-within}
 use Rattle.blif_decls.proofs.Tabling.{blocks-more, defs-more, tabled-gate, gate-few}
 use Rattle.blif_decls.proofs.Refusing.{chain-stop, chain-go, naming-latch, naming-empty, naming-cover}
 use Rattle.blif_decls.proofs.Defining.{names-more, latch-decls, cover-decls, on, tabled-as, left-as}

@@ -26,7 +26,7 @@ use Rattle.blif_model.specs.Read.{tooLarge, naming}
 use Rattle.blif_model.proofs.Lookups.{looks}
 use Rattle.blif_model.proofs.Passed.{target-of, once-of}
 use Rattle.blif_decls.specs.Entries.{inputEntries, entries}
-use Rattle.blif_decls.proofs.Counting.{sizes-within}
+use Rattle.blif_sizes.proofs.Counting.{sizes-within}
 use Rattle.blif_decls.proofs.Defining.{input-names}
 
 -- ---- a search among entries whose signals are a function's of their names

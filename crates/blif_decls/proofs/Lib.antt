@@ -1,7 +1,3 @@
-pub mod RowStarts
-pub mod LineWalk
-pub mod SizeLaws
-pub mod Counting
 pub mod Entering
 pub mod Tabling
 pub mod Refusing

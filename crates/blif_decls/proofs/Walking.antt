@@ -17,12 +17,12 @@ use Rattle.blif_text.proofs.RefusalLaws.{stmts-end}
 use Rattle.name_index.specs.Index.{indexCells, entriesOf, Index}
 use Rattle.name_index.proofs.IndexLaws.{index-empty}
 use Rattle.blif_model.specs.Read.{tooLarge, naming}
-use Rattle.blif_decls.specs.Rows.{names, RowIs}
+use Rattle.blif_sizes.specs.Rows.{names, RowIs}
 use Rattle.blif_decls.specs.Naming.{namesIn, InputsFit, CoverFits, LatchFits, Tabled, Going}
 use Rattle.blif_decls.specs.Tables.{Tables, DefinedBy}
 use Rattle.blif_decls.specs.declared.Walk.{Walk}
-use Rattle.blif_decls.proofs.RowStarts.{names-length}
-use Rattle.blif_decls.proofs.Counting.{sizes-within, no-decls}
+use Rattle.blif_sizes.proofs.RowStarts.{names-length}
+use Rattle.blif_sizes.proofs.Counting.{sizes-within, no-decls}
 use Rattle.blif_decls.proofs.Tabling.{inputs-few, outputs-few, gate-few}
 use Rattle.blif_decls.proofs.Defining.{inputs-decls, outputs-decls, latch-decls, tabled-as}
 use Rattle.blif_decls.proofs.DefiningGates.{defs-few}

@@ -1,5 +1,3 @@
-pub mod Rows
-pub mod Sizes
 pub mod Entries
 pub mod Tables
 pub mod Naming

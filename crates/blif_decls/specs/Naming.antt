@@ -18,7 +18,7 @@ use Rattle.blif_text.specs.declared.Block.{Block}
 use Rattle.name_index.specs.Search.{Entry, entry}
 use Rattle.name_index.specs.Index.{entriesOf, Index}
 use Rattle.blif_model.specs.Read.{when, tooLarge, twice, naming}
-use Rattle.blif_decls.specs.Rows.{LinesAt}
+use Rattle.blif_sizes.specs.Rows.{LinesAt}
 use Rattle.blif_decls.specs.Entries.{inputEntries, entries}
 use Rattle.blif_decls.specs.declared.Walk.{Walk}
 

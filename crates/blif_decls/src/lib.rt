@@ -1,15 +1,11 @@
-// The declarations of a text: sizes (refusal 6), names (refusals 7 to 10), and the tables that building starts from
+// The declarations of a text: names (refusals 7 to 10), and the tables that building starts from
 // (Quaigh's src/io/blif.rs: build_name_to_sig).
+use blif_sizes::cover_lines;
+use blif_sizes::row_at;
 use blif_text::Block;
 use blif_text::Statement;
 use blif_text::put_block;
-use blif_text::row_end;
-use blif_text::statement_at;
 use name_index::enter_name;
-use network::MAX_GATES;
-use network::MAX_INPUTS;
-use network::MAX_OUTPUTS;
-use network::MAX_PINS;
 use signal::Signal;
 ghost use mathlib.Core.Path.{_≡_};
 ghost use mathlib.Core.Bool.{false, not};
@@ -24,9 +20,7 @@ ghost use Rattle.blif_text.specs.Places.{maxTokens, tokenOf};
 ghost use Rattle.blif_text.specs.Walk.{stmtsFrom, StmtsAt};
 ghost use Rattle.blif_text.specs.Blocks.{blockWidth};
 ghost use Rattle.name_index.specs.Index.{indexCells};
-ghost use Rattle.blif_model.specs.Read.{when, added, tooLarge};
-ghost use Rattle.blif_decls.specs.Rows.{RowIs, isCube, LinesAt};
-ghost use Rattle.blif_decls.specs.Sizes.{passes, Within, Counts};
+ghost use Rattle.blif_model.specs.Read.{when, tooLarge};
 ghost use Rattle.blif_decls.specs.Naming.{InputsFit, InputsEntered, GateFits, GateDefined, CoverFits, CoverDefined, LatchFits, LatchStep, CoverStep, Going, Steps};
 ghost use Rattle.blif_decls.specs.Tables.{DefinedBy};
 
@@ -38,27 +32,6 @@ pub struct Defined {
     pub outputs: usize,
 }
 
-// A row of tokens: its statement, and where the next row starts.
-struct Row {
-    statement: Statement,
-    end: usize,
-}
-
-// How many cube lines stand at a place, and the place behind them.
-struct Lines {
-    count: usize,
-    end: usize,
-}
-
-// How many inputs, outputs, gates and pins the statements before a place declare.
-struct Sizes {
-    at: usize,
-    inputs: usize,
-    outputs: usize,
-    gates: usize,
-    pins: usize,
-}
-
 // A walk that enters names: its place, a refusal of 7 to 10 or zero, whether there was a `.model`, and how many inputs, gates
 // and outputs the statements before the place declare.
 struct Walk {
@@ -68,138 +41,6 @@ struct Walk {
     inputs: usize,
     gates: usize,
     outputs: usize,
-}
-
-// The row that starts at a place.
-fn row_at(text: &[u8], tokens: &[u32], n: usize, at: usize) -> Row
-    requires { ⌜ StmtsAt (now text) (now tokens) n at × (at < n) ⌝ }
-    ensures { λ r. ⌜ RowIs (now (text .entry)) (now (tokens .entry)) n at (r .end) (r .statement) ⌝ }
-{
-    let end = row_end(tokens, at, n);
-    let statement = statement_at(text, tokens, at, end);
-    Row { statement, end }
-}
-
-// Whether a statement is a cube line.
-fn is_cube(statement: Statement) -> bool
-    ensures { λ r. ⌜ r ≡ isCube statement ⌝ }
-{
-    match statement {
-        Statement::Cube(_) => true,
-        _ => false,
-    }
-}
-
-// The cube lines that stand directly at a place.
-fn cover_lines(text: &[u8], tokens: &[u32], n: usize, at: usize) -> Lines
-    requires { ⌜ StmtsAt (now text) (now tokens) n at ⌝ }
-    ensures { λ r. ⌜ LinesAt (now (text .entry)) (now (tokens .entry)) n at (r .count) (r .end) ⌝ }
-{
-    let mut count = 0;
-    let mut i = at;
-    while i < n {
-        let row = row_at(text, tokens, n, i);
-        let statement = row.statement;
-        if !is_cube(statement) {
-            return Lines { count, end: i };
-        }
-        count += 1;
-        i = row.end;
-    }
-    Lines { count, end: i }
-}
-
-// The gates of a cover with so many lines.
-fn cover_gates(lines: usize) -> usize
-    requires { ⌜ lines ≤ maxTokens ⌝ }
-    ensures { λ r. ⌜ r ≡ 1 + added lines ⌝ }
-{
-    if 1 < lines {
-        return 1 + lines;
-    }
-    1
-}
-
-// The pins of a cover with so many names, its own among them, and lines.
-fn cover_pins(names: usize, lines: usize) -> usize
-    requires { ⌜ (names ≤ maxTokens) × (lines ≤ maxTokens) ⌝ }
-    ensures { λ r. ⌜ r ≡ (lines + 1) * (names - 1 + 2) ⌝ }
-{
-    if names == 0 {
-        return (lines + 1) * 2;
-    }
-    (lines + 1) * (names - 1 + 2)
-}
-
-// The sizes with one more statement, and a cover's lines.
-fn count_row(text: &[u8], tokens: &[u32], n: usize, w: Sizes) -> Sizes
-    requires { ⌜ StmtsAt (now text) (now tokens) n (w .at) × (w .at < n) × (n ≤ maxTokens) × Within w ⌝ }
-    ensures { λ r. ⌜ Counts (now (text .entry)) (now (tokens .entry)) n w r ⌝ }
-{
-    let at = w.at;
-    let row = row_at(text, tokens, n, at);
-    let end = row.end;
-    let names = end - at - 1;
-    let statement = row.statement;
-    let mut sizes = w;
-    sizes.at = end;
-    match statement {
-        Statement::Inputs(_) => sizes.inputs += names,
-        Statement::Outputs(_) => sizes.outputs += names,
-        Statement::Latch(_) => {
-            sizes.gates += 1;
-            sizes.pins += 3;
-        }
-        Statement::Names(_) => {
-            let lines = cover_lines(text, tokens, n, end);
-            sizes.at = lines.end;
-            sizes.gates += cover_gates(lines.count);
-            sizes.pins += cover_pins(names, lines.count);
-        }
-        Statement::Exdc => sizes.at = n,
-        Statement::Model => {}
-        Statement::End => {}
-        Statement::Cube(_) => {}
-        Statement::Refused(_) => {}
-    }
-    sizes
-}
-
-// Whether one of the sizes is passed.
-fn is_past(w: Sizes) -> bool
-    ensures { λ r. ⌜ r ≡ passes (w .inputs) (w .outputs) (w .gates) (w .pins) ⌝ }
-{
-    if MAX_INPUTS < w.inputs {
-        return true;
-    }
-    if MAX_OUTPUTS < w.outputs {
-        return true;
-    }
-    if MAX_GATES < w.gates {
-        return true;
-    }
-    MAX_PINS < w.pins
-}
-
-// Whether a size is passed (refusal 6).
-pub fn too_large(text: &[u8], tokens: &[u32], n: usize) -> bool
-    requires { ⌜ StmtsAt (now text) (now tokens) n 0 × (n ≤ maxTokens) ⌝ }
-    ensures { λ r. ⌜ r ≡ tooLarge (decls (stmtsFrom (now (text .entry)) (now (tokens .entry)) n 0)) ⌝ }
-{
-    let mut sizes = Sizes {
-        at: 0,
-        inputs: 0,
-        outputs: 0,
-        gates: 0,
-        pins: 0,
-    };
-    while sizes.at < n {
-        sizes = count_row(text, tokens, n, sizes);
-        if is_past(sizes) {
-            return true;
-        }
-    }
-    false
 }
 
 // 7 at a second `.model`.

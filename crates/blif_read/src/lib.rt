@@ -2,8 +2,8 @@
 use blif_covers::check_covers;
 use blif_decls::Defined;
 use blif_decls::build_name_to_sig;
-use blif_decls::too_large;
 use blif_gates::build_covers;
+use blif_sizes::too_large;
 use blif_text::MAX_TEXT;
 use blif_text::first_bad;
 use blif_text::mark_tokens;

@@ -1,7 +1,7 @@
 -- `define_row` passes a statement. Assumes nothing.
 use native.Mathlib.Omega.{arith}
 use borrow.Author.Needs.{needs}
-use Rattle.blif_decls.proofs.RowStarts.{row-as}
+use Rattle.blif_sizes.proofs.RowStarts.{row-as}
 use Rattle.blif_decls.proofs.Defining.{go-cube, go-exdc, go-model, go-end, go-inputs, go-outputs}
 use Rattle.blif_decls.proofs.DefiningGates.{go-latch, go-cover}
 use Rattle.blif_decls.proofs.Walking.{inputs-fit, outputs-fit, outputs-small, latch-fit, cover-fit}

@@ -10,7 +10,7 @@ use Rattle.blif_read.proofs.read_tokens.Tie as tie
 use Rattle.blif_read.proofs.read_tokens.Reads as reads
 use Rattle.blif_read.proofs.read_tokens.Lts as lts
 use Rattle.blif_read.proofs.read_names.Reads as read-names-reads
-use Rattle.blif_decls.proofs.too_large.Reads as too-large-reads
+use Rattle.blif_sizes.proofs.too_large.Reads as too-large-reads
 use Rattle.blif_text.proofs.first_bad.Reads as first-bad-reads
 use Rattle.blif_text.proofs.mark_tokens.Reads as mark-tokens-reads
 

@@ -1,10 +1,10 @@
 -- `count_row` adds a statement to the sizes. Assumes nothing.
 use native.Mathlib.Omega.{arith}
 use borrow.Author.Needs.{needs}
-use Rattle.blif_decls.proofs.RowStarts.{row-as}
-use Rattle.blif_decls.proofs.SizeLaws.{count-inputs, count-outputs, count-latch, count-names, count-exdc, count-model, count-end, count-cube, added-few, pins-few}
-use Rattle.blif_decls.proofs.count_row.Statement.{statement}
-use Rattle.blif_decls.proofs.count_row.Tie as tie
+use Rattle.blif_sizes.proofs.RowStarts.{row-as}
+use Rattle.blif_sizes.proofs.SizeLaws.{count-inputs, count-outputs, count-latch, count-names, count-exdc, count-model, count-end, count-cube, added-few, pins-few}
+use Rattle.blif_sizes.proofs.count_row.Statement.{statement}
+use Rattle.blif_sizes.proofs.count_row.Tie as tie
 
 row-at-requires : tie.Need-row-at-requires
 row-at-requires c κs = search needs

@@ -11,7 +11,7 @@ use Rattle.network.specs.Cells.{maxInputs, maxOutputs, maxGates, maxPins}
 use Rattle.blif_text.specs.Decls.{Decl, decls, ins, outs, defs}
 use Rattle.blif_text.specs.Walk.{stmtsFrom, StmtsAt}
 use Rattle.blif_model.specs.Read.{gateCount, pinCount}
-use Rattle.blif_decls.specs.declared.Sizes.{Sizes}
+use Rattle.blif_sizes.specs.declared.Sizes.{Sizes}
 
 -- a size is passed: "256 inputs; 256 outputs; 1,024 gates; 16,384 pins"
 abbrev pub passes : ℕ → ℕ → ℕ → ℕ → Bool

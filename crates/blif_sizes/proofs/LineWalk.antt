@@ -13,7 +13,7 @@ use Rattle.blif_text.specs.Walk.{rowsFrom, stmtsFrom, StmtsAt}
 use Rattle.blif_text.specs.declared.Statement.{Statement}
 use Rattle.blif_text.specs.declared.Statement.the-variants as place
 use Rattle.blif_text.proofs.RefusalLaws.{stmts-end}
-use Rattle.blif_decls.specs.Rows.{Starts, RowIs, isCube, LinesAt}
+use Rattle.blif_sizes.specs.Rows.{Starts, RowIs, isCube, LinesAt}
 
 -- ---- a statement that is a cube line, and one that is none
 

@@ -14,8 +14,8 @@ use Rattle.blif_text.specs.Places.{maxTokens}
 use Rattle.blif_text.specs.Walk.{stmtsFrom, StmtsAt}
 use Rattle.blif_text.proofs.RefusalLaws.{stmts-end}
 use Rattle.blif_model.specs.Read.{gateCount, pinCount, tooLarge}
-use Rattle.blif_decls.specs.Sizes.{passes, Within, Totals, Counts}
-use Rattle.blif_decls.specs.declared.Sizes.{Sizes}
+use Rattle.blif_sizes.specs.Sizes.{passes, Within, Totals, Counts}
+use Rattle.blif_sizes.specs.declared.Sizes.{Sizes}
 
 -- ---- limits
 

@@ -1,7 +1,7 @@
 -- `is_past` compares each size with its limit. Assumes nothing.
-use Rattle.blif_decls.proofs.SizeLaws.{past-inputs, past-outputs, past-gates, past-pins}
-use Rattle.blif_decls.proofs.is_past.Statement.{statement}
-use Rattle.blif_decls.proofs.is_past.Tie as tie
+use Rattle.blif_sizes.proofs.SizeLaws.{past-inputs, past-outputs, past-gates, past-pins}
+use Rattle.blif_sizes.proofs.is_past.Statement.{statement}
+use Rattle.blif_sizes.proofs.is_past.Tie as tie
 
 returns : tie.Need-returns
 returns c = past-inputs (c .before .before .args .w) (c .if1 .taken)

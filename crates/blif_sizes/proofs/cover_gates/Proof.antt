@@ -2,8 +2,8 @@
 use borrow.Author.Needs.{needs}
 use borrow.Author.Tests.{lt-ltb, le-ltb}
 use Rattle.blif_model.specs.Read.{added}
-use Rattle.blif_decls.proofs.cover_gates.Statement.{statement}
-use Rattle.blif_decls.proofs.cover_gates.Tie as tie
+use Rattle.blif_sizes.proofs.cover_gates.Statement.{statement}
+use Rattle.blif_sizes.proofs.cover_gates.Tie as tie
 
 add-result : tie.Need-add-result
 add-result c = search needs

@@ -4,8 +4,8 @@ use Prim.Native.Nat.{ℕ, _+_, _-_, _*_, _≤_}
 use native.Mathlib.Nat.{mul-le-mul}
 use native.Mathlib.Omega.{arith}
 use borrow.Author.Needs.{needs}
-use Rattle.blif_decls.proofs.cover_pins.Statement.{statement}
-use Rattle.blif_decls.proofs.cover_pins.Tie as tie
+use Rattle.blif_sizes.proofs.cover_pins.Statement.{statement}
+use Rattle.blif_sizes.proofs.cover_pins.Tie as tie
 
 add-result : tie.Need-add-result
 add-result c = search needs

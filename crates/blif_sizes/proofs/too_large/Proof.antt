@@ -2,9 +2,9 @@
 use mathlib.Core.Path.{sym, _∙_}
 use Prim.Native.Nat.{_-_}
 use native.Mathlib.Omega.{arith}
-use Rattle.blif_decls.proofs.Counting.{Counting, counting-start, counting-past, counting-next, counting-done}
-use Rattle.blif_decls.proofs.too_large.Statement.{statement}
-use Rattle.blif_decls.proofs.too_large.Tie as tie
+use Rattle.blif_sizes.proofs.Counting.{Counting, counting-start, counting-past, counting-next, counting-done}
+use Rattle.blif_sizes.proofs.too_large.Statement.{statement}
+use Rattle.blif_sizes.proofs.too_large.Tie as tie
 
 abbrev Inv-loop : tie.InvT-loop
 Inv-loop text tokens n sizes₀ sizes = Counting text tokens n sizes

@@ -15,10 +15,10 @@ use Rattle.blif_text.specs.declared.Run.{Run}
 use Rattle.blif_text.specs.declared.Statement.the-variants as place
 use Rattle.blif_text.proofs.RefusalLaws.{stmts-end}
 use Rattle.blif_model.specs.Read.{added, gateCount, pinCount}
-use Rattle.blif_decls.specs.Rows.{names, RowIs, LinesAt}
-use Rattle.blif_decls.specs.Sizes.{passes, Totals, Counts}
-use Rattle.blif_decls.specs.declared.Sizes.{Sizes}
-use Rattle.blif_decls.proofs.RowStarts.{names-length, stmts-behind}
+use Rattle.blif_sizes.specs.Rows.{names, RowIs, LinesAt}
+use Rattle.blif_sizes.specs.Sizes.{passes, Totals, Counts}
+use Rattle.blif_sizes.specs.declared.Sizes.{Sizes}
+use Rattle.blif_sizes.proofs.RowStarts.{names-length, stmts-behind}
 
 -- ---- a size that is passed
 

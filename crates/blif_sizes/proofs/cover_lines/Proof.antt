@@ -3,9 +3,9 @@ use mathlib.Core.Path.{sym, _∙_}
 use Prim.Native.Nat.{_-_}
 use native.Mathlib.Omega.{arith}
 use borrow.Author.Tests.{not-true, not-false}
-use Rattle.blif_decls.proofs.LineWalk.{Passed, passed-start, passed-next, passed-stop, passed-end}
-use Rattle.blif_decls.proofs.cover_lines.Statement.{statement}
-use Rattle.blif_decls.proofs.cover_lines.Tie as tie
+use Rattle.blif_sizes.proofs.LineWalk.{Passed, passed-start, passed-next, passed-stop, passed-end}
+use Rattle.blif_sizes.proofs.cover_lines.Statement.{statement}
+use Rattle.blif_sizes.proofs.cover_lines.Tie as tie
 
 abbrev Inv-loop : tie.InvT-loop
 Inv-loop text tokens n at count₀ i₀ count i = Passed text tokens n at count i

@@ -19,7 +19,7 @@ use Rattle.blif_text.specs.declared.Statement.the-variants as place
 use Rattle.blif_text.proofs.StatementLaws.{byKeyword, row-by-keyword}
 use Rattle.blif_text.proofs.RowWalk.{rows-end, rows-are}
 use Rattle.blif_text.proofs.RefusalLaws.{stmts-are, stmts-said, stmts-next}
-use Rattle.blif_decls.specs.Rows.{names, Starts, RowIs}
+use Rattle.blif_sizes.specs.Rows.{names, Starts, RowIs}
 
 -- ---- what a statement has of its row's tokens, the first and the others
 
