@@ -23,7 +23,7 @@ use Rattle.network.specs.Net.{ValidNode, Valid}
 use Rattle.network.specs.Cells.{maxInputs, maxOutputs, maxGates, maxPins, gateWidth, firstAt, countAt, gateAt, pinCells, lent, orBuf, netOf}
 use Rattle.network.specs.declared.Counts.{Counts}
 use Rattle.network.proofs.Lent.{valid-small}
-use Rattle.sort.specs.Into.{Sortable}
+use Rattle.sort_order.specs.Sortable.{Sortable}
 use Rattle.blif_text.specs.Decls.{Decl, ins, outs, defs}
 use Rattle.blif_model.specs.Build.{mains, extras}
 use Rattle.blif_model.specs.Render.{blockOf}

@@ -17,7 +17,8 @@ use Rattle.network.specs.Cells.{maxGates, maxPins, maxOutputs, gateWidth, gateC
 use Rattle.network.specs.declared.Counts.{Counts}
 use Rattle.network.proofs.Laying.{laid-over}
 use Rattle.sort_order.specs.Sorted.{sorted, Preserved}
-use Rattle.sort.specs.Into.{Outcome, outcome, sortInto, Sortable}
+use Rattle.sort.specs.Into.{Outcome, outcome, sortInto}
+use Rattle.sort_order.specs.Sortable.{Sortable}
 use Rattle.sort.specs.declared.Sorted.{Sorted}
 use Rattle.sort.specs.declared.Sorted.the-variants.{Order, Loop}
 use Rattle.sort_order.proofs.Summary.{sorted-keeps}

@@ -25,7 +25,8 @@ use Rattle.network.proofs.Renumbering.{pins-remap}
 use Rattle.sort.specs.declared.Sorted.the-variants.{Order, Loop}
 use Rattle.sort_order.specs.Order.{sortOrder}
 use Rattle.sort_order.specs.Sorted.{graph, sorted}
-use Rattle.sort.specs.Into.{outcome, sortInto, Sortable}
+use Rattle.sort.specs.Into.{outcome, sortInto}
+use Rattle.sort_order.specs.Sortable.{Sortable}
 use Rattle.sort.specs.Steps.{ordered, cellGraph, Numbers, Tabled, movedGates, movedPins, pinsIn, Movable, Renewed}
 use Rattle.sort_order.proofs.Ordering.{place, sort-length}
 use Rattle.sort_order.proofs.Sorting.{graph-valid, order-sorted, none-sorted, order-has, order-orders}

@@ -21,7 +21,7 @@ use Rattle.network.specs.declared.Counts.{Counts}
 use Rattle.network.specs.Cells.{gateWidth, formAt, firstAt, countAt, runAt, gateAt, orBuf, lent, netOf, pinCells}
 use Rattle.sort_order.specs.Order.{Graph, useCount}
 use Rattle.sort_order.specs.Sorted.{gateNums, combAt, insAt, graph}
-use Rattle.sort.specs.Into.{Sortable}
+use Rattle.sort_order.specs.Sortable.{Sortable}
 use Rattle.sort_order.specs.Walk.{ValidGraph}
 use Rattle.sort.specs.Steps.{gateIns, formComb, cellGates, cellComb, cellIns, cellGraph, HasRun, Cells}
 use Rattle.sort.proofs.Naming.{ins-nums}

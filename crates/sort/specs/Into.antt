@@ -1,17 +1,15 @@
 -- What `topo_sort` answers and leaves in the cells that it fills (document 01: "Pins here are the sorted gates' inputs, laid in gate
 -- order"). Assumes nothing: these are definitions.
-use mathlib.Core.Path.{_≡_}
 use mathlib.Core.Bool.{Bool, _&&_, cond}
 use mathlib.Core.List.{List, map}
 use mathlib.Core.Option.{Option, none, some}
-use Prim.Native.Nat.{ℕ, _*_, _≤_, _<_}
+use Prim.Native.Nat.{ℕ, _*_}
 use lib.Dec.{leb}
 use lib.ListN.{length}
 use Rattle.lists.specs.Lists.{over}
 use Rattle.signal.specs.Cell.{sigCell}
-use Rattle.gates.specs.Gate.{Gate}
-use Rattle.network.specs.Net.{Net, Valid}
-use Rattle.network.specs.Cells.{Lent, gateAt, netOf, isNetwork, gateWidth, maxGates, maxPins, gateCells, pinCells}
+use Rattle.network.specs.Net.{Net}
+use Rattle.network.specs.Cells.{Lent, netOf, isNetwork, gateWidth, gateCells, pinCells}
 use Rattle.sort.specs.declared.Sorted.{Sorted}
 use Rattle.sort.specs.declared.Sorted.the-variants.{Order, Loop}
 use Rattle.sort.specs.declared.Attempt.{Attempt}
@@ -39,23 +37,6 @@ sortInto none gs ps os = outcome Loop gs ps os
 sortInto (some net) gs ps os =
     outcome (Order (length (pinCells (net .gates)))) (over (gateCells 0 (net .gates)) gs) (over (pinCells (net .gates)) ps)
     (over (map sigCell (net .outputs)) os)
-
--- what the sort asks of the cells: each gate can be read, wherever its run stands, the signals are valid, and the new cells have room
-pub record Sortable (l : Lent) (newGates newPins : ℕ) : Type 0 where
-  -- "1,024 gates"
-  pub few : l .counts .gates ≤ maxGates
-  -- each gate can be read
-  pub readable : (g : ℕ) → g < l .counts .gates → (x : Gate) × (gateAt (l .cells) (l .pinsLent) g ≡ some x)
-  -- every signal is valid
-  pub valid : Valid (netOf l)
-  -- the outputs are among those lent
-  pub outputs : l .counts .outputs ≤ length (l .outsLent)
-  -- "16,384 pins"
-  pub fewPins : length (pinCells (netOf l .gates)) ≤ maxPins
-  -- the new gate cells have room
-  pub room : l .counts .gates * gateWidth ≤ newGates
-  -- and so have the new pin cells
-  pub pinRoom : length (pinCells (netOf l .gates)) ≤ newPins
 
 -- cells that nothing is known of can be sorted: they are a network, and the new cells have room for it
 unfoldable pub canSort : Lent → ℕ → ℕ → Bool

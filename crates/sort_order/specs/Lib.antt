@@ -1,3 +1,4 @@
 pub mod Order
 pub mod Sorted
 pub mod Walk
+pub mod Sortable
