@@ -7,6 +7,8 @@
 //        oracle files PROGRAM FILE..               the same for files of one text each, cut behind 32,769 bytes
 //        oracle writes SEED COUNT GIVEN WANTED     files of lent networks and of what `write_blif` writes, as document 01 has it
 //        oracle written SEED COUNT PROGRAM         such networks, with every one of a single gate, written by a program
+//        oracle trips SEED COUNT GIVEN WANTED      files of lent networks with rows, and of what is answered when they are written and read
+//        oracle tripped SEED COUNT PROGRAM         such networks, written and read back by a program
 mod compare;
 mod generate;
 mod io;
@@ -19,8 +21,10 @@ mod network;
 mod plain_writer;
 mod points;
 mod reads;
+mod simulate;
 mod texts;
 mod tricky;
+mod trips;
 mod variants;
 mod writes;
 pub use network::{BinaryType, Gate, NaryType, Network, Signal, TernaryType};
@@ -179,6 +183,16 @@ fn run(a: &[String]) {
             let mut networks = writes::networks(a[2].parse().unwrap(), a[3].parse().unwrap());
             networks.extend(nets::singles());
             std::process::exit(!writes::compare(&a[4], &networks) as i32);
+        }
+        "trips" => {
+            let trips = trips::trips(a[2].parse().unwrap(), a[3].parse().unwrap());
+            trips::told_apart(&trips);
+            std::fs::write(&a[4], trips::all_given(&trips)).unwrap();
+            std::fs::write(&a[5], trips::answers(&trips).concat()).unwrap();
+        }
+        "tripped" => {
+            let trips = trips::trips(a[2].parse().unwrap(), a[3].parse().unwrap());
+            std::process::exit(!trips::compare(&a[4], &trips) as i32);
         }
         "checks" => println!("{}", models::checks(a[2].parse().unwrap(), a[3].parse().unwrap())),
         other => panic!("no list {other}"),

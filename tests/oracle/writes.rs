@@ -87,7 +87,7 @@ pub fn all_given(ls: &[Lent]) -> String {
 }
 
 // Whether a combinational gate has an input that is no lower gate.
-fn unsorted(p: &Plain) -> bool {
+pub fn unsorted(p: &Plain) -> bool {
     let higher = |g: usize, s: &Signal| s.is_var() && s.var() as usize >= g;
     p.gates.iter().enumerate().any(|(g, (form, ps))| *form != 14 && ps.iter().any(|s| higher(g, s)))
 }
@@ -138,11 +138,10 @@ pub fn told_apart(ls: &[Lent]) {
     }
 }
 
-// What the program prints for the networks, a block for each.
-fn printed(program: &str, ls: &[Lent]) -> Vec<String> {
+// What the program prints for the networks given, a block for each.
+pub fn printed(program: &str, all: String) -> Vec<String> {
     let mut child = Command::new(program).stdin(Stdio::piped()).stdout(Stdio::piped()).spawn().unwrap();
     let mut to = child.stdin.take().unwrap();
-    let all = all_given(ls);
     let writer = std::thread::spawn(move || to.write_all(all.as_bytes()));
     let out = child.wait_with_output().unwrap();
     let _ = writer.join();
@@ -158,7 +157,7 @@ fn printed(program: &str, ls: &[Lent]) -> Vec<String> {
 
 // Prints how many differ, and of those that do the one with the fewest cells; answers whether none does.
 pub fn compare(program: &str, ls: &[Lent]) -> bool {
-    let (want, got) = (answers(ls), printed(program, ls));
+    let (want, got) = (answers(ls), printed(program, all_given(ls)));
     let at = |v: &[String], n: usize| v.get(n).cloned().unwrap_or_default();
     let bad: Vec<usize> = (0..ls.len()).filter(|n| at(&want, *n) != at(&got, *n)).collect();
     println!("{} compared, {} differ", ls.len(), bad.len());
