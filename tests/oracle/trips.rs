@@ -116,7 +116,7 @@ fn limits() -> Vec<(Plain, Rows)> {
     let full = (0..1022).map(|k| if k % 2 == 0 { (13, vec![i(k % 256)]) } else { flop(i(k % 256)) }).collect();
     let control = |e, r| (net(2, vec![(14, vec![i(0), e, r])], vec![x(0)]), every(2));
     let mut all = vec![xor(11, 9), xor(12, 10), xor(11, 11), xor(12, 12), xor(11, 13), xor(12, 13)];
-    all.extend([wide(9, 8183), wide(9, 8184), wide(8, 16384)]);
+    all.extend([wide(8, 5000), wide(9, 8162), wide(9, 8163)]);
     all.extend([chain(1022), chain(1023), (turned(200), every(1)), (turned(820), every(1)), (net(256, full, (766..1022).map(x).collect()), vec![row(256), row(200), row(256)])]);
     for c in [i(1), !i(1), Signal::zero(), Signal::one(), x(0)] {
         all.extend([control(c, Signal::zero()), control(Signal::one(), c)]);

@@ -22,15 +22,15 @@ use round_trip::TripAnswer;
 use round_trip::write_then_read;
 use signal::Signal;
 ghost use mathlib.Core.Path.{_≡_};
-ghost use mathlib.Core.Bool.{false, cond};
+ghost use mathlib.Core.Bool.{true, false, cond};
 ghost use mathlib.Core.List.{map};
-ghost use lib.ListN.{length, getD};
+ghost use lib.ListN.{getD, set};
 ghost use Rattle.signal.specs.Cell.{sigOf};
 ghost use Rattle.gates.specs.Gate.{ones, mux};
 ghost use Rattle.gates.specs.Forms.{gateOfKind, binaryForm, ternaryForm, naryForm};
 ghost use Rattle.network.specs.Clock.{gateBit, nextBit};
 ghost use Rattle.network.specs.Cells.{gateAt, orBuf};
-ghost use Rattle.trip_replay.specs.Bits.{signalBit, pinBits, Makes, MakesOfThree, NextOf};
+ghost use Rattle.trip_replay.specs.Bits.{signalBit, pinBits, Makes, MakesOfThree, NextOf, FitWhen, SteppedTo, ShownTo, digitOf, Clocks};
 
 const WORD: usize = 0x1_0000_0000;
 
@@ -214,7 +214,9 @@ fn next_bit(gates: &[u32], pins: &[u32], g: usize, row: &[bool], bits: &[bool], 
 }
 
 // Puts a bit at place i, if there is one.
-fn put_bit(bits: &mut [bool], i: usize, b: bool) {
+fn put_bit(bits: &mut [bool], i: usize, b: bool)
+    ensures { λ _. ⌜ now (bits .exit) ≡ set (now (bits .entry)) i b ⌝ }
+{
     if i < bits.len() {
         bits[i] = b;
     }
@@ -228,7 +230,9 @@ fn sweep(
     row: &[bool],
     held: &[bool],
     bits: &mut [bool],
-) -> bool {
+) -> bool
+    ensures { λ r. ⌜ FitWhen false r n (now (gates .entry)) (now (pins .entry)) (now (row .entry)) (now (held .entry)) (now (bits .exit)) ⌝ }
+{
     let mut changed = false;
     for g in 0..n {
         let b = gate_bit(gates, pins, g, row, bits, bit_at(held, g));
@@ -240,7 +244,8 @@ fn sweep(
     changed
 }
 
-// Works out the gates' bits in at most so many sweeps; a line that no stored answer has, if they still change then.
+// Works out the gates' bits in at most so many sweeps; answers whether the last one changed nothing, and prints a line that no stored
+// answer has if it did.
 fn settle(
     n: usize,
     most: usize,
@@ -249,17 +254,22 @@ fn settle(
     row: &[bool],
     held: &[bool],
     bits: &mut [bool],
-) {
+) -> bool
+    ensures { λ r. ⌜ FitWhen true r n (now (gates .entry)) (now (pins .entry)) (now (row .entry)) (now (held .entry)) (now (bits .exit)) ⌝ }
+{
     for _ in 0..most {
         if !sweep(n, gates, pins, row, held, bits) {
-            return;
+            return true;
         }
     }
     io::write_all(1, b"not settled\n");
+    false
 }
 
 // All flip-flops step together.
-fn step(n: usize, gates: &[u32], pins: &[u32], row: &[bool], bits: &[bool], held: &mut [bool]) {
+fn step(n: usize, gates: &[u32], pins: &[u32], row: &[bool], bits: &[bool], held: &mut [bool])
+    ensures { λ _. ⌜ SteppedTo n (now (gates .entry)) (now (pins .entry)) (now (row .entry)) (now (bits .entry)) (now (held .entry)) (now (held .exit)) ⌝ }
+{
     for g in 0..n {
         let b = next_bit(gates, pins, g, row, bits, bit_at(held, g));
         put_bit(held, g, b);
@@ -267,14 +277,18 @@ fn step(n: usize, gates: &[u32], pins: &[u32], row: &[bool], bits: &[bool], held
 }
 
 // Puts a byte at place i, if there is one.
-fn put_byte(bytes: &mut [u8], i: usize, b: u8) {
+fn put_byte(bytes: &mut [u8], i: usize, b: u8)
+    ensures { λ _. ⌜ now (bytes .exit) ≡ set (now (bytes .entry)) i b ⌝ }
+{
     if i < bytes.len() {
         bytes[i] = b;
     }
 }
 
 // A bit as a digit.
-fn digit(b: bool) -> u8 {
+fn digit(b: bool) -> u8
+    ensures { λ r. ⌜ r ≡ digitOf b ⌝ }
+{
     if b {
         return b'1';
     }
@@ -282,7 +296,9 @@ fn digit(b: bool) -> u8 {
 }
 
 // The outputs' bits in order, as digits.
-fn show(n: usize, outputs: &[u32], row: &[bool], bits: &[bool], line: &mut [u8]) {
+fn show(n: usize, outputs: &[u32], row: &[bool], bits: &[bool], line: &mut [u8])
+    ensures { λ _. ⌜ ShownTo n (now (outputs .entry)) (now (row .entry)) (now (bits .entry)) (now (line .exit)) ⌝ }
+{
     for i in 0..n {
         let s = Signal {
             a: word_at(outputs, i),
@@ -291,7 +307,7 @@ fn show(n: usize, outputs: &[u32], row: &[bool], bits: &[bool], line: &mut [u8])
     }
 }
 
-// One clock: works the bits out in at most so many sweeps, takes the outputs, then steps what is held.
+// One clock: works the bits out in at most so many sweeps, takes the outputs, then steps what is held; answers whether the bits fit.
 fn clock(
     counts: Counts,
     most: usize,
@@ -301,12 +317,15 @@ fn clock(
     row: &[bool],
     held: &mut [bool],
     line: &mut [u8],
-) {
+) -> bool
+    ensures { λ r. ⌜ Clocks counts (now (gates .entry)) (now (pins .entry)) (now (outputs .entry)) (now (row .entry)) (now (held .entry)) (now (line .entry)) (now (held .exit)) (now (line .exit)) r ⌝ }
+{
     let mut bits = [false; 1024];
     let n = counts.gates;
-    settle(n, most, gates, pins, row, held, &mut bits);
+    let settled = settle(n, most, gates, pins, row, held, &mut bits);
     show(counts.outputs, outputs, row, &bits, line);
     step(n, gates, pins, row, &bits, held);
+    settled
 }
 
 // ---- what is read
@@ -340,7 +359,9 @@ fn put_word(cells: &mut [u32], i: usize, word: u32) {
 }
 
 // Cell i, or zero if there is none.
-fn word_at(cells: &[u32], i: usize) -> u32 {
+fn word_at(cells: &[u32], i: usize) -> u32
+    ensures { λ r. ⌜ r ≡ getD (now (cells .entry)) i 0 ⌝ }
+{
     if i < cells.len() {
         return cells[i];
     }

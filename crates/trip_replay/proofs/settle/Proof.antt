@@ -1,7 +1,9 @@
--- `settle` is safe and ends. Assumes nothing.
+-- `settle` sweeps until nothing changes. Assumes nothing.
 use mathlib.Core.Path.{_≡_, refl}
+use mathlib.Core.Bool.{false≢true}
 use Prim.Native.Nat.{_-_}
 use lib.ListN.{length}
+use borrow.Author.Tests.{not-true}
 use borrow.Author.Needs.{needs}
 use native.Mathlib.Omega.{arith}
 use Rattle.trip_replay.proofs.settle.Statement.{statement}
@@ -23,7 +25,7 @@ same-length : tie.Need-same-length Inv-loop μ-loop
 same-length c = search needs
 
 returns : tie.Need-returns Inv-loop μ-loop
-returns c = tt
+returns c = λ e. c .before .before .before .sweep .ensures (not-true _ (c .if1 .taken))
 
 add-counter : tie.Need-add-counter Inv-loop μ-loop
 add-counter c = omega arith
@@ -44,7 +46,7 @@ same-length-2 : tie.Need-same-length-2 Inv-loop μ-loop
 same-length-2 c = search needs
 
 returns-2 : tie.Need-returns-2 Inv-loop μ-loop
-returns-2 c = tt
+returns-2 c = λ e. absurd (false≢true e)
 
 pub settle-spec : {M : Type 1} → statement M
 settle-spec =
