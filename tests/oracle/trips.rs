@@ -71,7 +71,9 @@ fn forms() -> Vec<(Plain, Rows)> {
 fn flops() -> Vec<(Plain, Rows)> {
     let bits = |s: &str| s.bytes().map(|b| vec![b == b'1']).collect::<Rows>();
     let witness = net(2, vec![flop(x(1)), (11, vec![i(0), x(0)]), (6, vec![x(0), i(1), x(1)])], vec![!x(2)]);
-    let counter = vec![flop(!x(0)), flop(x(2)), (2, vec![x(1), x(0)]), flop(x(4)), (4, vec![x(3), x(5), Signal::zero()]), (1, vec![x(0), x(1)])];
+    let sums = [(2, vec![x(1), x(0)]), (4, vec![x(3), x(5), Signal::zero()]), (1, vec![x(0), x(1)])];
+    let [low, high, carry] = sums;
+    let counter = vec![flop(!x(0)), flop(x(2)), low, flop(x(4)), high, carry];
     vec![
         (witness, [every(2), every(2), every(2)].concat()),
         (net(1, vec![flop(i(0))], vec![x(0)]), bits("0110100")),
@@ -83,7 +85,10 @@ fn flops() -> Vec<(Plain, Rows)> {
         (net(0, vec![flop(x(0))], vec![x(0)]), vec![vec![]; 3]),
         (net(0, vec![flop(Signal::one()), flop(Signal::zero())], vec![x(0), x(1)]), vec![vec![]; 3]),
         // rows that are too short and too long, and none
-        (net(3, vec![flop(i(2))], vec![x(0), i(0), i(1), i(2)]), vec![vec![], vec![true], vec![true; 5], vec![], vec![true; 256], vec![false]]),
+        (
+            net(3, vec![flop(i(2))], vec![x(0), i(0), i(1), i(2)]),
+            vec![vec![], vec![true], vec![true; 5], vec![], vec![true; 256], vec![false]],
+        ),
         (net(1, vec![flop(i(0))], vec![x(0)]), vec![]),
     ]
 }
@@ -99,7 +104,14 @@ fn shapes() -> Vec<(Plain, Rows)> {
         (net(2, vec![(1, vec![!x(1), i(0)]), (2, vec![i(0), i(1)])], vec![x(0), x(1)]), every(2)),
         (net(1, last(9), vec![x(0), !x(8)]), every(1)),
         (net(1, last(1000), vec![x(0), !x(999)]), every(1)),
-        (net(2, vec![(1, vec![i(0), zero]), (3, vec![one, i(1), one]), (8, vec![zero, i(0)]), (11, vec![one, i(1)])], (0..4).map(x).collect()), every(2)),
+        (
+            net(
+                2,
+                vec![(1, vec![i(0), zero]), (3, vec![one, i(1), one]), (8, vec![zero, i(0)]), (11, vec![one, i(1)])],
+                (0..4).map(x).collect(),
+            ),
+            every(2),
+        ),
         (net(1, vec![(1, vec![x(0), i(0)])], vec![x(0)]), every(1)),
         (net(1, vec![(1, vec![x(1), i(0)]), (13, vec![x(0)])], vec![x(0)]), every(1)),
         (net(1, vec![(1, vec![x(1), i(0)]), flop(x(0))], vec![x(0)]), every(1)),
@@ -109,15 +121,17 @@ fn shapes() -> Vec<(Plain, Rows)> {
 // The limits of a text that is read: gates with the two constants, pins, Xor by its lines; flip-flops that are not plain.
 fn limits() -> Vec<(Plain, Rows)> {
     let row = |n: usize| (0..n).map(|k| k % 3 == 0).collect::<Vec<bool>>();
-    let xor = |form, n: u32| (net(n as usize, vec![(form, (0..n).map(i).collect())], vec![x(0)]), vec![row(n as usize), vec![true; n as usize]]);
-    let wide = |form, n: usize| (net(3, vec![(form, (0..n).map(|k| i(k as u32 % 3)).collect())], vec![x(0)]), every(3));
-    let chain = |n: u32| (net(1, (0..n).map(|k| flop(if k == 0 { i(0) } else { x(k - 1) })).collect(), vec![x(0), x(2)]), [every(1), every(1), every(1)].concat());
-    let turned = |n: u32| net(1, (0..n).map(|_| (13, vec![i(0)])).collect(), (0..n.min(256)).map(|k| !x(k)).collect());
+    let alone = |inputs, form, pins: Vec<Signal>| net(inputs, vec![(form, pins)], vec![x(0)]);
+    let xor = |form, n: usize| (alone(n, form, (0..n as u32).map(i).collect()), vec![row(n), vec![true; n]]);
+    let wide = |form, n: u32| (alone(3, form, (0..n).map(|k| i(k % 3)).collect()), every(3));
+    let shift = |n: u32| (0..n).map(|k| flop(if k == 0 { i(0) } else { x(k - 1) })).collect();
+    let chain = |n: u32| (net(1, shift(n), vec![x(0), x(2)]), [every(1), every(1), every(1)].concat());
+    let turned = |n: usize| (net(1, vec![(13, vec![i(0)]); n], (0..n.min(256) as u32).map(|k| !x(k)).collect()), every(1));
     let full = (0..1022).map(|k| if k % 2 == 0 { (13, vec![i(k % 256)]) } else { flop(i(k % 256)) }).collect();
-    let control = |e, r| (net(2, vec![(14, vec![i(0), e, r])], vec![x(0)]), every(2));
+    let control = |e, r| (alone(2, 14, vec![i(0), e, r]), every(2));
     let mut all = vec![xor(11, 9), xor(12, 10), xor(11, 11), xor(12, 12), xor(11, 13), xor(12, 13)];
-    all.extend([wide(8, 5000), wide(9, 8162), wide(9, 8163)]);
-    all.extend([chain(1022), chain(1023), (turned(200), every(1)), (turned(820), every(1)), (net(256, full, (766..1022).map(x).collect()), vec![row(256), row(200), row(256)])]);
+    all.extend([wide(8, 5000), wide(9, 8162), wide(9, 8163), chain(1022), chain(1023), turned(200), turned(820)]);
+    all.push((net(256, full, (766..1022).map(x).collect()), vec![row(256), row(200), row(256)]));
     for c in [i(1), !i(1), Signal::zero(), Signal::one(), x(0)] {
         all.extend([control(c, Signal::zero()), control(Signal::one(), c)]);
     }
@@ -185,7 +199,10 @@ fn digits(bits: &[bool]) -> String {
 // The numbers that the program reads: those of a network to write, and the rows where it is read back.
 fn given(t: &Trip) -> String {
     let rows = match wanted(&t.lent) {
-        Answer::Back(_, _) => words(&[t.rows.len() as u32]) + &t.rows.iter().map(|r| words(&[r.len() as u32]) + &digits(r)).collect::<String>(),
+        Answer::Back(_, _) => {
+            let each = t.rows.iter().map(|r| words(&[r.len() as u32]) + &digits(r));
+            words(&[t.rows.len() as u32]) + &each.collect::<String>()
+        }
         _ => String::new(),
     };
     cells_given(&t.lent) + &rows
@@ -209,7 +226,8 @@ pub fn answers(ts: &[Trip]) -> Vec<String> {
                 let p = decoded(&t.lent).unwrap();
                 assert!(order(&p, variants::Mistake::Nothing).is_some(), "a loop is read back");
                 let outs = run(&p, &t.rows, Mistake::Nothing);
-                let counts = [unsorted(&p) as usize, p.gates.iter().any(|g| g.0 == 14) as usize, t.rows.is_empty() as usize, outs.len(), outs.concat().len()];
+                let flop = p.gates.iter().any(|g| g.0 == 14);
+                let counts = [unsorted(&p) as usize, flop as usize, t.rows.is_empty() as usize, outs.len(), outs.concat().len()];
                 back.iter_mut().zip(counts).for_each(|(sum, c)| *sum += c);
                 let head = format!("length={length} counts {} {} {} {}\n", b.inputs, b.gates.len(), b.pins(), b.outputs.len());
                 ("read back".to_string(), head + &outs.iter().map(|o| digits(o)).collect::<String>())
@@ -219,7 +237,8 @@ pub fn answers(ts: &[Trip]) -> Vec<String> {
         all.push(format!("network {n}\n{shown}"));
     }
     eprintln!("{} networks; answers: {seen:?}", ts.len());
-    eprintln!("of those read back, not sorted, with a flip-flop, without rows: {:?}; clocks: {}; bits of outputs: {}", &back[..3], back[3], back[4]);
+    eprintln!("of those read back, not sorted, with a flip-flop, without rows: {:?}", &back[..3]);
+    eprintln!("clocks: {}; bits of outputs: {}", back[3], back[4]);
     all
 }
 
