@@ -518,6 +518,57 @@ fn run_rows(
     }
 }
 
+// Prints a refusal; every cell to be filled must be zero.
+fn answer_refused(word: &[u8], number: u32, gates: &[u32], pins: &[u32], outputs: &[u32]) {
+    print_refused(word, number);
+    expect_zero(gates, 0);
+    expect_zero(pins, 0);
+    expect_zero(outputs, 0);
+}
+
+// A line that no stored answer has, unless the cells beyond the counts are zero.
+fn expect_unused(counts: Counts, gates: &[u32], pins: &[u32], outputs: &[u32]) {
+    expect_zero(gates, counts.gates % WORD * GATE_CELLS);
+    expect_zero(pins, counts.pins);
+    expect_zero(outputs, counts.outputs);
+}
+
+// Prints a trip's answer, and where the network is read back the outputs for the next rows; what is not in use must be zero.
+fn answer_trip(
+    counts: Counts,
+    gates: &[u32],
+    pins: &[u32],
+    outputs: &[u32],
+    answer: TripAnswer,
+    text: &[u8],
+    new_gates: &[u32],
+    new_pins: &[u32],
+    new_outputs: &[u32],
+) {
+    match answer {
+        TripAnswer::NotWritten(k) => {
+            answer_refused(b"not written=", k, new_gates, new_pins, new_outputs);
+            expect_zero_bytes(text, 0);
+        }
+        TripAnswer::NotRead(k) => answer_refused(b"not read=", k, new_gates, new_pins, new_outputs),
+        TripAnswer::ReadBack(n, back) => {
+            print_counts(n, back);
+            expect_unused(back, new_gates, new_pins, new_outputs);
+            expect_zero_bytes(text, n);
+            run_rows(
+                counts,
+                gates,
+                pins,
+                outputs,
+                back,
+                new_gates,
+                new_pins,
+                new_outputs,
+            );
+        }
+    }
+}
+
 // Writes the network and reads it back; prints the answer, and where it is read back the outputs for the next rows.
 fn trip(counts: Counts, gates: &[u32], pins: &[u32], outputs: &[u32], text: &mut [u8]) {
     let mut new_gates = [ONES; 3072];
@@ -550,73 +601,6 @@ fn trip(counts: Counts, gates: &[u32], pins: &[u32], outputs: &[u32], text: &mut
         &new_pins,
         &new_outputs,
     );
-}
-
-// Prints a trip's answer, and where the network is read back the outputs for the next rows; what is not in use must be zero.
-fn answer_trip(
-    counts: Counts,
-    gates: &[u32],
-    pins: &[u32],
-    outputs: &[u32],
-    answer: TripAnswer,
-    text: &[u8],
-    new_gates: &[u32],
-    new_pins: &[u32],
-    new_outputs: &[u32],
-) {
-    match answer {
-        TripAnswer::NotWritten(k) => {
-            print_refused(b"not written=", k);
-            expect_unused(
-                Counts {
-                    inputs: 0,
-                    gates: 0,
-                    pins: 0,
-                    outputs: 0,
-                },
-                new_gates,
-                new_pins,
-                new_outputs,
-            );
-            expect_zero_bytes(text, 0);
-        }
-        TripAnswer::NotRead(k) => {
-            print_refused(b"not read=", k);
-            expect_unused(
-                Counts {
-                    inputs: 0,
-                    gates: 0,
-                    pins: 0,
-                    outputs: 0,
-                },
-                new_gates,
-                new_pins,
-                new_outputs,
-            );
-        }
-        TripAnswer::ReadBack(n, back) => {
-            print_counts(n, back);
-            expect_unused(back, new_gates, new_pins, new_outputs);
-            expect_zero_bytes(text, n);
-            run_rows(
-                counts,
-                gates,
-                pins,
-                outputs,
-                back,
-                new_gates,
-                new_pins,
-                new_outputs,
-            );
-        }
-    }
-}
-
-// A line that no stored answer has, unless the cells beyond the counts are zero.
-fn expect_unused(counts: Counts, gates: &[u32], pins: &[u32], outputs: &[u32]) {
-    expect_zero(gates, counts.gates % WORD * GATE_CELLS);
-    expect_zero(pins, counts.pins);
-    expect_zero(outputs, counts.outputs);
 }
 
 // Reads the cells of a network and makes the trip.
