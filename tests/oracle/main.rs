@@ -4,6 +4,8 @@
 //        oracle texts SEED COUNT GIVEN WANTED      files of texts and of the statements that `read_statements` finds
 //        oracle reads SEED COUNT GIVEN WANTED      files of texts and of what `read_blif` answers, as document 01 has it
 //        oracle writes SEED COUNT GIVEN WANTED     files of lent networks and of what `write_blif` writes, as document 01 has it
+//        oracle trips SEED COUNT GIVEN WANTED      files of lent networks with rows, and of what is answered when they are written and read
+//        oracle compare_trips SEED COUNT PROGRAM   such networks, written and read back by a program
 //        oracle compare_reads SEED COUNT PROGRAM   so many texts read by a program, beside what `read_blif` answers
 //        oracle compare_writes SEED COUNT PROGRAM  so many networks written by a program, beside what `write_blif` writes
 //        oracle compare_files PROGRAM FILE..       files of one text each read by a program, cut behind 32,769 bytes
@@ -20,10 +22,12 @@ mod plain_writer;
 mod points;
 mod reads;
 mod scale;
+mod simulate;
 mod smaller_nets;
 mod smaller_texts;
 mod texts;
 mod tricky;
+mod trips;
 mod variants;
 mod writes;
 pub use network::{BinaryType, Gate, NaryType, Network, Signal, TernaryType};
@@ -169,6 +173,8 @@ fn run(a: &[String]) {
         "texts" => store(a, texts::lists(seed(), count())),
         "reads" => store(a, reads::lists(seed(), count())),
         "writes" => store(a, writes::lists(seed(), count())),
+        "trips" => store(a, trips::lists(seed(), count())),
+        "compare_trips" => finish(compare::compare(&a[4], "trips", trips::trips(seed(), count()).into_iter())),
         "compare_reads" => finish(compare::compare(&a[4], "reading", scale::texts(seed(), count()))),
         "compare_writes" => finish(compare::compare(&a[4], "writing", scale::networks(seed(), count()))),
         "compare_files" => {
