@@ -172,8 +172,8 @@ const COVERS: &[(u32, &str)] = &[
     (0, ".inputs a\n.outputs q\n.latch a q"),
     (11, ".inputs q\n.latch a b q"),
     // names of equal hashes and names that begin alike
-    (0, ".inputs Aa BB a aa aaa\n.outputs BB Aa aaa a aa"),
-    (11, ".inputs Aa\n.outputs BB"),
+    (0, ".inputs aa xh a aab aaa\n.outputs xh aa aaa a aab"),
+    (11, ".inputs aa\n.outputs xh"),
 ];
 
 const SORT: &[(u32, &str)] = &[

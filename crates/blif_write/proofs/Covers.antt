@@ -1,11 +1,11 @@
--- Runs of pins, the cover and the latch of each kind of gate, and which gates are too wide. Assumes nothing.
+-- Runs of pins, the cover and the latch of each kind of gate, and gates that are not too wide. Assumes nothing.
 use mathlib.Core.Path.{_≡_, refl, sym, _∙_, ap}
-use mathlib.Core.Bool.{Bool, false, _&&_}
+use mathlib.Core.Bool.{false, _&&_}
 use mathlib.Core.List.{List, [], _∷_, map, flatMap, append-nil}
 use Prim.Native.Nat.{ℕ, _+_, _-_, _≤_, min}
 use native.Mathlib.Omega.{arith}
 use lib.Dec.{ltb}
-use lib.ListN.{length, take, drop, length-take, length-drop, length-map, drop-of-length-le}
+use lib.ListN.{length, take, drop, length-drop, length-map, drop-of-length-le}
 use lib.Seq.{take-all, take-nil}
 use borrow.Author.Tests.{ltb-false}
 use Rattle.lists.specs.Lists.{Bytes}
@@ -61,38 +61,7 @@ run-slice {s} {e} run ps h k =
     ∙ take-nil (e - s)
     ∙ sym (ap (take (run .count)) (drop-of-length-le ps p) ∙ take-nil (run .count)))
 
-pub run-length : {s e : ℕ} (run : PinRun) (ps : List ℕ) → s ≡ from run (length ps) → e ≡ upto run (length ps) → e - s ≡ length (map sigOf (runOf run ps))
-run-length {s} {e} run ps h k =
-    omega (arith, length-map (runOf run ps) sigOf, length-take (run .count) (drop (run .first) ps), length-drop (run .first) ps)
-
--- ---- which gates are too wide
-
-binary-narrow : (t : BinaryType) → false ≡ exclusive (binaryForm t)
-binary-narrow B.And = refl
-binary-narrow B.Xor = refl
-
-ternary-narrow : (t : TernaryType) → false ≡ exclusive (ternaryForm t)
-ternary-narrow T.And = refl
-ternary-narrow T.Xor = refl
-ternary-narrow T.Maj = refl
-ternary-narrow T.Mux = refl
-
--- a gate that an arm of a match knows
-wide-at : {x y : code.Gate} {b : Bool} (ps : List ℕ) → x ≡ y → b ≡ wide (gateIn y ps) → b ≡ wide (gateIn x ps)
-wide-at ps e h = h ∙ ap (λ (z : code.Gate). wide (gateIn z ps)) (sym e)
-
-pub wide-binary : {x : code.Gate} {t : BinaryType} {a b : signal.Signal} (ps : List ℕ) → x ≡ G.Binary t a b → false ≡ wide (gateIn x ps)
-wide-binary {x} {t} ps e = wide-at ps e (ap (λ (z : Bool). z && ltb 12 2) (binary-narrow t))
-
-pub wide-ternary : {x : code.Gate} {t : TernaryType} {a b c : signal.Signal} (ps : List ℕ) → x ≡ G.Ternary t a b c → false ≡ wide (gateIn x ps)
-wide-ternary {x} {t} ps e = wide-at ps e (ap (λ (z : Bool). z && ltb 12 3) (ternary-narrow t))
-
-pub wide-nary : {x : code.Gate} {t : NaryType} {run : PinRun} {b : Bool} {n : ℕ} (ps : List ℕ) → x ≡ G.Nary t run
-    → n ≡ length (map sigOf (runOf run ps)) → b ≡ (exclusive (naryForm t) && ltb 12 n) → b ≡ wide (gateIn x ps)
-wide-nary {x} {t} ps e h k = k ∙ wide-at ps e (ap (λ (i : ℕ). exclusive (naryForm t) && ltb 12 i) h)
-
-pub wide-type : {t u : NaryType} (n : ℕ) → t ≡ u → (b : Bool) → b ≡ (exclusive (naryForm u) && ltb 12 n) → b ≡ (exclusive (naryForm t) && ltb 12 n)
-wide-type n e b h = h ∙ ap (λ (z : NaryType). exclusive (naryForm z) && ltb 12 n) (sym e)
+-- ---- gates that are not too wide
 
 narrow-length : (t : NaryType) (n : ℕ) → (exclusive (naryForm t) && ltb 12 n) ≡ false → Narrow t n
 narrow-length N.And n e = tt

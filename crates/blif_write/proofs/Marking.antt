@@ -9,22 +9,7 @@ use lib.ListN.{length, getD, drop, set, length-set, drop-of-length-le}
 use lib.Seq.{drop-cons}
 use Rattle.signal.specs.Signal.{Node, Const, Input, Gated, Signal, inputNode, constNode}
 use Rattle.signal.specs.Cell.{nodeOf, sigOf, inputNumber, gateNumber}
-use Rattle.signal.specs.declared.Signal as signal
 use Rattle.signal.proofs.Cells.{input-number, gate-number}
-use Rattle.gates.specs.Gate.{Gate}
-use Rattle.gates.specs.Forms.{binaryForm, ternaryForm, naryForm}
-use Rattle.gates.specs.Decode.{runOf, gateIn}
-use Rattle.gates.specs.declared.PinRun.{PinRun}
-use Rattle.gates.specs.declared.BinaryType.{BinaryType}
-use Rattle.gates.specs.declared.BinaryType.the-variants as B
-use Rattle.gates.specs.declared.TernaryType.{TernaryType}
-use Rattle.gates.specs.declared.TernaryType.the-variants as T
-use Rattle.gates.specs.declared.NaryType.{NaryType}
-use Rattle.gates.specs.declared.NaryType.the-variants as N
-use Rattle.gates.specs.declared.Gate as code
-use Rattle.gates.specs.declared.Gate.the-variants as G
-use Rattle.gates.specs.Gate as data-gate
-use Rattle.blif_model.specs.Write.{named}
 use Rattle.blif_write.specs.Marks.{gateOf, inputOf, marked, markAll, Marked}
 use Rattle.blif_put.proofs.Numbers.{const-is, gate-left}
 
@@ -117,44 +102,3 @@ cells-next cells i h = ap (map sigOf) (drop-cons cells i 0 h ∙ ap (λ (k : ℕ
 
 pub cells-end : (cells : List ℕ) (i : ℕ) → length cells ≤ i → map sigOf (drop i cells) ≡ []
 cells-end cells i h = ap (map sigOf) (drop-of-length-le cells h)
-
--- ---- the inputs of a gate
-
-named-binary : (t : BinaryType) (ps : List Signal) → ps ≡ named (data-gate.Comb (binaryForm t) ps)
-named-binary B.And ps = refl
-named-binary B.Xor ps = refl
-
-named-ternary : (t : TernaryType) (ps : List Signal) → ps ≡ named (data-gate.Comb (ternaryForm t) ps)
-named-ternary T.And ps = refl
-named-ternary T.Xor ps = refl
-named-ternary T.Maj ps = refl
-named-ternary T.Mux ps = refl
-
-named-nary : (t : NaryType) (ps : List Signal) → ps ≡ named (data-gate.Comb (naryForm t) ps)
-named-nary N.And ps = refl
-named-nary N.Or ps = refl
-named-nary N.Nand ps = refl
-named-nary N.Nor ps = refl
-named-nary N.Xor ps = refl
-named-nary N.Xnor ps = refl
-
--- a gate that an arm of a match knows
-module _ {x : code.Gate} (ps : List ℕ) where
-  named-at : {y : code.Gate} {l : List Signal} → x ≡ y → l ≡ named (gateIn y ps) → l ≡ named (gateIn x ps)
-  named-at e h = h ∙ ap (λ (z : code.Gate). named (gateIn z ps)) (sym e)
-
-  pub names-binary : {t : BinaryType} {a b : signal.Signal} → x ≡ G.Binary t a b → sigOf (a .a) ∷ sigOf (b .a) ∷ [] ≡ named (gateIn x ps)
-  names-binary {t} {a} {b} e = named-at e (named-binary t (sigOf (a .a) ∷ sigOf (b .a) ∷ []))
-
-  pub names-ternary : {t : TernaryType} {a b c : signal.Signal} → x ≡ G.Ternary t a b c
-      → sigOf (a .a) ∷ sigOf (b .a) ∷ sigOf (c .a) ∷ [] ≡ named (gateIn x ps)
-  names-ternary {t} {a} {b} {c} e = named-at e (named-ternary t (sigOf (a .a) ∷ sigOf (b .a) ∷ sigOf (c .a) ∷ []))
-
-  pub names-nary : {t : NaryType} {run : PinRun} (cells : List ℕ) → x ≡ G.Nary t run → cells ≡ runOf run ps → map sigOf cells ≡ named (gateIn x ps)
-  names-nary {t} {run} cells e h = ap (map sigOf) h ∙ named-at e (named-nary t (map sigOf (runOf run ps)))
-
-  pub names-buf : {s : signal.Signal} → x ≡ G.Buf s → [] ≡ named (gateIn x ps)
-  names-buf e = named-at e refl
-
-  pub names-dff : {d e r : signal.Signal} → x ≡ G.Dff d e r → sigOf (d .a) ∷ sigOf (e .a) ∷ sigOf (r .a) ∷ [] ≡ named (gateIn x ps)
-  names-dff e = named-at e refl

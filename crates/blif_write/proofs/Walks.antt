@@ -24,16 +24,15 @@ use Rattle.blif_model.specs.Render.{blockLines, allLines}
 use Rattle.blif_put.specs.Text.{Wrote, Appended}
 use Rattle.blif_put.proofs.Laws.{Going, going-start, going-part, going-done}
 use Rattle.blif_write.specs.Into.{wide}
-use Rattle.blif_write.specs.Parts.{latchText, coverText, latchesText, coversText, held, Readable}
+use Rattle.blif_write.specs.Parts.{latchText, coverText, latchesText, coversText, held, HeldAt}
 use Rattle.blif_put.proofs.Texts.{lines-append}
 use Rattle.blif_write.proofs.Covers.{block-alone}
 
 -- ---- gates read one after the other
 
-pub read-bad : {cells ps : List ℕ} {n g : ℕ} {r : Decoded} → Readable cells ps n → g < n → decodedIn r ps ≡ gateAt cells ps g → r ≡ Bad → ⊥
-read-bad {cells} {ps} {n} {g} {r} w h e b =
-    let x = w .read g h in
-    let q : none ≡ some (x .0) = ap (λ (z : Decoded). decodedIn z ps) (sym b) ∙ e ∙ x .1 in
+pub read-bad : {cells ps : List ℕ} {g : ℕ} {r : Decoded} → HeldAt cells ps g → decodedIn r ps ≡ gateAt cells ps g → r ≡ Bad → ⊥
+read-bad {cells} {ps} {g} {r} w e b =
+    let q : none ≡ some (w .gate) = ap (λ (z : Decoded). decodedIn z ps) (sym b) ∙ e ∙ w .is in
     let z : _≡_ {A = ℕ} 0 1 = cc in
     omega arith
 
@@ -78,7 +77,7 @@ module _ {f : ℕ → List Gate → Bytes} {cells ps : List ℕ} {n : ℕ} {o : 
 -- ---- latches and covers
 
 -- only a Nary gate looks at the pins
-latch-any : (g : ℕ) (x : code.Gate) (ps : List ℕ) → latchText g (gateIn x []) ≡ latchText g (gateIn x ps)
+pub latch-any : (g : ℕ) (x : code.Gate) (ps : List ℕ) → latchText g (gateIn x []) ≡ latchText g (gateIn x ps)
 unfolding latchText
 latch-any g (G.Binary t a b) ps = refl
 latch-any g (G.Ternary t a b c) ps = refl
@@ -86,13 +85,10 @@ latch-any g (G.Nary t r) ps = refl
 latch-any g (G.Buf s) ps = refl
 latch-any g (G.Dff d e r) ps = refl
 
-latches-cons : (g : ℕ) (x : Gate) (xs : List Gate) → latchesText g (x ∷ xs) ≡ latchText g x ++ latchesText (suc g) xs
+pub latch-step : (g : ℕ) (x : Gate) (xs : List Gate) → latchesText g (x ∷ xs) ≡ latchText g x ++ latchesText (suc g) xs
 unfolding latchText
-latches-cons g (Comb f ps) xs = lines-append [] (allLines (latchBlocks nameBytes (suc g) xs))
-latches-cons g (Dff s) xs = lines-append (allLines (latchBlocks nameBytes g (Dff s ∷ []))) (allLines (latchBlocks nameBytes (suc g) xs))
-
-pub latch-step : (g : ℕ) (x : code.Gate) (ps : List ℕ) (xs : List Gate) → latchesText g (gateIn x ps ∷ xs) ≡ latchText g (gateIn x []) ++ latchesText (suc g) xs
-latch-step g x ps xs = latches-cons g (gateIn x ps) xs ∙ ap (λ (t : Bytes). t ++ latchesText (suc g) xs) (sym (latch-any g x ps))
+latch-step g (Comb f ps) xs = lines-append [] (allLines (latchBlocks nameBytes (suc g) xs))
+latch-step g (Dff s) xs = lines-append (allLines (latchBlocks nameBytes g (Dff s ∷ []))) (allLines (latchBlocks nameBytes (suc g) xs))
 
 pub cover-step : (g : ℕ) (x : Gate) (xs : List Gate) → coversText g (x ∷ xs) ≡ coverText g x ++ coversText (suc g) xs
 unfolding coverText

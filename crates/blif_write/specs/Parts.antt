@@ -1,9 +1,10 @@
 -- The parts of the text of a lent network (document 01, "The text"). Assumes nothing: these are definitions.
 use mathlib.Core.Path.{_≡_}
-use mathlib.Core.Bool.{true, false}
+use mathlib.Core.Bool.{Bool, true, false, _&&_, _||_}
 use mathlib.Core.List.{List, [], _∷_, _++_, map, flatMap}
 use mathlib.Core.Option.{some}
 use Prim.Native.Nat.{ℕ, _≤_, _<_}
+use lib.Dec.{eqb, ltb}
 use Rattle.lists.specs.Lists.{Bytes, bytes, any, range}
 use Rattle.signal.specs.Signal.{Signal, plain, Input}
 use Rattle.signal.specs.Cell.{sigOf}
@@ -28,11 +29,24 @@ latchText g x = blocksText (latchBlocks nameBytes g (x ∷ []))
 unfoldable pub coverText : ℕ → Gate → Bytes
 coverText g x = blocksText (combBlocks nameBytes g (x ∷ []))
 
+-- a form number and a pin count that are those of a wide gate: Nary Xor and Xnor are 11 and 12
+unfoldable pub wideNumber : ℕ → ℕ → Bool
+wideNumber form count = (eqb form 11 || eqb form 12) && ltb 12 count
+
 -- ---- the gates in lent cells
 
 -- k gates from gate g on
 abbrev pub held : List ℕ → List ℕ → ℕ → ℕ → List Gate
 held cells ps g k = map (λ (i : ℕ). orBuf (gateAt cells ps i)) (range g k)
+
+-- gate g can be read out of the cells
+pub record HeldAt (cells ps : List ℕ) (g : ℕ) : Type 0 where
+  -- one of 1,024 at most
+  pub low : g < maxGates
+  -- the gate
+  pub gate : Gate
+  -- which is what the cells hold
+  pub is : gateAt cells ps g ≡ some gate
 
 -- n gates can be read out of the cells, as refusal 20 asks
 pub record Readable (cells ps : List ℕ) (n : ℕ) : Type 0 where

@@ -3,28 +3,34 @@ use blif_put::append;
 use blif_put::append_name;
 use gates::Decoded;
 use gates::Gate;
-use gates::NaryType;
 use gates::PinRun;
 use network::Counts;
 use signal::Signal;
 ghost use mathlib.Core.Path.{_≡_};
-ghost use mathlib.Core.Bool.{true, false, _&&_};
+ghost use mathlib.Core.Bool.{true, false};
 ghost use mathlib.Core.List.{[], _∷_, _++_, map};
 ghost use Prim.Native.Nat.{_+_, _≤_, _<_, min};
-ghost use lib.Dec.{ltb};
 ghost use lib.ListN.{length, set};
 ghost use Rattle.lists.specs.Lists.{any};
 ghost use Rattle.signal.specs.Cell.{sigOf};
-ghost use Rattle.gates.specs.Forms.{naryForm};
 ghost use Rattle.gates.specs.Decode.{gateIn};
-ghost use Rattle.network.specs.Cells.{maxGates, maxInputs, lent};
+ghost use Rattle.network.specs.Cells.{maxGates, maxInputs, gateAt, orBuf, lent};
 ghost use Rattle.blif_text.specs.Places.{maxText};
 ghost use Rattle.blif_model.specs.Write.{named};
 ghost use Rattle.blif_model.specs.Render.{spaced, textOf};
 ghost use Rattle.blif_put.specs.Text.{Wrote, Appended};
-ghost use Rattle.blif_write.specs.Into.{outcome, refusedText, writeInto, exclusive, wide};
-ghost use Rattle.blif_write.specs.Parts.{latchText, coverText, latchesText, coversText, inputNames, headText, held, Readable, netIn, invertersText, Writable};
+ghost use Rattle.blif_write.specs.Into.{outcome, refusedText, writeInto, wide};
+ghost use Rattle.blif_write.specs.Parts.{wideNumber, latchText, coverText, latchesText, coversText, inputNames, headText, held, HeldAt, Readable, netIn, invertersText, Writable};
 ghost use Rattle.blif_write.specs.Marks.{Marked, namedIn, inverterAt, gateInverters, inputInverters};
+
+// Form numbers of gates that are looked at before they are read.
+const NARY_XOR: u32 = 11;
+
+const NARY_XNOR: u32 = 12;
+
+const BUF: u32 = 13;
+
+const DFF: u32 = 14;
 
 // The text's length, or a refusal's number.
 pub enum WriteAnswer {
@@ -44,6 +50,20 @@ fn write_latch(out: &mut [u8], gate: Gate, g: usize) -> usize
         Gate::Buf(_) => 0,
         Gate::Dff(d, e, r) => blif_put::write_stored(out, d, e, r, g),
     }
+}
+
+// Writes the latch of gate g, and nothing for a combinational gate.
+fn latch_at(out: &mut [u8], gates: &[u32], pins: &[u32], g: usize) -> usize
+    requires { ⌜ HeldAt (now gates) (now pins) g ⌝ }
+    ensures { λ r. ⌜ Wrote (latchText g (orBuf (gateAt (now (gates .entry)) (now (pins .entry)) g))) (now (out .entry)) (now (out .exit)) r ⌝ }
+{
+    if network::form_at(gates, g) != DFF {
+        return 0;
+    }
+    let Decoded::Good(gate) = network::gate_at(gates, pins, g) else {
+        return 0;
+    };
+    write_latch(out, gate, g)
 }
 
 // Where a run starts among n pins.
@@ -85,6 +105,20 @@ fn write_cover(out: &mut [u8], gate: Gate, pins: &[u32], g: usize) -> usize
     }
 }
 
+// Writes the cover of gate g, and nothing for a flip-flop.
+fn cover_at(out: &mut [u8], gates: &[u32], pins: &[u32], g: usize) -> usize
+    requires { ⌜ HeldAt (now gates) (now pins) g × (wide (orBuf (gateAt (now gates) (now pins) g)) ≡ false) ⌝ }
+    ensures { λ r. ⌜ Wrote (coverText g (orBuf (gateAt (now (gates .entry)) (now (pins .entry)) g))) (now (out .entry)) (now (out .exit)) r ⌝ }
+{
+    if network::form_at(gates, g) == DFF {
+        return 0;
+    }
+    let Decoded::Good(gate) = network::gate_at(gates, pins, g) else {
+        return 0;
+    };
+    write_cover(out, gate, pins, g)
+}
+
 // Writes the latches of n gates.
 fn append_latches(out: &mut [u8], at: usize, gates: &[u32], pins: &[u32], n: usize) -> usize
     requires { ⌜ Readable (now gates) (now pins) n ⌝ }
@@ -99,10 +133,7 @@ fn append_latches(out: &mut [u8], at: usize, gates: &[u32], pins: &[u32], n: usi
         if end > out.len() {
             return end;
         }
-        let Decoded::Good(gate) = network::gate_at(gates, pins, g) else {
-            return end;
-        };
-        end += write_latch(&mut out[end..], gate, g);
+        end += latch_at(&mut out[end..], gates, pins, g);
         g += 1;
     }
     end
@@ -122,10 +153,7 @@ fn append_covers(out: &mut [u8], at: usize, gates: &[u32], pins: &[u32], n: usiz
         if end > out.len() {
             return end;
         }
-        let Decoded::Good(gate) = network::gate_at(gates, pins, g) else {
-            return end;
-        };
-        end += write_cover(&mut out[end..], gate, pins, g);
+        end += cover_at(&mut out[end..], gates, pins, g);
         g += 1;
     }
     end
@@ -166,34 +194,17 @@ fn write_head(out: &mut [u8], inputs: usize, outputs: &[u32]) -> usize
     append(out, at, b"\n\n")
 }
 
-// Whether a Nary gate of this type and so many inputs has too many to be written.
-fn is_wide_type(t: NaryType, n: usize) -> bool
-    ensures { λ r. ⌜ r ≡ (exclusive (naryForm t) && ltb 12 n) ⌝ }
+// Whether a gate of this form number with so many pins has too many to be written.
+fn is_wide(form: u32, count: usize) -> bool
+    ensures { λ r. ⌜ r ≡ wideNumber form count ⌝ }
 {
-    match t {
-        NaryType::And => false,
-        NaryType::Or => false,
-        NaryType::Nand => false,
-        NaryType::Nor => false,
-        NaryType::Xor => n > 12,
-        NaryType::Xnor => n > 12,
+    if count <= 12 {
+        return false;
     }
-}
-
-// Whether a gate has too many inputs to be written.
-fn is_wide(gate: Gate, pins: &[u32]) -> bool
-    ensures { λ r. ⌜ r ≡ wide (gateIn gate (now (pins .entry))) ⌝ }
-{
-    match gate {
-        Gate::Binary(_, _, _) => false,
-        Gate::Ternary(_, _, _, _) => false,
-        Gate::Nary(t, run) => {
-            let start = run_start(run, pins.len());
-            is_wide_type(t, run_end(run, pins.len()) - start)
-        }
-        Gate::Buf(_) => false,
-        Gate::Dff(_, _, _) => false,
+    if form == NARY_XOR {
+        return true;
     }
+    form == NARY_XNOR
 }
 
 // Whether one of n gates has too many inputs to be written.
@@ -203,10 +214,7 @@ fn any_wide(gates: &[u32], pins: &[u32], n: usize) -> bool
 {
     let mut g = 0;
     while g < n {
-        let Decoded::Good(gate) = network::gate_at(gates, pins, g) else {
-            return false;
-        };
-        if is_wide(gate, pins) {
+        if is_wide(network::form_at(gates, g), network::count_at(gates, g)) {
             return true;
         }
         g += 1;
@@ -252,33 +260,17 @@ fn mark_signals(gate_marks: &mut [u8], input_marks: &mut [u8], cells: &[u32])
     }
 }
 
-// Marks three signals.
-fn mark_three(gate_marks: &mut [u8], input_marks: &mut [u8], a: Signal, b: Signal, c: Signal)
-    ensures { λ _. ⌜ Marked (sigOf (a .a) ∷ sigOf (b .a) ∷ sigOf (c .a) ∷ []) (now («gate_marks» .entry)) (now («input_marks» .entry)) (now («gate_marks» .exit)) (now («input_marks» .exit)) ⌝ }
+// Marks the inputs of gate g, unless it is a Buf, which handles the inversion itself.
+fn mark_gate(gate_marks: &mut [u8], input_marks: &mut [u8], gates: &[u32], pins: &[u32], g: usize)
+    requires { ⌜ HeldAt (now gates) (now pins) g ⌝ }
+    ensures { λ _. ⌜ Marked (named (orBuf (gateAt (now (gates .entry)) (now (pins .entry)) g))) (now («gate_marks» .entry)) (now («input_marks» .entry)) (now («gate_marks» .exit)) (now («input_marks» .exit)) ⌝ }
 {
-    mark_signal(gate_marks, input_marks, a);
-    mark_signal(gate_marks, input_marks, b);
-    mark_signal(gate_marks, input_marks, c);
-}
-
-// Marks the inputs of a gate, unless it is a Buf, which handles the inversion itself.
-fn mark_gate(gate_marks: &mut [u8], input_marks: &mut [u8], gate: Gate, pins: &[u32])
-    ensures { λ _. ⌜ Marked (named (gateIn gate (now (pins .entry)))) (now («gate_marks» .entry)) (now («input_marks» .entry)) (now («gate_marks» .exit)) (now («input_marks» .exit)) ⌝ }
-{
-    match gate {
-        Gate::Binary(_, a, b) => {
-            mark_signal(gate_marks, input_marks, a);
-            mark_signal(gate_marks, input_marks, b);
-        }
-        Gate::Ternary(_, a, b, c) => mark_three(gate_marks, input_marks, a, b, c),
-        Gate::Nary(_, run) => {
-            let start = run_start(run, pins.len());
-            let end = run_end(run, pins.len());
-            mark_signals(gate_marks, input_marks, &pins[start..end]);
-        }
-        Gate::Buf(_) => {}
-        Gate::Dff(d, e, r) => mark_three(gate_marks, input_marks, d, e, r),
+    if network::form_at(gates, g) == BUF {
+        return;
     }
+    let first = network::first_at(gates, g);
+    let end = first + network::count_at(gates, g);
+    mark_signals(gate_marks, input_marks, &pins[first..end]);
 }
 
 // Marks the signals that are used inverted, at the outputs and at the inputs of n gates.
@@ -296,10 +288,7 @@ fn get_inverted_signals(
     mark_signals(gate_marks, input_marks, outputs);
     let mut g = 0;
     while g < n {
-        let Decoded::Good(gate) = network::gate_at(gates, pins, g) else {
-            return;
-        };
-        mark_gate(gate_marks, input_marks, gate, pins);
+        mark_gate(gate_marks, input_marks, gates, pins, g);
         g += 1;
     }
 }

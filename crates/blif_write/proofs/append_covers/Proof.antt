@@ -6,7 +6,8 @@ use mathlib.Core.Path.{refl}
 use mathlib.Core.List.{flatMap}
 use Rattle.blif_write.specs.Parts.{coversText}
 use Rattle.blif_put.proofs.Laws.{append-past, going-kept, going-full, part-high}
-use Rattle.blif_write.proofs.Walks.{Walking, walking-start, walking-next, walking-done, read-bad, read-good, cover-step, not-wide}
+use Rattle.blif_write.proofs.Walks.{Walking, walking-start, walking-next, walking-done, cover-step, not-wide}
+use Rattle.blif_write.proofs.Told.{held-at, held-is}
 use Rattle.blif_write.proofs.append_covers.Statement.{statement}
 use Rattle.blif_write.proofs.append_covers.Tie as tie
 
@@ -31,51 +32,36 @@ same-length c = going-kept (c .before .before .loop .inv .going)
 returns-2 : tie.Need-returns-2 Inv-loop μ-loop
 returns-2 c = going-full (c .before .before .loop .inv .going) (c .if2 .taken)
 
-gate-at-requires : tie.Need-gate-at-requires Inv-loop μ-loop
-gate-at-requires c κs = search needs
+sub-cover-at : tie.Need-sub-cover-at Inv-loop μ-loop
+sub-cover-at c = omega (arith, c .if2 .left)
 
-enum-known-gate : tie.Need-enum-known-gate Inv-loop μ-loop
-enum-known-gate c = search needs
+part-cover-at-start : tie.Need-part-cover-at-start Inv-loop μ-loop
+part-cover-at-start c = search needs
 
-enum-told : tie.Need-enum-told Inv-loop μ-loop
-enum-told c = search needs
+part-cover-at-end : tie.Need-part-cover-at-end Inv-loop μ-loop
+part-cover-at-end c = search needs
 
-same-length-2 : tie.Need-same-length-2 Inv-loop μ-loop
-same-length-2 c = going-kept (c .before .before .before .before .before .loop .inv .going)
-
-returns-3 : tie.Need-returns-3 Inv-loop μ-loop
-returns-3 c = absurd (read-bad (c .before .before .before .before .before .before .before .before .before .before .pre .0) (c .before .before .before .before .loop-test .taken) (c .before .before .gate-at .ensures) (c .enum-told .given .1))
-
-sub-write-cover : tie.Need-sub-write-cover Inv-loop μ-loop
-sub-write-cover c = omega (arith, c .before .before .before .before .if2 .left)
-
-part-write-cover-start : tie.Need-part-write-cover-start Inv-loop μ-loop
-part-write-cover-start c = search needs
-
-part-write-cover-end : tie.Need-part-write-cover-end Inv-loop μ-loop
-part-write-cover-end c = search needs
-
-write-cover-requires : tie.Need-write-cover-requires Inv-loop μ-loop
-write-cover-requires c κs = (omega (arith, c .before .before .before .before .before .before .loop-test .taken, c .before .before .before .before .before .before .before .before .before .before .before .before .pre .0 .few), not-wide (c .before .before .before .before .before .before .before .before .before .before .before .before .args .gates .now) (c .before .before .before .before .before .before .before .before .before .before .before .before .args .pins .now) (c .before .before .before .before .before .before .before .before .before .before .before .before .pre .1) (c .before .before .before .before .before .before .loop-test .taken) (read-good (c .before .before .before .before .before .before .before .before .before .before .before .before .args .gates .now) (c .before .before .before .before .before .before .before .before .before .before .before .before .args .pins .now) (c .before .before .before .before .before .before .before .loop .g) (c .before .before .before .before .gate-at .ensures) (c .before .before .gate .given .1)))
+cover-at-requires : tie.Need-cover-at-requires Inv-loop μ-loop
+cover-at-requires c κs = (held-at (c .before .before .before .before .before .before .before .before .pre .0) (c .before .before .loop-test .taken), not-wide (c .before .before .before .before .before .before .before .before .args .gates .now) (c .before .before .before .before .before .before .before .before .args .pins .now) (c .before .before .before .before .before .before .before .before .pre .1) (c .before .before .loop-test .taken) (held-is (held-at (c .before .before .before .before .before .before .before .before .pre .0) (c .before .before .loop-test .taken))))
 
 add-end : tie.Need-add-end Inv-loop μ-loop
-add-end c = omega (arith, part-high (c .before .before .before .before .before .before .before .before .before .before .loop .out) (c .before .before .before .before .before .before .before .before .if2 .left) (c .before .before .write-cover .ensures), going-kept (c .before .before .before .before .before .before .before .before .before .before .loop .inv .going), c .before .before .before .before .before .before .before .before .before .before .before .before .before .before .before .good .0 .1)
+add-end c = omega (arith, part-high (c .before .before .before .before .before .before .loop .out) (c .before .before .before .before .if2 .left) (c .before .before .cover-at .ensures), going-kept (c .before .before .before .before .before .before .loop .inv .going), c .before .before .before .before .before .before .before .before .before .before .before .good .0 .1)
 
 add-g : tie.Need-add-g Inv-loop μ-loop
-add-g c = omega (arith, c .before .before .before .before .before .before .before .before .before .loop-test .taken)
+add-g c = omega (arith, c .before .before .before .before .before .loop-test .taken)
 
 loop-less : tie.Need-loop-less Inv-loop μ-loop
-loop-less c = omega (arith, c .before .before .before .before .before .before .before .before .before .loop-test .taken)
+loop-less c = omega (arith, c .before .before .before .before .before .loop-test .taken)
 
 loop-again : tie.Need-loop-again Inv-loop μ-loop
-loop-again c = walking-next (c .before .before .before .before .before .before .before .before .before .before .loop .inv) (cover-step (c .before .before .before .before .before .before .before .before .before .before .loop .g) _) (c .before .before .before .before .before .before .before .before .before .loop-test .taken) (c .before .before .before .before .before .before .before .before .if2 .left) (read-good (c .before .before .before .before .before .before .before .before .before .before .before .before .before .before .before .args .gates .now) (c .before .before .before .before .before .before .before .before .before .before .before .before .before .before .before .args .pins .now) (c .before .before .before .before .before .before .before .before .before .before .loop .g) (c .before .before .before .before .before .before .before .gate-at .ensures) (c .before .before .before .before .before .gate .given .1)) (c .before .before .write-cover .ensures)
+loop-again c = walking-next (c .before .before .before .before .before .before .loop .inv) (cover-step (c .before .before .before .before .before .before .loop .g) _) (c .before .before .before .before .before .loop-test .taken) (c .before .before .before .before .if2 .left) (held-is (held-at (c .before .before .before .before .before .before .before .before .before .before .before .pre .0) (c .before .before .before .before .before .loop-test .taken))) (c .before .before .cover-at .ensures)
 
-same-length-3 : tie.Need-same-length-3 Inv-loop μ-loop
-same-length-3 c = going-kept (c .before .loop .inv .going)
+same-length-2 : tie.Need-same-length-2 Inv-loop μ-loop
+same-length-2 c = going-kept (c .before .loop .inv .going)
 
-returns-4 : tie.Need-returns-4 Inv-loop μ-loop
+returns-3 : tie.Need-returns-3 Inv-loop μ-loop
 unfolding flatMap
-returns-4 c = walking-done (c .before .loop .inv) refl (c .loop-test .left)
+returns-3 c = walking-done (c .before .loop .inv) refl (c .loop-test .left)
 
 pub append-covers-spec : {M : Type 1} → statement M
 append-covers-spec =
@@ -88,18 +74,13 @@ append-covers-spec =
     loop-holds
     same-length
     returns-2
-    gate-at-requires
-    enum-known-gate
-    enum-told
-    same-length-2
-    returns-3
-    sub-write-cover
-    part-write-cover-start
-    part-write-cover-end
-    write-cover-requires
+    sub-cover-at
+    part-cover-at-start
+    part-cover-at-end
+    cover-at-requires
     add-end
     add-g
     loop-less
     loop-again
-    same-length-3
-    returns-4)
+    same-length-2
+    returns-3)

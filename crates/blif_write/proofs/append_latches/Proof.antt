@@ -6,7 +6,8 @@ use mathlib.Core.Path.{refl}
 use mathlib.Core.List.{flatMap}
 use Rattle.blif_write.specs.Parts.{latchesText}
 use Rattle.blif_put.proofs.Laws.{append-past, going-kept, going-full, part-high}
-use Rattle.blif_write.proofs.Walks.{Walking, walking-start, walking-next, walking-done, read-bad, read-good, latch-step}
+use Rattle.blif_write.proofs.Walks.{Walking, walking-start, walking-next, walking-done, latch-step}
+use Rattle.blif_write.proofs.Told.{held-at, held-is}
 use Rattle.blif_write.proofs.append_latches.Statement.{statement}
 use Rattle.blif_write.proofs.append_latches.Tie as tie
 
@@ -31,51 +32,36 @@ same-length c = going-kept (c .before .before .loop .inv .going)
 returns-2 : tie.Need-returns-2 Inv-loop μ-loop
 returns-2 c = going-full (c .before .before .loop .inv .going) (c .if2 .taken)
 
-gate-at-requires : tie.Need-gate-at-requires Inv-loop μ-loop
-gate-at-requires c κs = search needs
+sub-latch-at : tie.Need-sub-latch-at Inv-loop μ-loop
+sub-latch-at c = omega (arith, c .if2 .left)
 
-enum-known-gate : tie.Need-enum-known-gate Inv-loop μ-loop
-enum-known-gate c = search needs
+part-latch-at-start : tie.Need-part-latch-at-start Inv-loop μ-loop
+part-latch-at-start c = search needs
 
-enum-told : tie.Need-enum-told Inv-loop μ-loop
-enum-told c = search needs
+part-latch-at-end : tie.Need-part-latch-at-end Inv-loop μ-loop
+part-latch-at-end c = search needs
 
-same-length-2 : tie.Need-same-length-2 Inv-loop μ-loop
-same-length-2 c = going-kept (c .before .before .before .before .before .loop .inv .going)
-
-returns-3 : tie.Need-returns-3 Inv-loop μ-loop
-returns-3 c = absurd (read-bad (c .before .before .before .before .before .before .before .before .before .before .pre) (c .before .before .before .before .loop-test .taken) (c .before .before .gate-at .ensures) (c .enum-told .given .1))
-
-sub-write-latch : tie.Need-sub-write-latch Inv-loop μ-loop
-sub-write-latch c = omega (arith, c .before .before .before .before .if2 .left)
-
-part-write-latch-start : tie.Need-part-write-latch-start Inv-loop μ-loop
-part-write-latch-start c = search needs
-
-part-write-latch-end : tie.Need-part-write-latch-end Inv-loop μ-loop
-part-write-latch-end c = search needs
-
-write-latch-requires : tie.Need-write-latch-requires Inv-loop μ-loop
-write-latch-requires c κs = omega (arith, c .before .before .before .before .before .before .loop-test .taken, c .before .before .before .before .before .before .before .before .before .before .before .before .pre .few)
+latch-at-requires : tie.Need-latch-at-requires Inv-loop μ-loop
+latch-at-requires c κs = held-at (c .before .before .before .before .before .before .before .before .pre) (c .before .before .loop-test .taken)
 
 add-end : tie.Need-add-end Inv-loop μ-loop
-add-end c = omega (arith, part-high (c .before .before .before .before .before .before .before .before .before .before .loop .out) (c .before .before .before .before .before .before .before .before .if2 .left) (c .before .before .write-latch .ensures), going-kept (c .before .before .before .before .before .before .before .before .before .before .loop .inv .going), c .before .before .before .before .before .before .before .before .before .before .before .before .before .before .before .good .0 .1)
+add-end c = omega (arith, part-high (c .before .before .before .before .before .before .loop .out) (c .before .before .before .before .if2 .left) (c .before .before .latch-at .ensures), going-kept (c .before .before .before .before .before .before .loop .inv .going), c .before .before .before .before .before .before .before .before .before .before .before .good .0 .1)
 
 add-g : tie.Need-add-g Inv-loop μ-loop
-add-g c = omega (arith, c .before .before .before .before .before .before .before .before .before .loop-test .taken)
+add-g c = omega (arith, c .before .before .before .before .before .loop-test .taken)
 
 loop-less : tie.Need-loop-less Inv-loop μ-loop
-loop-less c = omega (arith, c .before .before .before .before .before .before .before .before .before .loop-test .taken)
+loop-less c = omega (arith, c .before .before .before .before .before .loop-test .taken)
 
 loop-again : tie.Need-loop-again Inv-loop μ-loop
-loop-again c = walking-next (c .before .before .before .before .before .before .before .before .before .before .loop .inv) (latch-step (c .before .before .before .before .before .before .before .before .before .before .loop .g) (c .before .before .before .before .before .gate .given .0 .0) (c .before .before .before .before .before .before .before .before .before .before .before .before .before .before .before .args .pins .now)) (c .before .before .before .before .before .before .before .before .before .loop-test .taken) (c .before .before .before .before .before .before .before .before .if2 .left) (read-good (c .before .before .before .before .before .before .before .before .before .before .before .before .before .before .before .args .gates .now) (c .before .before .before .before .before .before .before .before .before .before .before .before .before .before .before .args .pins .now) (c .before .before .before .before .before .before .before .before .before .before .loop .g) (c .before .before .before .before .before .before .before .gate-at .ensures) (c .before .before .before .before .before .gate .given .1)) (c .before .before .write-latch .ensures)
+loop-again c = walking-next (c .before .before .before .before .before .before .loop .inv) (latch-step (c .before .before .before .before .before .before .loop .g) _) (c .before .before .before .before .before .loop-test .taken) (c .before .before .before .before .if2 .left) (held-is (held-at (c .before .before .before .before .before .before .before .before .before .before .before .pre) (c .before .before .before .before .before .loop-test .taken))) (c .before .before .latch-at .ensures)
 
-same-length-3 : tie.Need-same-length-3 Inv-loop μ-loop
-same-length-3 c = going-kept (c .before .loop .inv .going)
+same-length-2 : tie.Need-same-length-2 Inv-loop μ-loop
+same-length-2 c = going-kept (c .before .loop .inv .going)
 
-returns-4 : tie.Need-returns-4 Inv-loop μ-loop
+returns-3 : tie.Need-returns-3 Inv-loop μ-loop
 unfolding flatMap
-returns-4 c = walking-done (c .before .loop .inv) refl (c .loop-test .left)
+returns-3 c = walking-done (c .before .loop .inv) refl (c .loop-test .left)
 
 pub append-latches-spec : {M : Type 1} → statement M
 append-latches-spec =
@@ -88,18 +74,13 @@ append-latches-spec =
     loop-holds
     same-length
     returns-2
-    gate-at-requires
-    enum-known-gate
-    enum-told
-    same-length-2
-    returns-3
-    sub-write-latch
-    part-write-latch-start
-    part-write-latch-end
-    write-latch-requires
+    sub-latch-at
+    part-latch-at-start
+    part-latch-at-end
+    latch-at-requires
     add-end
     add-g
     loop-less
     loop-again
-    same-length-3
-    returns-4)
+    same-length-2
+    returns-3)

@@ -1,0 +1,50 @@
+-- `latch_at` reads the gate where its form is the flip-flop's. Assumes nothing.
+use mathlib.Core.Path.{_∙_, ap}
+use Rattle.blif_put.proofs.Laws.{as-wrote, wrote-nothing}
+use Rattle.blif_write.specs.Parts.{latchText}
+use Rattle.blif_write.proofs.Walks.{read-bad, read-good, latch-any}
+use Rattle.blif_write.proofs.Told.{as-held, held-run, latch-none}
+use borrow.Author.Needs.{needs}
+use Rattle.blif_write.proofs.latch_at.Statement.{statement}
+use Rattle.blif_write.proofs.latch_at.Tie as tie
+
+form-at-requires : tie.Need-form-at-requires
+form-at-requires c κs = held-run (c .before .before .before .pre) .cells
+
+returns : tie.Need-returns
+returns c = as-wrote (latch-none (c .before .before .before .before .before .pre) (c .before .form-at .ensures) (c .if1 .taken)) wrote-nothing
+
+gate-at-requires : tie.Need-gate-at-requires
+gate-at-requires c κs = search needs
+
+enum-known-gate : tie.Need-enum-known-gate
+enum-known-gate c = search needs
+
+enum-told : tie.Need-enum-told
+enum-told c = search needs
+
+returns-2 : tie.Need-returns-2
+returns-2 c = absurd (read-bad (c .before .before .before .before .before .before .before .before .pre) (c .before .before .gate-at .ensures) (c .enum-told .given .1))
+
+write-latch-requires : tie.Need-write-latch-requires
+write-latch-requires c κs = c .before .before .before .before .before .before .before .before .before .before .pre .low
+
+same-length : tie.Need-same-length
+same-length c = search needs
+
+returns-3 : tie.Need-returns-3
+returns-3 c = as-wrote (latch-any (c .before .before .before .before .before .before .before .before .before .before .before .before .before .args .g) (c .before .before .before .before .before .gate .given .0 .0) (c .before .before .before .before .before .before .before .before .before .before .before .before .before .args .pins .now) ∙ ap (latchText (c .before .before .before .before .before .before .before .before .before .before .before .before .before .args .g)) (as-held (c .before .before .before .before .before .before .before .before .before .before .before .before .before .args .gates .now) (c .before .before .before .before .before .before .before .before .before .before .before .before .before .args .pins .now) (c .before .before .before .before .before .before .before .before .before .before .before .before .before .args .g) (read-good (c .before .before .before .before .before .before .before .before .before .before .before .before .before .args .gates .now) (c .before .before .before .before .before .before .before .before .before .before .before .before .before .args .pins .now) (c .before .before .before .before .before .before .before .before .before .before .before .before .before .args .g) (c .before .before .before .before .before .before .before .gate-at .ensures) (c .before .before .before .before .before .gate .given .1)))) (c .before .before .write-latch .ensures)
+
+pub latch-at-spec : {M : Type 1} → statement M
+latch-at-spec =
+    tie.close
+    (tie.spec
+    form-at-requires
+    returns
+    gate-at-requires
+    enum-known-gate
+    enum-told
+    returns-2
+    write-latch-requires
+    same-length
+    returns-3)
