@@ -15,8 +15,8 @@ use Rattle.gates.specs.Forms.{formCell, kindOf}
 use Rattle.gates.specs.Decode.{kindComb}
 use Rattle.gates.proofs.Forms.{From, comb-number}
 use Rattle.network.specs.Cells.{formAt, firstAt, countAt, CellIs, runAt, gateAt, orBuf}
-use Rattle.sort.specs.Steps.{HasRun}
-use Rattle.sort.proofs.Reading.{has-run, gate-is, run-pins}
+use Rattle.network.specs.Cells.{HasRun}
+use Rattle.network.proofs.GateRead.{has-run, gate-is, run-pins}
 use Rattle.blif_model.specs.Write.{named}
 use Rattle.blif_write.specs.Into.{wide}
 use Rattle.blif_write.specs.Parts.{wideNumber, latchText, coverText, HeldAt, Readable}

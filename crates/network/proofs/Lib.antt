@@ -8,3 +8,4 @@ pub mod Summary
 pub mod LaidCells
 pub mod Lent
 pub mod Laying
+pub mod GateRead

@@ -4,7 +4,7 @@ use mathlib.Core.Path.{_≡_}
 use mathlib.Core.Bool.{Bool, true, false, _&&_, cond}
 use mathlib.Core.List.{List, [], _∷_, _++_, map, flatMap}
 use mathlib.Core.Option.{Option, none, some}
-use Prim.Native.Nat.{ℕ, _+_, _*_, _^_, _<_}
+use Prim.Native.Nat.{ℕ, _+_, _*_, _^_, _<_, _≤_}
 use lib.Dec.{eqb, leb, ltb}
 use lib.ListN.{length, getD, take, drop}
 use Rattle.lists.specs.Lists.{all, range, sumTo}
@@ -161,6 +161,13 @@ pub record Laid (net : Net) (l : Lent) : Type 0 where
   pub pinsLaid : take (length (pinCells (net .gates))) (l .pinsLent) ≡ pinCells (net .gates)
   -- the outputs in use
   pub outsLaid : take (length (net .outputs)) (l .outsLent) ≡ map sigCell (net .outputs)
+
+-- a gate's record and its run of pins are there
+pub record HasRun (gates pins : List ℕ) (g : ℕ) : Type 0 where
+  -- the record is within the cells
+  pub cells : g * gateWidth + 2 < length gates
+  -- the run is within the pins
+  pub within : firstAt gates g + countAt gates g ≤ length pins
 
 -- the lent cells are 32-bit numbers, as the slices hold them
 pub record Words (l : Lent) : Type 0 where

@@ -16,14 +16,15 @@ use Rattle.signal.specs.Cell.{sigOf}
 use Rattle.gates.specs.Gate.{Gate, pins, isComb}
 use Rattle.gates.specs.Forms.{formCell, kindOf, gateFrom}
 use Rattle.gates.specs.Decode.{kindComb}
-use Rattle.gates.proofs.Forms.{From, gate-from, comb-number}
+use Rattle.gates.proofs.Forms.{comb-number}
+use Rattle.network.proofs.GateRead.{has-run, gate-is}
 use Rattle.network.specs.declared.Counts.{Counts}
-use Rattle.network.specs.Cells.{gateWidth, formAt, firstAt, countAt, runAt, gateAt, orBuf, lent, netOf, pinCells}
+use Rattle.network.specs.Cells.{gateWidth, formAt, firstAt, countAt, runAt, gateAt, orBuf, lent, netOf, pinCells, HasRun}
 use Rattle.sort_order.specs.Order.{Graph, useCount}
 use Rattle.sort_order.specs.Sorted.{gateNums, combAt, insAt, graph}
 use Rattle.sort_order.specs.Sortable.{Sortable}
 use Rattle.sort_order.specs.Walk.{ValidGraph}
-use Rattle.sort.specs.Steps.{gateIns, formComb, cellGates, cellComb, cellIns, cellGraph, HasRun, Cells}
+use Rattle.sort.specs.Steps.{gateIns, formComb, cellGates, cellComb, cellIns, cellGraph, Cells}
 use Rattle.sort.proofs.Naming.{ins-nums}
 use Rattle.sort_order.proofs.Sorting.{graph-valid}
 use Rattle.sort_order.proofs.Keeps.{uses-within}
@@ -31,41 +32,12 @@ use Rattle.sort_order.proofs.Keeps.{uses-within}
 -- ---- a gate that can be read
 
 module _ (cells ps : List ℕ) (g : ℕ) (x : Gate) (e : gateAt cells ps g ≡ some x) where
-  abbrev first : Bool
-  first = ltb (g * gateWidth + 2) (length cells)
-
-  abbrev last : Bool
-  last = leb (firstAt cells g + countAt cells g) (length ps)
-
-  abbrev inside : Bool
-  inside = first && last
-
-  opened : cond inside (gateFrom (formAt cells g) (map sigOf (runAt cells ps g))) none ≡ some x
-  unfolding gateAt
-  opened = e
-
-  is-inside : inside ≡ true
-  is-inside = by-test inside (λ t. t) (λ t. let q : none ≡ some x = rw t at opened in let z : _≡_ {A = ℕ} 0 1 = cc in absurd (omega arith))
-
-  pub has-run : HasRun cells ps g
-  has-run =
-      record {
-        cells = ltb-true (g * gateWidth + 2) (length cells) (and-left first last is-inside);
-        within = leb-true (firstAt cells g + countAt cells g) (length ps) (and-right first last is-inside);
-      }
-
-  pub gate-is : From (formAt cells g) (map sigOf (runAt cells ps g)) x
-  gate-is = gate-from (formAt cells g) (map sigOf (runAt cells ps g)) x (rw is-inside at opened)
-
   pub form-comb : formComb cells g ≡ isComb x
   unfolding formComb
-  form-comb = ap (λ (n : ℕ). kindComb (kindOf n)) (sym (gate-is .number)) ∙ comb-number x
+  form-comb = ap (λ (n : ℕ). kindComb (kindOf n)) (sym (gate-is cells ps g x e .number)) ∙ comb-number x
 
   pub run-nums : gateIns (runAt cells ps g) ≡ gateNums (pins x)
-  run-nums = ins-nums (runAt cells ps g) ∙ ap gateNums (sym (gate-is .all-pins))
-
-  pub run-pins : length (runAt cells ps g) ≡ length (pins x)
-  run-pins = sym (length-map (runAt cells ps g) sigOf) ∙ ap length (sym (gate-is .all-pins))
+  run-nums = ins-nums (runAt cells ps g) ∙ ap gateNums (sym (gate-is cells ps g x e .all-pins))
 
 -- ---- all gates
 

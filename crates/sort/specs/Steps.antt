@@ -12,7 +12,7 @@ use Rattle.signal.specs.Cell.{nodeOf, gateNumber, gateCell, remapCell}
 use Rattle.gates.specs.Gate.{Gate}
 use Rattle.gates.specs.Forms.{kindOf}
 use Rattle.gates.specs.Decode.{kindComb}
-use Rattle.network.specs.Cells.{gateWidth, maxGates, maxPins, formAt, firstAt, countAt, runAt, gateAt, orBuf}
+use Rattle.network.specs.Cells.{gateWidth, maxGates, maxPins, formAt, firstAt, countAt, runAt, gateAt, orBuf, HasRun}
 use Rattle.sort_order.specs.Order.{Graph, uses, useCount, countsAfter, stackAfter, flopsTo, startTo, recorded}
 use Rattle.sort_order.specs.Sorted.{nodeGate, combAt, insAt}
 use Rattle.sort_order.specs.Walk.{ValidGraph, Good}
@@ -47,13 +47,6 @@ cellIns gates pins n g = insAt (getElem? (cellGates gates pins n) g)
 -- what the sort sees of n gates in cells
 abbrev pub cellGraph : List ℕ → List ℕ → ℕ → Graph
 cellGraph gates pins n = record { size = n; comb = cellComb gates pins n; ins = cellIns gates pins n }
-
--- a gate's record and its run of pins are there
-pub record HasRun (gates pins : List ℕ) (g : ℕ) : Type 0 where
-  -- the record is within the cells
-  pub cells : g * gateWidth + 2 < length gates
-  -- the run is within the pins
-  pub within : firstAt gates g + countAt gates g ≤ length pins
 
 -- the cells hold n gates, whose records and runs can be read, whose inputs are gates, and which use no gate too often for a count
 pub record Cells (gates pins : List ℕ) (n : ℕ) : Type 0 where

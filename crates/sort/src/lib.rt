@@ -9,12 +9,12 @@ ghost use Prim.Native.Nat.{ℕ, _+_, _-_, _*_, _≤_, _<_};
 ghost use lib.ListN.{length, getD, take, replicate};
 ghost use Rattle.lists.specs.Lists.{over, overAt};
 ghost use Rattle.signal.specs.Cell.{remapCell};
-ghost use Rattle.network.specs.Cells.{gateWidth, maxGates, maxPins, runAt, lent, netOf};
+ghost use Rattle.network.specs.Cells.{gateWidth, maxGates, maxPins, runAt, lent, netOf, HasRun};
 ghost use Rattle.sort_order.specs.Order.{uses, sortOrder};
 ghost use Rattle.sort_order.specs.Sorted.{sorted};
 ghost use Rattle.sort.specs.Into.{outcome, sortInto, sortLent};
 ghost use Rattle.sort_order.specs.Sortable.{Sortable};
-ghost use Rattle.sort.specs.Steps.{named, gateIns, formComb, cellGraph, HasRun, Cells, Raised, Countable, Counted};
+ghost use Rattle.sort.specs.Steps.{named, gateIns, formComb, cellGraph, Cells, Raised, Countable, Counted};
 ghost use Rattle.sort.specs.Steps.{down, Lowered, Lowers, Walks, Flopped, Started, Ready, Visited, Begins, Recorded, ordered};
 ghost use Rattle.sort.specs.Steps.{Numbers, Tabled, RoomFor, GateMoved, Movable, Moved, Renewed};
 
