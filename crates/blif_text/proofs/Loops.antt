@@ -12,7 +12,7 @@ use Rattle.lists.specs.Lists.{Bytes, any}
 use Rattle.lists.proofs.Tests.{by-order, or-left, or-right}
 use Rattle.blif_text.specs.Places.{isFirst}
 use Rattle.blif_text.specs.Keywords.{RowTo}
-use Rattle.blif_text.specs.Scan.{endsWord, WordTo, NoLine, LineTo}
+use Rattle.blif_text.specs.Scan.{endsWord, WordTo, SpacesTo, NoLine, LineTo}
 
 -- ---- whether one passes the test
 
@@ -86,6 +86,17 @@ module _ {p : ℕ → Bool} {t : Bytes} {at i : ℕ} (c : Passed p t at i) where
 
 pub word-stop : {t : Bytes} {at i : ℕ} → Passed endsWord t at i → (i < length t → endsWord (getD t i 0) ≡ true) → WordTo t at i
 word-stop c f = record { low = c .low; high = c .high; word = c .none; stop = f }
+
+pub spaces-start : {t : Bytes} {at : ℕ} → at ≤ length t → SpacesTo t at at
+spaces-start h = record { low = omega arith; high = h; spaces = λ k a b. absurd (let z : ⊥ = omega arith in z) }
+
+pub spaces-next : {t : Bytes} {at i : ℕ} → SpacesTo t at i → i < length t → getD t i 0 ≡ 32 → SpacesTo t at (i + 1)
+spaces-next {t} {at} {i} c h e =
+    record {
+      low = omega (arith, c .low);
+      high = omega arith;
+      spaces = λ k a b. by-order i k (λ m. let q : i ≡ k = omega arith in subst (λ (j : ℕ). getD t j 0 ≡ 32) q e) (λ m. c .spaces k a m);
+    }
 
 pub no-line : {t : Bytes} {at i : ℕ} → Passed (eqb 10) t at i → NoLine t at i
 no-line c = record { low = c .low; high = c .high; none = c .none }

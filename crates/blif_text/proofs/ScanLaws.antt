@@ -1,9 +1,9 @@
--- The steps of the scan: a blank, a line's end, a comment, a word, and a word whose backslash ends the line. Assumes nothing.
+-- The steps of the scan: blanks, a line's end, a comment, a word, and a word whose backslash ends the line. Assumes nothing.
 use mathlib.Core.Path.{_≡_, refl, sym, ap, ap₂, _∙_, subst}
 use mathlib.Core.Bool.{Bool, true, false, _||_, true≢false}
 use mathlib.Core.List.{List, [], _∷_, _++_, append-assoc, append-nil, map-append}
 use mathlib.Core.Logic.{⊎-elim}
-use Prim.Native.Nat.{ℕ, suc, _+_, _-_, _*_, _≤_, _<_}
+use Prim.Native.Nat.{ℕ, zero, suc, _+_, _-_, _*_, _≤_, _<_}
 use native.Mathlib.Omega.{arith}
 use lib.Dec.{eqb, leb}
 use lib.ListN.{length, getD, take, drop, set, drop-of-length-le}
@@ -14,7 +14,7 @@ use Rattle.lists.proofs.Tests.{by-order, by-test, or-left, or-right, and-false}
 use Rattle.blif_text.specs.Lines.{lines, cut, continues, isBlank, tokens}
 use Rattle.blif_text.specs.Rows.{beforeRow, lineRows, fullRows}
 use Rattle.blif_text.specs.Places.{tokenCell, tokenOf, tokensOf, grouped, Marked}
-use Rattle.blif_text.specs.Scan.{endsWord, WordTo, LineTo, LineAfter, StopTo, at-end, at-lf, at-cr, StopOf, Placed, Scanned, WordPut}
+use Rattle.blif_text.specs.Scan.{endsWord, WordTo, SpacesTo, LineTo, LineAfter, StopTo, at-end, at-lf, at-cr, StopOf, Placed, Scanned, WordPut}
 use Rattle.blif_text.proofs.Parts.{Without}
 use Rattle.blif_text.proofs.Scan.{tokens-none, tokens-skip, tokens-at, tokens-parted, without-slice, slice-drop}
 use Rattle.blif_text.proofs.Loops.{or-none}
@@ -424,6 +424,24 @@ module _ {text cells : List ℕ} {i count : ℕ} {fresh : Bool} (c : Scanned tex
       ∙ ap (λ (x : List (List Bytes)). grouped text (c .closed) .rows ++ fullRows x)
       (rows-over ln (c .pending) (c .added) (stays i i (c .low) (omega arith) (at-end h refl)) (sym here ∙ ap tokens (sym (cut-plain (slice (c .at) i text) (plain-to i (omega arith)))))
       ∙ ap (λ (x : List (List Bytes)). tokensOf text (c .pending ++ c .added) ∷ x) z)))
+
+-- ---- spaces
+
+scan-by : (n : ℕ) {text cells : List ℕ} {i count : ℕ} {fresh : Bool} → Scanned text cells i count fresh → i + n ≤ length text → ((k : ℕ) → i ≤ k → k < i + n → getD text k 0 ≡ 32)
+    → Scanned text cells (i + n) count fresh
+scan-by zero {text} {cells} {i} {count} {fresh} c h f = let q : i ≡ i + 0 = omega arith in subst (λ (j : ℕ). Scanned text cells j count fresh) q c
+scan-by (suc n) {text} {cells} {i} {count} {fresh} c h f =
+    let e : getD text i 0 ≡ 32 = f i (omega arith) (omega arith) in
+    let d : Scanned text cells (i + 1) count fresh =
+    scan-blank c (omega arith) (sym (space-ends (getD text i 0) e))
+    (λ q. let y : 32 ≡ 35 = sym e ∙ q in let z : ⊥ = omega arith in z) (λ q. let y : 32 ≡ 10 = sym e ∙ q in let z : ⊥ = omega arith in z) in
+    let q : i + 1 + n ≡ i + suc n = omega arith in
+    subst (λ (j : ℕ). Scanned text cells j count fresh) q (scan-by n d (omega arith) (λ k a b. f k (omega arith) (omega arith)))
+
+pub scan-spaces : {text cells : List ℕ} {i r count : ℕ} {fresh : Bool} → Scanned text cells i count fresh → SpacesTo text i r → Scanned text cells r count fresh
+scan-spaces {text} {cells} {i} {r} {count} {fresh} c s =
+    let q : i + (r - i) ≡ r = omega (arith, s .low) in
+    subst (λ (j : ℕ). Scanned text cells j count fresh) q (scan-by (r - i) c (omega (arith, s .high)) (λ k a b. s .spaces k a (omega arith)))
 
 -- what the code stored
 pub scan-put : {text cells cells′ : List ℕ} {i count end next at′ count′ : ℕ} {fresh fresh′ : Bool} → WordPut cells i count fresh end next cells′ at′ count′ fresh′

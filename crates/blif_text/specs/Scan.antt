@@ -27,6 +27,15 @@ pub record WordTo (t : Bytes) (at r : ℕ) : Type 0 where
   -- the stop is one
   pub stop : r < length t → endsWord (getD t r 0) ≡ true
 
+-- from at to r stand spaces
+pub record SpacesTo (t : Bytes) (at r : ℕ) : Type 0 where
+  -- not before the start
+  pub low : at ≤ r
+  -- within the text
+  pub high : r ≤ length t
+  -- nothing else between
+  pub spaces : (k : ℕ) → at ≤ k → k < r → getD t k 0 ≡ 32
+
 -- from at to r stands no LF
 pub record NoLine (t : Bytes) (at r : ℕ) : Type 0 where
   -- not before the start

@@ -14,7 +14,7 @@ ghost use Rattle.blif_text.specs.Keywords.{keywordOf, said, RowTo, State
 ghost use Rattle.blif_text.specs.Statements.{parsed, firstBad};
 ghost use Rattle.blif_text.specs.Rows.{rowStmt};
 ghost use Rattle.blif_text.specs.Blocks.{blockWidth, firstName, nameCount, lineCount};
-ghost use Rattle.blif_text.specs.Scan.{endsWord, WordTo, NoLine, LineTo, LineAfter, StopOf, WordPut, Scanned};
+ghost use Rattle.blif_text.specs.Scan.{endsWord, WordTo, SpacesTo, NoLine, LineTo, LineAfter, StopOf, WordPut, Scanned};
 
 pub const MAX_TEXT: usize = 32768;
 
@@ -110,6 +110,21 @@ fn word_end(text: &[u8], at: usize) -> usize
     let mut i = at;
     while i < text.len() {
         if ends_word(text[i]) {
+            return i;
+        }
+        i += 1;
+    }
+    i
+}
+
+// The place behind the spaces from at on.
+fn skip_spaces(text: &[u8], at: usize) -> usize
+    requires { ⌜ at ≤ length (now text) ⌝ }
+    ensures { λ r. ⌜ SpacesTo (now (text .entry)) at r ⌝ }
+{
+    let mut i = at;
+    while i < text.len() {
+        if text[i] != b' ' {
             return i;
         }
         i += 1;
@@ -269,7 +284,7 @@ fn mark_word(text: &[u8], cells: &mut [u32], w: Marks) -> Marks
     put_word(cells, w, end - 1, next)
 }
 
-// One step of the scan: a word, a comment up to its line's end, a line's end, or another blank.
+// One step of the scan: a word, a comment with its line's end, a line's end, or another blank with the spaces behind it.
 fn mark_step(text: &[u8], cells: &mut [u32], w: Marks) -> Marks
     requires { ⌜ Scanned (now text) (now cells) (w .at) (w .count) (w .fresh) × (w .at < length (now text)) ⌝ }
     ensures { λ r. ⌜ Scanned (now (text .entry)) (now (cells .exit)) (r .at) (r .count) (r .fresh) × (w .at < r .at) ⌝ }
@@ -294,8 +309,9 @@ fn mark_step(text: &[u8], cells: &mut [u32], w: Marks) -> Marks
             fresh: true,
         };
     }
+    let next = skip_spaces(text, at + 1);
     Marks {
-        at: at + 1,
+        at: next,
         count: w.count,
         fresh: w.fresh,
     }

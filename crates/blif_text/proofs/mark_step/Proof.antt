@@ -3,7 +3,7 @@ use mathlib.Core.Path.{sym, _∙_}
 use native.Mathlib.Omega.{arith}
 use borrow.Author.Needs.{needs}
 use borrow.Author.Tests.{not-true, not-false}
-use Rattle.blif_text.proofs.ScanLaws.{scan-lf, scan-comment, comment-moves, scan-blank}
+use Rattle.blif_text.proofs.ScanLaws.{scan-lf, scan-comment, comment-moves, scan-blank, scan-spaces}
 use Rattle.blif_text.proofs.mark_step.Statement.{statement}
 use Rattle.blif_text.proofs.mark_step.Tie as tie
 
@@ -33,21 +33,23 @@ returns-2 c =
       comment-moves (s .pre .0) (s .pre .1) (c .before .if2 .taken) (c .line-after .ensures),
     )
 
-add-t13 : tie.Need-add-t13
-add-t13 c = search needs
+add-t14 : tie.Need-add-t14
+add-t14 c = search needs
 
 returns-3 : tie.Need-returns-3
 returns-3 c = let s = c .before .before .before .before .before .before .before in (scan-lf (s .pre .0) (s .pre .1) (c .if3 .taken), omega arith)
 
-add-t14 : tie.Need-add-t14
-add-t14 c = search needs
+add-skip-spaces : tie.Need-add-skip-spaces
+add-skip-spaces c = search needs
+
+skip-spaces-requires : tie.Need-skip-spaces-requires
+skip-spaces-requires c κs = search needs
 
 returns-4 : tie.Need-returns-4
 returns-4 c =
-    let s = c .before .before .before .before .before .before .before in (
-      scan-blank (s .pre .0) (s .pre .1) (sym (c .before .before .before .ends-word .ensures) ∙ not-false _ (c .before .before .if1 .left)) (c .before .if2 .left) (c .if3 .left),
-      omega arith,
-    )
+    let s = c .before .before .before .before .before .before .before .before in
+    let b = scan-blank (s .pre .0) (s .pre .1) (sym (c .before .before .before .before .ends-word .ensures) ∙ not-false _ (c .before .before .before .if1 .left)) (c .before .before .if2 .left) (c .before .if3 .left) in
+    (scan-spaces b (c .skip-spaces .ensures), omega (arith, c .skip-spaces .ensures .low))
 
 pub mark-step-spec : {M : Type 1} → statement M
 mark-step-spec =
@@ -60,7 +62,8 @@ mark-step-spec =
     returns
     line-after-requires
     returns-2
-    add-t13
-    returns-3
     add-t14
+    returns-3
+    add-skip-spaces
+    skip-spaces-requires
     returns-4)
