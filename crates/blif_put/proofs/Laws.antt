@@ -7,10 +7,10 @@ use native.Mathlib.Numerals.{add-one}
 use native.Mathlib.Omega.{arith}
 use lib.ListN.{length, take, drop, set, getD, take-append-drop, length-append, length-drop, length-take, drop-of-length-le}
 use lib.Seq.{take-all}
-use Rattle.lists.specs.Lists.{Bytes, over}
+use Rattle.lists.specs.Lists.{Bytes, over, overAt}
 use Rattle.lists.proofs.Over.{length-over}
 use Rattle.lists.proofs.Tests.{by-order}
-use Rattle.blif_put.specs.Text.{overFrom, Wrote, Appended}
+use Rattle.blif_put.specs.Text.{Wrote, Appended}
 
 -- ---- a byte more
 
@@ -87,18 +87,27 @@ over-none : (t : Bytes) → over t [] ≡ []
 over-none [] = refl
 over-none (x ∷ t) = refl
 
+-- what is before place a, and the text laid over what is left
+over-at : (a : ℕ) (t o : Bytes) → take a o ++ over t (drop a o) ≡ overAt a t o
+over-at zero t o = refl
+over-at (suc a) t [] = over-none t
+over-at (suc a) t (y ∷ o) = ap (λ (l : Bytes). y ∷ l) (over-at a t o)
+
 -- past the end nothing is written
-over-end : (a : ℕ) (t o : Bytes) → length o ≤ a → overFrom a t o ≡ o
-over-end a t o h = rw (drop-of-length-le o h, take-all a o h) (ap (λ (l : Bytes). o ++ l) (over-none t) ∙ append-nil o)
+over-end : (a : ℕ) (t o : Bytes) → length o ≤ a → overAt a t o ≡ o
+over-end zero t [] h = over-none t
+over-end zero t (y ∷ o) h = absurd (not-suc-le-zero h)
+over-end (suc a) t [] h = refl
+over-end (suc a) t (y ∷ o) h = ap (λ (l : Bytes). y ∷ l) (over-end a t o (le-of-suc-le-suc h))
 
 pub append-past : {t o : Bytes} {a : ℕ} → length o < a → Appended t o a o (length o + 1)
 append-past {t} {o} {a} h = record { out = sym (over-end a t o (omega arith)); len = omega arith }
 
 -- nothing more, and a byte more
 pub append-none : {o : Bytes} {a : ℕ} → a ≤ length o → Appended [] o a o a
-append-none {o} {a} h = record { out = sym (take-append-drop a o); len = omega arith }
+append-none {o} {a} h = record { out = sym (take-append-drop a o) ∙ over-at a [] o; len = omega arith }
 
-over-byte : (a x : ℕ) (o : Bytes) → a < length o → set o a x ≡ overFrom a (x ∷ []) o
+over-byte : (a x : ℕ) (o : Bytes) → a < length o → set o a x ≡ overAt a (x ∷ []) o
 over-byte a x [] h = absurd (not-suc-le-zero h)
 over-byte zero x (y ∷ o) h = refl
 over-byte (suc a) x (y ∷ o) h = ap (λ (l : Bytes). y ∷ l) (over-byte a x o (le-of-suc-le-suc h))
@@ -113,7 +122,7 @@ pub append-room : {t o q : Bytes} {a r : ℕ} → a ≤ length o → Wrote t (ta
     → Appended t o a (take a o ++ (q ++ drop (length o - a) (drop a o))) (a + r)
 append-room {t} {o} {q} {a} {r} h w =
     let x = part-is a o in
-    record { out = part-back a o q h ∙ rw (w .out, x) refl; len = omega (arith, w .len, ap length x, length-drop a o) }
+    record { out = part-back a o q h ∙ rw (w .out, x) (over-at a t o); len = omega (arith, w .len, ap length x, length-drop a o) }
 
 -- at place 0 the two records say the same
 pub from-start : {t o p : Bytes} {r : ℕ} → Appended t o 0 p r → Wrote t o p r
@@ -121,25 +130,29 @@ from-start v = record { out = v .out; len = omega (arith, v .len) }
 
 -- ---- a part more
 
-over-append : (t s o : Bytes) → length t ≤ length o → take (length t) (over t o) ++ over s (drop (length t) (over t o)) ≡ over (t ++ s) o
+over-append : (t s o : Bytes) → length t ≤ length o → overAt (length t) s (over t o) ≡ over (t ++ s) o
 over-append [] s o h = refl
 over-append (x ∷ t) s [] h = absurd (not-suc-le-zero h)
 over-append (x ∷ t) s (y ∷ o) h = ap (λ (l : Bytes). x ∷ l) (over-append t s o (le-of-suc-le-suc h))
 
 -- the same behind place a
-over-further : (a : ℕ) (t s o : Bytes) → a + length t ≤ length o → overFrom (a + length t) s (overFrom a t o) ≡ overFrom a (t ++ s) o
+over-further : (a : ℕ) (t s o : Bytes) → a + length t ≤ length o → overAt (a + length t) s (overAt a t o) ≡ overAt a (t ++ s) o
 over-further zero t s o h = rw zero-add (over-append t s o (omega arith))
 over-further (suc a) t s [] h = absurd (omega arith)
 over-further (suc a) t s (y ∷ o) h = rw suc-add (ap (λ (l : Bytes). y ∷ l) (over-further a t s o (omega arith)))
 
-length-from : (a : ℕ) (t o : Bytes) → length (overFrom a t o) ≡ length o
-length-from a t o = length-append (take a o) (over t (drop a o)) ∙ omega (arith, length-over t (drop a o), length-take a o, length-drop a o)
+length-at : (a : ℕ) (t o : Bytes) → length (overAt a t o) ≡ length o
+length-at zero t o = length-over t o
+length-at (suc a) t [] = refl
+length-at (suc a) t (y ∷ o) = ap suc (length-at a t o)
 
 pub append-kept : {t o p : Bytes} {a r : ℕ} → Appended t o a p r → length p ≡ length o
-append-kept {t} {o} {p} {a} v = ap length (v .out) ∙ length-from a t o
+append-kept {t} {o} {p} {a} v = ap length (v .out) ∙ length-at a t o
 
-past-end : (a : ℕ) (t s o : Bytes) → length o ≤ a + length t → overFrom a (t ++ s) o ≡ overFrom a t o
-past-end a t s o h = ap (λ (l : Bytes). take a o ++ l) (over-past t s (drop a o) (omega (arith, length-drop a o)))
+past-end : (a : ℕ) (t s o : Bytes) → length o ≤ a + length t → overAt a (t ++ s) o ≡ overAt a t o
+past-end zero t s o h = over-past t s o (omega arith)
+past-end (suc a) t s [] h = refl
+past-end (suc a) t s (y ∷ o) h = ap (λ (l : Bytes). y ∷ l) (past-end a t s o (omega arith))
 
 -- a part more, at the place after the text so far
 pub and-append : {t s o p q : Bytes} {a b r : ℕ} → Appended t o a p b → Appended s p b q r → Appended (t ++ s) o a q r

@@ -1,10 +1,10 @@
 -- Text in the output slice: "Each block is written into what is left of the output slice" (document 01). Assumes nothing: these are
 -- definitions.
 use mathlib.Core.Path.{_≡_}
-use mathlib.Core.List.{[], _∷_, _++_}
+use mathlib.Core.List.{[], _∷_}
 use Prim.Native.Nat.{ℕ, zero, suc, _+_, _%_, min}
-use lib.ListN.{length, take, drop}
-use Rattle.lists.specs.Lists.{Bytes, over}
+use lib.ListN.{length}
+use Rattle.lists.specs.Lists.{Bytes, over, overAt}
 use Rattle.blif_model.specs.Names.{decimal}
 
 -- a writer of the text t was lent the slice o, left p in it and gave back r
@@ -14,14 +14,10 @@ pub record Wrote (t o p : Bytes) (r : ℕ) : Type 0 where
   -- "gives back the length": the text's, or one more than the slice's where the text is longer
   pub len : r ≡ min (length t) (length o + 1)
 
--- the text t laid over what is left of o from place a on
-abbrev pub overFrom : ℕ → Bytes → Bytes → Bytes
-overFrom a t o = take a o ++ over t (drop a o)
-
 -- a writer of the text t at place a of the slice o left p in it and gave back the place r after the text
 pub record Appended (t o : Bytes) (a : ℕ) (p : Bytes) (r : ℕ) : Type 0 where
   -- the text is laid over what is left of the slice
-  pub out : p ≡ overFrom a t o
+  pub out : p ≡ overAt a t o
   -- the place after it, or one past the slice's end where the text goes further
   pub len : r ≡ min (a + length t) (length o + 1)
 
