@@ -1,0 +1,20 @@
+-- `binary_bit` goes by the count of ones. Assumes nothing.
+use Rattle.simulate.proofs.Bits.{binary-and, binary-xor}
+use borrow.Author.Needs.{needs}
+use Rattle.simulate.proofs.binary_bit.Statement.{statement}
+use Rattle.simulate.proofs.binary_bit.Tie as tie
+
+enum-told : tie.Need-enum-told
+enum-told c = search needs
+
+enum-told-2 : tie.Need-enum-told-2
+enum-told-2 c = search needs
+
+returns : tie.Need-returns
+returns c = binary-and (c .enum-told .given .1)
+
+returns-2 : tie.Need-returns-2
+returns-2 c = binary-xor (c .enum-told2 .given .1)
+
+pub binary-bit-spec : {M : Type 1} → statement M
+binary-bit-spec = tie.close (tie.spec enum-told enum-told-2 returns returns-2)

@@ -1,0 +1,32 @@
+-- `next_bit` decodes the gate. Assumes nothing.
+use Rattle.simulate.proofs.Bits.{next-good, next-bad}
+use borrow.Author.Needs.{needs}
+use Rattle.simulate.proofs.next_bit.Statement.{statement}
+use Rattle.simulate.proofs.next_bit.Tie as tie
+
+gate-at-requires : tie.Need-gate-at-requires
+gate-at-requires c κs = search needs
+
+enum-known-gate : tie.Need-enum-known-gate
+enum-known-gate c = search needs
+
+next-of-requires : tie.Need-next-of-requires
+next-of-requires c κs = search needs
+
+enum-told : tie.Need-enum-told
+enum-told c = search needs
+
+returns : tie.Need-returns
+returns c =
+    let a = c .before .before .before .before .before .before .before .before .before .args in
+    next-good (a .row .now) (a .bits .now) (a .gates .now) (a .pins .now) (a .g) (a .held) (c .before .before .before .before .gate-at .ensures) (c .before .before .gate .given .1) (c .next-of .ensures)
+
+returns-2 : tie.Need-returns-2
+returns-2 c =
+    let a = c .before .before .before .before .before .before .before .args in
+    next-bad (a .row .now) (a .bits .now) (a .gates .now) (a .pins .now) (a .g) (a .held) (c .before .before .gate-at .ensures) (c .enum-told .given .1)
+
+pub next-bit-spec : {M : Type 1} → statement M
+next-bit-spec =
+    tie.close
+    (tie.spec gate-at-requires enum-known-gate next-of-requires enum-told returns returns-2)

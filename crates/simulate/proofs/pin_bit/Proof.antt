@@ -1,0 +1,28 @@
+-- `pin_bit` reads a pin, or zero past the end. Assumes nothing.
+use mathlib.Core.Path.{_∙_}
+use Rattle.simulate.proofs.Bits.{pin-at, pin-past}
+use borrow.Author.Needs.{needs}
+use Rattle.simulate.proofs.pin_bit.Statement.{statement}
+use Rattle.simulate.proofs.pin_bit.Tie as tie
+
+mul-t7 : tie.Need-mul-t7
+mul-t7 c = search needs
+
+shared-slice-read-t9 : tie.Need-shared-slice-read-t9
+shared-slice-read-t9 c = search needs
+
+sig-bit-requires : tie.Need-sig-bit-requires
+sig-bit-requires c κs = search needs
+
+returns : tie.Need-returns
+returns c =
+    let a = c .before .before .before .before .before .before .args in
+    c .sig-bit .ensures ∙ pin-at (a .row .now) (a .bits .now) (a .run .now) (a .i) (c .before .before .if1 .taken)
+
+returns-2 : tie.Need-returns-2
+returns-2 c =
+    let a = c .before .before .before .before .args in
+    pin-past (a .row .now) (a .bits .now) (a .run .now) (a .i) (c .if1 .left)
+
+pub pin-bit-spec : {M : Type 1} → statement M
+pin-bit-spec = tie.close (tie.spec mul-t7 shared-slice-read-t9 sig-bit-requires returns returns-2)
