@@ -103,9 +103,10 @@ fn repeated(piece: &str) -> String {
 pub fn inputs() -> Vec<Input> {
     let mut all = Vec::new();
     let mut add = |name: String, text: String| all.push(Input { name, text: text.into_bytes() });
+    let short = |g: usize| if g < 26 { ((b'a' + g as u8) as char).to_string() } else { format!("n{g}") };
     let long = |g: usize| format!("top/interlock/uplink/command/decoder/stage_{g:04}");
     for size in SIZES {
-        add(format!("small-gates-{size}"), gates(size, &|g| format!("n{g}")));
+        add(format!("small-gates-{size}"), gates(size, &short));
     }
     for size in &SIZES[2..] {
         add(format!("long-names-{size}"), gates(*size, &long));
