@@ -1,7 +1,7 @@
 -- Decimal numbers and names: the digits as the code finds them, and the letters before them. Assumes nothing.
 use mathlib.Core.Path.{_≡_, refl, sym, _∙_, ap}
 use mathlib.Core.Bool.{Bool, true, false, true≢false, false≢true}
-use mathlib.Core.List.{[], _∷_, _++_}
+use mathlib.Core.List.{[], _∷_, _++_, append-assoc}
 use Prim.Native.Nat.{ℕ, zero, suc, _+_, _^_, _/_, _%_, _≤_, _<_}
 use native.Mathlib.Omega.{arith}
 use borrow.Author.Tests.{lt-ltb, le-ltb}
@@ -11,7 +11,7 @@ use Rattle.signal.specs.Signal.{Node, Const, Input, Gated, inputNode, constNode
 use Rattle.signal.specs.Cell.{nodeOf, sigOf, inputNumber, gateNumber}
 use Rattle.signal.proofs.Cells.{input-number, gate-number}
 use Rattle.blif_model.specs.Names.{decimalBefore, decimal, suffix, nodeBytes, nameBytes}
-use Rattle.blif_put.specs.Text.{digitOf, leading, Appended}
+use Rattle.blif_put.specs.Text.{digitOf, fourOf, leading, Appended}
 use Rattle.blif_put.proofs.Laws.{and-append, as-text}
 
 -- the two cases of `decimalBefore`
@@ -73,7 +73,7 @@ leading-some zero h = absurd (omega arith)
 leading-some (suc n) h = refl
 
 -- the last digit behind the others
-pub all-digits : (n : ℕ) → leading (n / 10) ++ ((48 + n % 10) ∷ []) ≡ decimal n []
+all-digits : (n : ℕ) → leading (n / 10) ++ ((48 + n % 10) ∷ []) ≡ decimal n []
 all-digits n =
     by-order 10 n
     (λ l. ap (λ (t : Bytes). t ++ ((48 + n % 10) ∷ [])) (leading-some (n / 10) (omega arith)) ∙ more-digits n l)
@@ -83,42 +83,42 @@ leading-next : (n : ℕ) → leading (n / 10) ++ digitOf n ≡ leading n
 leading-next zero = refl
 leading-next (suc n) = all-digits (suc n)
 
--- m has the digits of n but for the last one
-module _ (n : ℕ) {m : ℕ} (e : m ≡ n / 10) {o p q : Bytes} {a b r : ℕ} (w : Appended (leading m) o a p b) where
-  digit-more : Appended (digitOf n) p b q r → Appended (leading n) o a q r
-  digit-more v = as-text (ap (λ (k : ℕ). leading k ++ digitOf n) e ∙ leading-next n) (and-append w v)
+-- ---- four digits at a time
 
-  digit-last : Appended ((48 + n % 10) ∷ []) p b q r → Appended (decimal n []) o a q r
-  digit-last v = as-text (ap (λ (k : ℕ). leading k ++ ((48 + n % 10) ∷ [])) e ∙ all-digits n) (and-append w v)
+to-left : (t a b c d : Bytes) → t ++ (((a ++ b) ++ c) ++ d) ≡ (((t ++ a) ++ b) ++ c) ++ d
+to-left t a b c d = simp append-assoc
 
-digit-first : (n : ℕ) {o p : Bytes} {a r : ℕ} → n < 10 → Appended (digitOf n) o a p r → Appended (leading n) o a p r
-digit-first n h v = as-text (ap (λ (t : Bytes). t ++ digitOf n) (leading-none (n / 10) (omega arith)) ∙ leading-next n) v
+four-next : (n : ℕ) → leading (n / 10000) ++ fourOf n ≡ leading n
+four-next n =
+    let a : Bytes = digitOf (n / 1000) in
+    let b : Bytes = digitOf (n / 100) in
+    let c : Bytes = digitOf (n / 10) in
+    let d : Bytes = digitOf n in
+    let e₁ : n / 10000 ≡ n / 1000 / 10 = omega arith in
+    let e₂ : n / 1000 ≡ n / 100 / 10 = omega arith in
+    let e₃ : n / 100 ≡ n / 10 / 10 = omega arith in
+    to-left (leading (n / 10000)) a b c d
+    ∙ ap (λ (t : Bytes). ((t ++ b) ++ c) ++ d) (ap (λ (k : ℕ). leading k ++ a) e₁ ∙ leading-next (n / 1000))
+    ∙ ap (λ (t : Bytes). (t ++ c) ++ d) (ap (λ (k : ℕ). leading k ++ b) e₂ ∙ leading-next (n / 100))
+    ∙ ap (λ (t : Bytes). t ++ d) (ap (λ (k : ℕ). leading k ++ c) e₃ ∙ leading-next (n / 10))
+    ∙ leading-next n
 
--- the digits as the code writes them: those before the last four, and the last four
-module _ (n : ℕ) {o : Bytes} {a : ℕ} where
-  pub upper-digits : {p q r s t u : Bytes} {b c d e f g : ℕ} → n < 2 ^ 32 → Appended (digitOf (n / 1000000000)) o a p b
-      → Appended (digitOf (n / 100000000)) p b q c → Appended (digitOf (n / 10000000)) q c r d → Appended (digitOf (n / 1000000)) r d s e
-      → Appended (digitOf (n / 100000)) s e t f → Appended (digitOf (n / 10000)) t f u g → Appended (leading (n / 10000)) o a u g
-  upper-digits h v₁ v₂ v₃ v₄ v₅ v₆ =
-      let e₁ : n / 1000000000 ≡ n / 100000000 / 10 = omega arith in
-      let e₂ : n / 100000000 ≡ n / 10000000 / 10 = omega arith in
-      let e₃ : n / 10000000 ≡ n / 1000000 / 10 = omega arith in
-      let e₄ : n / 1000000 ≡ n / 100000 / 10 = omega arith in
-      let e₅ : n / 100000 ≡ n / 10000 / 10 = omega arith in
-      let w₁ = digit-first (n / 1000000000) (omega arith) v₁ in
-      let w₂ = digit-more (n / 100000000) e₁ w₁ v₂ in
-      let w₃ = digit-more (n / 10000000) e₂ w₂ v₃ in
-      let w₄ = digit-more (n / 1000000) e₃ w₃ v₄ in
-      digit-more (n / 10000) e₅ (digit-more (n / 100000) e₄ w₄ v₅) v₆
+-- the digits as the code writes them: those before the last four, and all
+module _ (n : ℕ) {o p q : Bytes} {a b r : ℕ} where
+  pub upper-digits : n < 2 ^ 32 → Appended (fourOf (n / 100000000)) o a p b → Appended (fourOf (n / 10000)) p b q r
+      → Appended (leading (n / 10000)) o a q r
+  upper-digits h v w =
+      let e : n / 100000000 / 10000 ≡ 0 = omega arith in
+      let f : n / 100000000 ≡ n / 10000 / 10000 = omega arith in
+      let u : fourOf (n / 100000000) ≡ leading (n / 100000000) =
+      ap (λ (t : Bytes). t ++ fourOf (n / 100000000)) (leading-none (n / 100000000 / 10000) e) ∙ four-next (n / 100000000) in
+      as-text (ap (λ (k : ℕ). leading k ++ fourOf (n / 10000)) f ∙ four-next (n / 10000)) (and-append (as-text u v) w)
 
-  pub four-digits : {p q r s t : Bytes} {b c d e f : ℕ} → Appended (leading (n / 10000)) o a p b → Appended (digitOf (n / 1000)) p b q c
-      → Appended (digitOf (n / 100)) q c r d → Appended (digitOf (n / 10)) r d s e → Appended ((48 + n % 10) ∷ []) s e t f
-      → Appended (decimal n []) o a t f
-  four-digits w v₁ v₂ v₃ v₄ =
-      let e₁ : n / 10000 ≡ n / 1000 / 10 = omega arith in
-      let e₂ : n / 1000 ≡ n / 100 / 10 = omega arith in
-      let e₃ : n / 100 ≡ n / 10 / 10 = omega arith in
-      digit-last n refl (digit-more (n / 10) e₃ (digit-more (n / 100) e₂ (digit-more (n / 1000) e₁ w v₁) v₂) v₃) v₄
+  pub number-digits : 1 ≤ n → Appended (leading (n / 10000)) o a p b → Appended (fourOf n) p b q r → Appended (decimal n []) o a q r
+  number-digits h v w = as-text (four-next n ∙ leading-some n h) (and-append v w)
+
+pub zero-digit : (n : ℕ) → n ≡ 0 → 48 ∷ [] ≡ decimal n []
+zero-digit n e = ap (λ (k : ℕ). decimal k []) (sym e)
 
 -- ---- names
 

@@ -1,8 +1,8 @@
 -- Text in the output slice: "Each block is written into what is left of the output slice" (document 01). Assumes nothing: these are
 -- definitions.
 use mathlib.Core.Path.{_≡_}
-use mathlib.Core.List.{[], _∷_}
-use Prim.Native.Nat.{ℕ, zero, suc, _+_, _%_, min}
+use mathlib.Core.List.{[], _∷_, _++_}
+use Prim.Native.Nat.{ℕ, zero, suc, _+_, _/_, _%_, min}
 use lib.ListN.{length}
 use Rattle.lists.specs.Lists.{Bytes, over, overAt}
 use Rattle.blif_model.specs.Names.{decimal}
@@ -27,6 +27,10 @@ pub record Appended (t o : Bytes) (a : ℕ) (p : Bytes) (r : ℕ) : Type 0 where
 abbrev pub digitOf : ℕ → Bytes
 digitOf zero = []
 digitOf (suc n) = (48 + suc n % 10) ∷ []
+
+-- the last four digits of a number, from its first digit on
+abbrev pub fourOf : ℕ → Bytes
+fourOf n = ((digitOf (n / 1000) ++ digitOf (n / 100)) ++ digitOf (n / 10)) ++ digitOf n
 
 -- the digits that stand before others: the number in decimal, and nothing for zero
 abbrev pub leading : ℕ → Bytes

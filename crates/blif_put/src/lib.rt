@@ -17,7 +17,7 @@ ghost use Rattle.network.specs.Cells.{maxGates};
 ghost use Rattle.blif_model.specs.Names.{decimal, suffix, nodeBytes, nameBytes};
 ghost use Rattle.blif_model.specs.Write.{linesOf, isConst, gateName, formBlock, bufBlock};
 ghost use Rattle.blif_model.specs.Render.{spaced, line, latchLine};
-ghost use Rattle.blif_put.specs.Text.{Wrote, digitOf, leading, Appended};
+ghost use Rattle.blif_put.specs.Text.{Wrote, digitOf, fourOf, leading, Appended};
 ghost use Rattle.blif_put.specs.Lines.{outputText, columnsOf, cubeOf, sameCube, mintermAt, maskLines, linesText, rowsOf, Narrow};
 ghost use Rattle.blif_put.specs.Blocks.{blockText, fieldText, flopText, storedText};
 
@@ -80,6 +80,16 @@ fn append_digit(out: &mut [u8], at: usize, n: u32) -> usize
     append_byte(out, at, 48 + (n % 10) as u8)
 }
 
+// Writes the last four digits of n, from its first digit on.
+fn append_four(out: &mut [u8], at: usize, n: u32) -> usize
+    ensures { λ r. ⌜ Appended (fourOf n) (now (out .entry)) at (now (out .exit)) r ⌝ }
+{
+    let mut end = append_digit(out, at, n / 1000);
+    end = append_digit(out, end, n / 100);
+    end = append_digit(out, end, n / 10);
+    append_digit(out, end, n)
+}
+
 // Writes the digits of n before the last four.
 fn append_upper(out: &mut [u8], at: usize, n: u32) -> usize
     ensures { λ r. ⌜ Appended (leading (n / 10000)) (now (out .entry)) at (now (out .exit)) r ⌝ }
@@ -90,23 +100,19 @@ fn append_upper(out: &mut [u8], at: usize, n: u32) -> usize
     if n < 10000 {
         return at;
     }
-    let mut end = append_digit(out, at, n / 1000000000);
-    end = append_digit(out, end, n / 100000000);
-    end = append_digit(out, end, n / 10000000);
-    end = append_digit(out, end, n / 1000000);
-    end = append_digit(out, end, n / 100000);
-    append_digit(out, end, n / 10000)
+    let end = append_four(out, at, n / 100000000);
+    append_four(out, end, n / 10000)
 }
 
 // Writes n in decimal. Each digit goes straight into the slice: an array of digits would be written and read again.
 pub fn append_number(out: &mut [u8], at: usize, n: u32) -> usize
     ensures { λ r. ⌜ Appended (decimal n []) (now (out .entry)) at (now (out .exit)) r ⌝ }
 {
-    let mut end = append_upper(out, at, n);
-    end = append_digit(out, end, n / 1000);
-    end = append_digit(out, end, n / 100);
-    end = append_digit(out, end, n / 10);
-    append_byte(out, end, 48 + (n % 10) as u8)
+    if n == 0 {
+        return append_byte(out, at, b'0');
+    }
+    let end = append_upper(out, at, n);
+    append_four(out, end, n)
 }
 
 // Writes the name of a constant.

@@ -1,4 +1,4 @@
--- `append_upper` writes one digit after the other, from the highest. Assumes nothing.
+-- `append_upper` writes four digits twice. Assumes nothing.
 use native.Mathlib.Omega.{arith}
 use mathlib.Core.Path.{_≡_}
 use Prim.Native.Nat.{_/_}
@@ -17,29 +17,17 @@ returns c = append-past (c .if1 .taken)
 returns-2 : tie.Need-returns-2
 returns-2 c = let n = c .before .before .before .args .n in let z : n / 10000 ≡ 0 = omega (arith, c .if2 .taken) in as-text (leading-none (n / 10000) z) (append-none (c .before .if1 .left))
 
-append-digit-requires : tie.Need-append-digit-requires
-append-digit-requires c κs = search needs
+append-four-requires : tie.Need-append-four-requires
+append-four-requires c κs = search needs
 
-append-digit-requires-2 : tie.Need-append-digit-requires-2
-append-digit-requires-2 c κs = search needs
-
-append-digit-requires-3 : tie.Need-append-digit-requires-3
-append-digit-requires-3 c κs = search needs
-
-append-digit-requires-4 : tie.Need-append-digit-requires-4
-append-digit-requires-4 c κs = search needs
-
-append-digit-requires-5 : tie.Need-append-digit-requires-5
-append-digit-requires-5 c κs = search needs
-
-append-digit-requires-6 : tie.Need-append-digit-requires-6
-append-digit-requires-6 c κs = search needs
+append-four-requires-2 : tie.Need-append-four-requires-2
+append-four-requires-2 c κs = search needs
 
 same-length : tie.Need-same-length
 same-length c = search needs
 
 returns-3 : tie.Need-returns-3
-returns-3 c = let h = c .before .before .before .before .before .before .before .before .before .before .before .before .before .before .before .before .before .before .before .before .before .before .before .before .before .before .before .fits .n in upper-digits (c .before .before .before .before .before .before .before .before .before .before .before .before .before .before .before .before .before .before .before .before .before .before .before .before .before .before .before .args .n) (omega (arith, h)) (c .before .before .before .before .before .before .before .before .before .before .before .before .before .before .before .before .before .before .before .before .before .before .append-digit .ensures) (c .before .before .before .before .before .before .before .before .before .before .before .before .before .before .before .before .before .before .append-digit2 .ensures) (c .before .before .before .before .before .before .before .before .before .before .before .before .before .before .append-digit3 .ensures) (c .before .before .before .before .before .before .before .before .before .before .append-digit4 .ensures) (c .before .before .before .before .before .before .append-digit5 .ensures) (c .before .before .append-digit6 .ensures)
+returns-3 c = let h = c .before .before .before .before .before .before .before .before .before .before .before .fits .n in upper-digits (c .before .before .before .before .before .before .before .before .before .before .before .args .n) (omega (arith, h)) (c .before .before .before .before .before .before .append-four .ensures) (c .before .before .append-four2 .ensures)
 
 pub append-upper-spec : {M : Type 1} → statement M
 append-upper-spec =
@@ -48,11 +36,7 @@ append-upper-spec =
     add-result
     returns
     returns-2
-    append-digit-requires
-    append-digit-requires-2
-    append-digit-requires-3
-    append-digit-requires-4
-    append-digit-requires-5
-    append-digit-requires-6
+    append-four-requires
+    append-four-requires-2
     same-length
     returns-3)
