@@ -19,9 +19,9 @@ use Rattle.blif_model.specs.Names.{nameBytes}
 use Rattle.blif_model.specs.Write as write
 use Rattle.blif_model.specs.Write.{colOf, linesOf, formBlock, isConst, unless, gateName, bare, bufBlock}
 use Rattle.blif_model.specs.Render.{spaced, line, cubeLine, field, latchLine, flopLine, storedLine}
-use Rattle.blif_put.specs.Text.{Appended}
-use Rattle.blif_put.specs.Lines.{linesText}
-use Rattle.blif_put.proofs.Laws.{Going, going-start, going-append, going-done}
+use Rattle.blif_names.specs.Text.{Appended}
+use Rattle.blif_cubes.specs.Lines.{linesText}
+use Rattle.blif_names.proofs.Laws.{Going, going-start, going-append, going-done}
 use Rattle.blif_put.specs.Blocks.{blockText, fieldText, flopText, storedText}
 
 -- ---- signals that the code makes

@@ -29,7 +29,7 @@ use Rattle.blif_model.specs.Blif.{Block}
 use Rattle.blif_model.specs.Names.{nameBytes}
 use Rattle.blif_model.specs.Write.{formBlock, bufBlock, combBlock}
 use Rattle.blif_model.specs.Render.{line, blockLines}
-use Rattle.blif_put.specs.Lines.{Narrow}
+use Rattle.blif_cubes.specs.Lines.{Narrow}
 use Rattle.blif_write.specs.Into.{exclusive, wide}
 use Rattle.blif_put.specs.Blocks.{blockText, storedText}
 use Rattle.blif_write.specs.Parts.{blocksText, coverText, latchText}

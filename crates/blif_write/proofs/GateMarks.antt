@@ -9,9 +9,9 @@ use Rattle.gates.specs.Gate.{Gate}
 use Rattle.network.specs.Cells.{gateAt}
 use Rattle.blif_model.specs.Write.{named}
 use Rattle.blif_write.specs.Parts.{held}
-use Rattle.blif_write.specs.Marks.{Marked, namedIn}
+use Rattle.blif_inverters.specs.Marks.{Marked, namedIn}
 use Rattle.blif_write.proofs.Walks.{held-cons, held-end}
-use Rattle.blif_write.proofs.Marking.{Marking, marking-start, marking-next, marking-done}
+use Rattle.blif_inverters.proofs.Marking.{Marking, marking-start, marking-next, marking-done}
 
 -- the inputs of the gates before g are marked
 pub record GatesMarked (cells ps : List ℕ) (n : ℕ) (gs is gs' is' : List ℕ) (g : ℕ) : Type 0 where

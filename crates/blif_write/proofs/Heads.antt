@@ -11,8 +11,8 @@ use Rattle.signal.specs.Signal.{Input, Signal, plain}
 use Rattle.signal.specs.Cell.{sigOf, inputCell}
 use Rattle.blif_model.specs.Names.{nameBytes}
 use Rattle.blif_model.specs.Render.{spaced, line}
-use Rattle.blif_put.specs.Text.{Appended}
-use Rattle.blif_put.proofs.Laws.{Going, going-start, going-append, going-done}
+use Rattle.blif_names.specs.Text.{Appended}
+use Rattle.blif_names.proofs.Laws.{Going, going-start, going-append, going-done}
 use Rattle.blif_write.specs.Parts.{inputNames, headText}
 use Rattle.blif_put.proofs.Texts.{input-signal}
 

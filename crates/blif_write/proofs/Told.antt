@@ -20,8 +20,8 @@ use Rattle.network.proofs.GateRead.{has-run, gate-is, run-pins}
 use Rattle.blif_model.specs.Write.{named}
 use Rattle.blif_write.specs.Into.{wide}
 use Rattle.blif_write.specs.Parts.{wideNumber, latchText, coverText, HeldAt, Readable}
-use Rattle.blif_write.specs.Marks.{Marked}
-use Rattle.blif_write.proofs.Marking.{as-marked}
+use Rattle.blif_inverters.specs.Marks.{Marked}
+use Rattle.blif_inverters.proofs.Marking.{as-marked}
 
 -- ---- by the form number
 

@@ -19,9 +19,9 @@ use Rattle.blif_model.specs.Write.{sameNode, usedAmong, named, usedIn, inverted
 use Rattle.blif_model.specs.Render.{blockLines, allLines}
 use Rattle.blif_put.specs.Blocks.{blockText}
 use Rattle.blif_write.specs.Parts.{blocksText, invertersText}
-use Rattle.blif_write.specs.Marks.{gateOf, inputOf, marked, markAll, namedIn, inverterAt, gateInverters, inputInverters}
+use Rattle.blif_inverters.specs.Marks.{gateOf, inputOf, marked, markAll, namedIn, inverterAt, gateInverters, inputInverters}
 use Rattle.blif_put.proofs.Texts.{lines-append}
-use Rattle.blif_write.proofs.Marking.{marked-length}
+use Rattle.blif_inverters.proofs.Marking.{marked-length}
 
 -- ---- marks and uses
 

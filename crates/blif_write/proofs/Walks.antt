@@ -21,8 +21,8 @@ use Rattle.network.specs.Cells.{gateAt, orBuf}
 use Rattle.blif_model.specs.Names.{nameBytes}
 use Rattle.blif_model.specs.Write.{combBlock, combBlocks, latchBlocks}
 use Rattle.blif_model.specs.Render.{blockLines, allLines}
-use Rattle.blif_put.specs.Text.{Wrote, Appended}
-use Rattle.blif_put.proofs.Laws.{Going, going-start, going-part, going-done}
+use Rattle.blif_names.specs.Text.{Wrote, Appended}
+use Rattle.blif_names.proofs.Laws.{Going, going-start, going-part, going-done}
 use Rattle.blif_write.specs.Into.{wide}
 use Rattle.blif_write.specs.Parts.{latchText, coverText, latchesText, coversText, held, HeldAt}
 use Rattle.blif_put.proofs.Texts.{lines-append}

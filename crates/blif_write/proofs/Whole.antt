@@ -20,8 +20,8 @@ use Rattle.blif_text.specs.Places.{maxText}
 use Rattle.blif_model.specs.Names.{nameBytes}
 use Rattle.blif_model.specs.Write.{latchBlocks, combBlocks, inverterBlock, inverters}
 use Rattle.blif_model.specs.Render.{line, allLines, textOf}
-use Rattle.blif_put.specs.Text.{Wrote}
-use Rattle.blif_put.proofs.Laws.{part-back, part-is}
+use Rattle.blif_names.specs.Text.{Wrote}
+use Rattle.blif_names.proofs.Laws.{part-back, part-is}
 use Rattle.blif_write.specs.Into.{outcome, refusedText, writtenText, wide, tooLong, writeInto}
 use Rattle.blif_write.specs.declared.WriteAnswer.the-variants.{Written}
 use Rattle.blif_write.specs.Parts.{latchesText, coversText, headLines, headText, held, Readable, netIn, invertersText, Writable}

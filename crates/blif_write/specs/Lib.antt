@@ -1,3 +1,2 @@
 pub mod Into
 pub mod Parts
-pub mod Marks

@@ -1,6 +1,9 @@
 // The BLIF writer (Quaigh's src/io/blif.rs: write_blif, and src/io/utils.rs: get_inverted_signals).
-use blif_put::append;
-use blif_put::append_name;
+use blif_inverters::append_gate_inverters;
+use blif_inverters::append_input_inverters;
+use blif_inverters::mark_signals;
+use blif_names::append;
+use blif_names::append_name;
 use gates::Decoded;
 use gates::Gate;
 use gates::PinRun;
@@ -8,9 +11,9 @@ use network::Counts;
 use signal::Signal;
 ghost use mathlib.Core.Path.{_≡_};
 ghost use mathlib.Core.Bool.{true, false};
-ghost use mathlib.Core.List.{[], _∷_, _++_, map};
+ghost use mathlib.Core.List.{[], _++_, map};
 ghost use Prim.Native.Nat.{_+_, _≤_, _<_, min};
-ghost use lib.ListN.{length, set};
+ghost use lib.ListN.{length};
 ghost use Rattle.lists.specs.Lists.{any};
 ghost use Rattle.signal.specs.Cell.{sigOf};
 ghost use Rattle.gates.specs.Decode.{gateIn};
@@ -18,10 +21,10 @@ ghost use Rattle.network.specs.Cells.{maxGates, maxInputs, gateAt, orBuf, lent}
 ghost use Rattle.blif_text.specs.Places.{maxText};
 ghost use Rattle.blif_model.specs.Write.{named};
 ghost use Rattle.blif_model.specs.Render.{spaced, textOf};
-ghost use Rattle.blif_put.specs.Text.{Wrote, Appended};
+ghost use Rattle.blif_names.specs.Text.{Wrote, Appended};
 ghost use Rattle.blif_write.specs.Into.{outcome, refusedText, writeInto, wide};
 ghost use Rattle.blif_write.specs.Parts.{wideNumber, latchText, coverText, latchesText, coversText, inputNames, headText, held, HeldAt, Readable, netIn, invertersText, Writable};
-ghost use Rattle.blif_write.specs.Marks.{Marked, namedIn, inverterAt, gateInverters, inputInverters};
+ghost use Rattle.blif_inverters.specs.Marks.{Marked, namedIn};
 
 // Form numbers of gates that are looked at before they are read.
 const NARY_XOR: u32 = 11;
@@ -222,44 +225,6 @@ fn any_wide(gates: &[u32], pins: &[u32], n: usize) -> bool
     false
 }
 
-// Sets mark n, if there is one.
-fn set_mark(marks: &mut [u8], n: u32)
-    ensures { λ _. ⌜ now (marks .exit) ≡ set (now (marks .entry)) n 1 ⌝ }
-{
-    let i = n as usize;
-    if i < marks.len() {
-        marks[i] = 1;
-    }
-}
-
-// Marks a signal that is inverted and no constant.
-fn mark_signal(gate_marks: &mut [u8], input_marks: &mut [u8], s: Signal)
-    ensures { λ _. ⌜ Marked (sigOf (s .a) ∷ []) (now («gate_marks» .entry)) (now («input_marks» .entry)) (now («gate_marks» .exit)) (now («input_marks» .exit)) ⌝ }
-{
-    if !s.is_inverted() {
-        return;
-    }
-    if s.is_input() {
-        set_mark(input_marks, s.input());
-        return;
-    }
-    if s.is_constant() {
-        return;
-    }
-    set_mark(gate_marks, s.var());
-}
-
-// Marks the signals of cells.
-fn mark_signals(gate_marks: &mut [u8], input_marks: &mut [u8], cells: &[u32])
-    ensures { λ _. ⌜ Marked (map sigOf (now (cells .entry))) (now («gate_marks» .entry)) (now («input_marks» .entry)) (now («gate_marks» .exit)) (now («input_marks» .exit)) ⌝ }
-{
-    let mut i = 0;
-    while i < cells.len() {
-        mark_signal(gate_marks, input_marks, Signal { a: cells[i] });
-        i += 1;
-    }
-}
-
 // Marks the inputs of gate g, unless it is a Buf, which handles the inversion itself.
 fn mark_gate(gate_marks: &mut [u8], input_marks: &mut [u8], gates: &[u32], pins: &[u32], g: usize)
     requires { ⌜ HeldAt (now gates) (now pins) g ⌝ }
@@ -291,60 +256,6 @@ fn get_inverted_signals(
         mark_gate(gate_marks, input_marks, gates, pins, g);
         g += 1;
     }
-}
-
-// Writes the inverter of a signal that is marked, and nothing where the mark is zero.
-fn write_inverter(out: &mut [u8], mark: u8, s: Signal) -> usize
-    requires { ⌜ sigOf (s .a) .inv ≡ false ⌝ }
-    ensures { λ r. ⌜ Wrote (inverterAt mark (sigOf (s .a) .node)) (now (out .entry)) (now (out .exit)) r ⌝ }
-{
-    if mark == 0 {
-        return 0;
-    }
-    let mut at = append(out, 0, b".names");
-    at = append_name(out, at, b" ", s);
-    at = append_name(out, at, b" ", s.not());
-    append(out, at, b"\n0 1\n")
-}
-
-// Writes the inverters of n gates, upwards.
-fn append_gate_inverters(out: &mut [u8], at: usize, marks: &[u8], n: usize) -> usize
-    requires { ⌜ (n ≤ maxGates) × (n ≤ length (now marks)) ⌝ }
-    ensures { λ r. ⌜ Appended (gateInverters (now (marks .entry)) 0 n) (now (out .entry)) at (now (out .exit)) r ⌝ }
-{
-    if at > out.len() {
-        return out.len() + 1;
-    }
-    let mut end = at;
-    let mut g = 0;
-    while g < n {
-        if end > out.len() {
-            return end;
-        }
-        end += write_inverter(&mut out[end..], marks[g], Signal::from_var(g as u32));
-        g += 1;
-    }
-    end
-}
-
-// Writes the inverters of n inputs, downwards.
-fn append_input_inverters(out: &mut [u8], at: usize, marks: &[u8], n: usize) -> usize
-    requires { ⌜ (n ≤ maxInputs) × (n ≤ length (now marks)) ⌝ }
-    ensures { λ r. ⌜ Appended (inputInverters (now (marks .entry)) n) (now (out .entry)) at (now (out .exit)) r ⌝ }
-{
-    if at > out.len() {
-        return out.len() + 1;
-    }
-    let mut end = at;
-    let mut i = n;
-    while i > 0 {
-        if end > out.len() {
-            return end;
-        }
-        i -= 1;
-        end += write_inverter(&mut out[end..], marks[i], Signal::from_input(i as u32));
-    }
-    end
 }
 
 // Writes an inverter for each signal that is used inverted.

@@ -15,8 +15,8 @@ use Rattle.network.specs.declared.Counts.{Counts}
 use Rattle.blif_text.specs.Places.{maxText}
 use Rattle.blif_model.specs.Names.{decimal}
 use Rattle.blif_model.specs.Render.{textOf}
-use Rattle.blif_put.specs.Text.{Wrote}
-use Rattle.blif_put.proofs.Numbers.{decimal-then}
+use Rattle.blif_names.specs.Text.{Wrote}
+use Rattle.blif_names.proofs.Numbers.{decimal-then}
 use Rattle.blif_read.specs.Into.{Lengths, readInto}
 use Rattle.blif_read.specs.Into as reading
 use Rattle.blif_read.specs.declared.ReadAnswer.{ReadAnswer}

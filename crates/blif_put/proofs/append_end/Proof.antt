@@ -2,7 +2,7 @@
 use borrow.Author.Needs.{needs}
 use Rattle.blif_model.specs.Names.{nameBytes}
 use Rattle.blif_model.specs.Write.{gateName}
-use Rattle.blif_put.proofs.Laws.{and-append, as-text}
+use Rattle.blif_names.proofs.Laws.{and-append, as-text}
 use Rattle.blif_put.proofs.Texts.{end-text}
 use Rattle.blif_put.proofs.append_end.Statement.{statement}
 use Rattle.blif_put.proofs.append_end.Tie as tie

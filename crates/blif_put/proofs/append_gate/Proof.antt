@@ -1,5 +1,5 @@
 -- `append_gate` writes the name of a gate: its letter, its number and no inversion. Assumes nothing.
-use Rattle.blif_put.proofs.Laws.{and-append}
+use Rattle.blif_names.proofs.Laws.{and-append}
 use borrow.Author.Needs.{needs}
 use Rattle.blif_put.proofs.append_gate.Statement.{statement}
 use Rattle.blif_put.proofs.append_gate.Tie as tie

@@ -3,7 +3,7 @@ use native.Mathlib.Omega.{arith}
 use borrow.Author.Needs.{needs}
 use Prim.Native.Nat.{_-_}
 use lib.ListN.{length}
-use Rattle.blif_put.proofs.Laws.{append-past, and-append, going-kept, going-full}
+use Rattle.blif_names.proofs.Laws.{append-past, and-append, going-kept, going-full}
 use Rattle.blif_put.proofs.Texts.{Naming, naming-start, naming-next, naming-done}
 use Rattle.blif_put.proofs.append_signals.Statement.{statement}
 use Rattle.blif_put.proofs.append_signals.Tie as tie

@@ -1,7 +1,7 @@
 -- `append_unless` writes the field or nothing. Assumes nothing.
 use borrow.Author.Needs.{needs}
 use Rattle.signal.specs.Cell.{sigOf}
-use Rattle.blif_put.proofs.Laws.{as-text}
+use Rattle.blif_names.proofs.Laws.{as-text}
 use Rattle.blif_put.proofs.Texts.{field-none, field-some}
 use Rattle.blif_put.proofs.append_unless.Statement.{statement}
 use Rattle.blif_put.proofs.append_unless.Tie as tie

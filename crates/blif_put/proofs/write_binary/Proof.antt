@@ -6,7 +6,7 @@ use Rattle.blif_model.specs.Names.{nameBytes}
 use Rattle.blif_model.specs.Write.{gateName}
 use Rattle.gates.specs.Forms.{binaryForm}
 use Rattle.blif_model.specs.Write.{linesOf}
-use Rattle.blif_put.proofs.Laws.{and-append, as-text, from-start}
+use Rattle.blif_names.proofs.Laws.{and-append, as-text, from-start}
 use Rattle.blif_put.proofs.Texts.{names-then, two-names}
 use Rattle.blif_put.proofs.write_binary.Statement.{statement}
 use Rattle.blif_put.proofs.write_binary.Tie as tie

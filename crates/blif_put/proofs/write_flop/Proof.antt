@@ -1,7 +1,7 @@
 -- `write_flop` writes its six parts. Assumes nothing.
 use borrow.Author.Needs.{needs}
 use Rattle.signal.specs.Cell.{sigOf}
-use Rattle.blif_put.proofs.Laws.{and-append, as-text, from-start}
+use Rattle.blif_names.proofs.Laws.{and-append, as-text, from-start}
 use Rattle.blif_put.proofs.Texts.{flop-text}
 use Rattle.blif_put.proofs.write_flop.Statement.{statement}
 use Rattle.blif_put.proofs.write_flop.Tie as tie

@@ -1,6 +1,6 @@
 -- `write_nary` writes the names, the gate and the lines. Assumes nothing.
 use borrow.Author.Needs.{needs}
-use Rattle.blif_put.proofs.Laws.{and-append, as-text, from-start}
+use Rattle.blif_names.proofs.Laws.{and-append, as-text, from-start}
 use Rattle.blif_put.proofs.Texts.{nary-text}
 use Rattle.blif_put.proofs.write_nary.Statement.{statement}
 use Rattle.blif_put.proofs.write_nary.Tie as tie

@@ -3,7 +3,7 @@ use borrow.Author.Needs.{needs}
 use mathlib.Core.Path.{sym, _∙_}
 use borrow.Author.Tests.{not-true, not-false}
 use Rattle.signal.specs.Cell.{sigOf}
-use Rattle.blif_put.proofs.Laws.{as-wrote}
+use Rattle.blif_names.proofs.Laws.{as-wrote}
 use Rattle.blif_put.proofs.Texts.{stored-enabled, stored-reset, stored-plain}
 use Rattle.blif_put.proofs.write_stored.Statement.{statement}
 use Rattle.blif_put.proofs.write_stored.Tie as tie

@@ -5,7 +5,7 @@ use Prim.Native.Nat.{_-_}
 use mathlib.Core.Path.{refl}
 use mathlib.Core.List.{flatMap}
 use Rattle.blif_write.specs.Parts.{coversText}
-use Rattle.blif_put.proofs.Laws.{append-past, going-kept, going-full, part-high}
+use Rattle.blif_names.proofs.Laws.{append-past, going-kept, going-full, part-high}
 use Rattle.blif_write.proofs.Walks.{Walking, walking-start, walking-next, walking-done, cover-step, not-wide}
 use Rattle.blif_write.proofs.Told.{held-at, held-is}
 use Rattle.blif_write.proofs.append_covers.Statement.{statement}

@@ -2,7 +2,7 @@
 use native.Mathlib.Omega.{arith}
 use borrow.Author.Needs.{needs}
 use Prim.Native.Nat.{_-_}
-use Rattle.blif_put.proofs.Laws.{append-past, going-kept, going-full}
+use Rattle.blif_names.proofs.Laws.{append-past, going-kept, going-full}
 use Rattle.blif_write.proofs.Heads.{Inputs, inputs-start, inputs-next, inputs-done}
 use Rattle.blif_write.proofs.append_inputs.Statement.{statement}
 use Rattle.blif_write.proofs.append_inputs.Tie as tie

@@ -1,7 +1,7 @@
 -- `append_inverters` marks the signals and writes by the marks. Assumes nothing.
 use borrow.Author.Needs.{needs}
 use mathlib.Core.Path.{sym}
-use Rattle.blif_put.proofs.Laws.{and-append, as-text}
+use Rattle.blif_names.proofs.Laws.{and-append, as-text}
 use Rattle.blif_write.proofs.Whole.{held-length}
 use Rattle.blif_write.proofs.Used.{inverters-written}
 use Rattle.blif_write.specs.Parts.{netIn}

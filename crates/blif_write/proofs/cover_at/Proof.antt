@@ -1,6 +1,6 @@
 -- `cover_at` reads the gate unless its form is the flip-flop's. Assumes nothing.
 use mathlib.Core.Path.{_∙_, ap}
-use Rattle.blif_put.proofs.Laws.{as-wrote, wrote-nothing}
+use Rattle.blif_names.proofs.Laws.{as-wrote, wrote-nothing}
 use Rattle.blif_write.specs.Into.{wide}
 use Rattle.blif_write.specs.Parts.{coverText}
 use Rattle.blif_write.proofs.Walks.{read-bad, read-good}

@@ -4,7 +4,7 @@ use borrow.Author.Needs.{needs}
 use mathlib.Core.Path.{_∙_}
 use Prim.Native.Nat.{_-_}
 use Rattle.blif_write.proofs.Told.{held-at, held-is}
-use Rattle.blif_write.proofs.Marking.{marked-both, gates-kept, inputs-kept}
+use Rattle.blif_inverters.proofs.Marking.{marked-both, gates-kept, inputs-kept}
 use Rattle.blif_write.proofs.GateMarks.{GatesMarked, gates-marked-start, gates-marked-next, gates-marked-done}
 use Rattle.blif_write.proofs.get_inverted_signals.Statement.{statement}
 use Rattle.blif_write.proofs.get_inverted_signals.Tie as tie

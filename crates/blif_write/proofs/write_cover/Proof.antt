@@ -1,6 +1,6 @@
 -- `write_cover` writes the cover by the gate's kind. Assumes nothing.
 use borrow.Author.Needs.{needs}
-use Rattle.blif_put.proofs.Laws.{as-wrote, wrote-nothing}
+use Rattle.blif_names.proofs.Laws.{as-wrote, wrote-nothing}
 use Rattle.blif_write.proofs.Covers.{run-slice, narrow-run, cover-binary, cover-ternary, cover-nary, cover-buf, cover-dff}
 use Rattle.blif_write.proofs.write_cover.Statement.{statement}
 use Rattle.blif_write.proofs.write_cover.Tie as tie

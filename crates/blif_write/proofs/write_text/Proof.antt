@@ -1,6 +1,6 @@
 -- `write_text` writes its six parts. Assumes nothing.
 use borrow.Author.Needs.{needs}
-use Rattle.blif_put.proofs.Laws.{and-append, as-text, from-start, to-start}
+use Rattle.blif_names.proofs.Laws.{and-append, as-text, from-start, to-start}
 use Rattle.blif_write.proofs.Whole.{whole-text}
 use Rattle.blif_write.specs.Parts.{netIn}
 use Rattle.blif_write.proofs.write_text.Statement.{statement}

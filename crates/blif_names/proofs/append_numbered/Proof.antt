@@ -1,0 +1,43 @@
+-- `append_numbered` writes a letter, the number and what marks an inversion. Assumes nothing.
+use Rattle.blif_names.proofs.Laws.{and-append, as-text}
+use Rattle.blif_names.proofs.Numbers.{turned-name, plain-name}
+use borrow.Author.Needs.{needs}
+use Rattle.blif_names.proofs.append_numbered.Statement.{statement}
+use Rattle.blif_names.proofs.append_numbered.Tie as tie
+
+append-byte-requires : tie.Need-append-byte-requires
+append-byte-requires c κs = search needs
+
+append-number-requires : tie.Need-append-number-requires
+append-number-requires c κs = search needs
+
+slice-aggregate-append : tie.Need-slice-aggregate-append
+slice-aggregate-append c = search needs
+
+append-requires : tie.Need-append-requires
+append-requires c κs = search needs
+
+same-length : tie.Need-same-length
+same-length c = search needs
+
+returns : tie.Need-returns
+returns c = as-text (turned-name (c .before .before .before .before .before .before .before .before .before .before .before .before .before .before .before .args .letter) (c .before .before .before .before .before .before .before .before .before .before .before .before .before .before .before .args .n) (c .before .before .before .before .before .before .before .before .before .before .before .before .before .before .before .args .inverted) (c .before .before .before .before .before .if1 .taken)) (and-append (and-append (c .before .before .before .before .before .before .before .before .before .before .before .before .append-byte .ensures) (c .before .before .before .before .before .before .before .before .append-number .ensures)) (c .before .before .append .ensures))
+
+same-length-2 : tie.Need-same-length-2
+same-length-2 c = search needs
+
+returns-2 : tie.Need-returns-2
+returns-2 c = as-text (plain-name (c .before .before .before .before .before .before .before .before .before .before .args .letter) (c .before .before .before .before .before .before .before .before .before .before .args .n) (c .before .before .before .before .before .before .before .before .before .before .args .inverted) (c .if1 .left)) (and-append (c .before .before .before .before .before .before .before .append-byte .ensures) (c .before .before .before .append-number .ensures))
+
+pub append-numbered-spec : {M : Type 1} → statement M
+append-numbered-spec =
+    tie.close
+    (tie.spec
+    append-byte-requires
+    append-number-requires
+    slice-aggregate-append
+    append-requires
+    same-length
+    returns
+    same-length-2
+    returns-2)
