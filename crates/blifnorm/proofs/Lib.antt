@@ -1,3 +1,4 @@
 pub mod Printing
 pub mod Input
+pub mod ReadForms
 pub mod Summary

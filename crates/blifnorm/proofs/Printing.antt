@@ -67,6 +67,20 @@ writer-ways l n =
     by-test (tooLong (textOf (netOf l)) n) (λ q. refuses 22 (p ∙ ap end q)) (λ q. writes (textOf (netOf l)) (within (textOf (netOf l)) n q) (p ∙ ap end q))))
     (λ e. refuses 20 (rw e))
 
+-- a network without a gate that is too wide is answered by its text, or by 22
+pub network-text : (l : Lent) (n : ℕ) → isNetwork l ≡ true → any wide (netOf l .gates) ≡ false
+    → printed (writeInto l n) ≡ (if tooLong (textOf (netOf l)) n then refusedLine 22 else textOf (netOf l))
+unfolding writeInto
+network-text l n e w =
+    let t = textOf (netOf l) in
+    let end : Bool → Outcome = λ b. if b then refusedText 22 n else writtenText t n in
+    let line : Bool → Bytes = λ b. if b then refusedLine 22 else t in
+    let p : writeInto l n ≡ end (tooLong t n) = rw (e, w) in
+    let r = length-replicate {A = ℕ} n 0 in
+    by-test (tooLong t n)
+    (λ q. ap printed (p ∙ ap end q) ∙ ap line (sym q))
+    (λ q. let h = within t n q in ap printed (p ∙ ap end q) ∙ take-over t (zeros n) (omega (arith, h, r)) ∙ ap line (sym q))
+
 from-ways : (a : ReadAnswer) (o : reading.Outcome) (n : ℕ) → Ways n (writtenFrom a o n)
 from-ways (read.Refused k) o n = refuses k refl
 from-ways (read.Read c) o n = writer-ways (lent c (o .gates) (o .pins) (o .outputs)) n

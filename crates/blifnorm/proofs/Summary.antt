@@ -1,16 +1,20 @@
 -- What `blifnorm` prints, as a reviewer would read it. Assumes nothing.
-use mathlib.Core.Path.{_≡_, ap, _∙_}
-use mathlib.Core.Bool.{Bool, true}
+use mathlib.Core.Path.{_≡_, sym, ap, _∙_}
+use mathlib.Core.Bool.{Bool, true, false}
 use mathlib.Core.List.{map}
 use Prim.Native.Nat.{ℕ}
-use Rattle.lists.specs.Lists.{if_then_else_, Bytes, zeros, over}
+use Rattle.lists.specs.Lists.{if_then_else_, Bytes, zeros, any, over}
 use Rattle.signal.specs.Cell.{sigCell}
 use Rattle.network.specs.Net.{Net}
-use Rattle.network.specs.Cells.{gateCells, pinCells, lent, countsOf}
+use Rattle.network.specs.Cells.{gateCells, pinCells, Lent, lent, countsOf, netOf, isNetwork}
+use Rattle.blif_model.specs.Render.{textOf}
 use Rattle.blif_model.specs.Read.{Result, read, refused, readText}
 use Rattle.blif_read.specs.Into.{Lengths, enough, Outcome, filled, readInto}
-use Rattle.blif_write.specs.Into.{writeInto}
+use Rattle.blif_read.proofs.CellsRead.{read-layout, read-decodes}
+use Rattle.blif_write.specs.Into.{wide, tooLong, writeInto}
 use Rattle.blifnorm.specs.Norm.{refusedLine, writtenFrom, normInto, printed}
+use Rattle.blifnorm.proofs.Printing.{network-text}
+use Rattle.blifnorm.proofs.ReadForms.{read-not-wide}
 
 module _ (text : Bytes) (ls : Lengths) (n : ℕ) (e : enough ls ≡ true) where
   -- what the reader leaves, with enough cells
@@ -31,3 +35,17 @@ module _ (text : Bytes) (ls : Lengths) (n : ℕ) (e : enough ls ≡ true) where
       (over (map sigCell (net .outputs)) (zeros (ls .outputs))))
       n)
   network-printed net q = ap (λ (o : Outcome). printed (writtenFrom (o .answer) o n)) (left q)
+
+  -- a text that is read is answered by the written text of the network read, or by 22 where that text is too long
+  pub text-printed : (net : Net) → readText text ≡ read net
+      → printed (normInto text ls n) ≡ (if tooLong (textOf net) n then refusedLine 22 else textOf net)
+  text-printed net q =
+      let cells : Outcome → Lent = λ o. lent (countsOf net) (o .gates) (o .pins) (o .outputs) in
+      let l : Lent = cells (filled (read net) ls) in
+      let same : l ≡ cells (readInto text ls) = ap cells (sym (left q)) in
+      let decodes : netOf l ≡ net = ap netOf same ∙ read-decodes text net ls e q in
+      let layout : isNetwork l ≡ true = ap isNetwork same ∙ read-layout text net ls e q in
+      let narrow : any wide (netOf l .gates) ≡ false = ap (λ (x : Net). any wide (x .gates)) decodes ∙ read-not-wide text net q in
+      network-printed net q
+      ∙ network-text l n layout narrow
+      ∙ ap (λ (x : Net). if tooLong (textOf x) n then refusedLine 22 else textOf x) decodes
