@@ -4,6 +4,7 @@ use std::fmt::Write;
 pub struct Input {
     pub name: String,
     pub text: Vec<u8>,
+    pub file: bool,
 }
 
 // Numbers from a seed.
@@ -102,7 +103,7 @@ fn repeated(piece: &str) -> String {
 
 pub fn inputs() -> Vec<Input> {
     let mut all = Vec::new();
-    let mut add = |name: String, text: String| all.push(Input { name, text: text.into_bytes() });
+    let mut add = |name: String, text: String| all.push(Input { name, text: text.into_bytes(), file: false });
     let short = |g: usize| if g < 26 { ((b'a' + g as u8) as char).to_string() } else { format!("n{g}") };
     let long = |g: usize| format!("top/interlock/uplink/command/decoder/stage_{g:04}");
     for size in SIZES {
@@ -146,5 +147,6 @@ pub fn files(folder: &str) -> Vec<Input> {
         }
     }
     paths.sort();
-    paths.iter().map(|p| Input { name: p.file_stem().unwrap().to_string_lossy().into_owned(), text: std::fs::read(p).unwrap() }).collect()
+    let name = |p: &std::path::PathBuf| p.file_stem().unwrap().to_string_lossy().into_owned();
+    paths.iter().map(|p| Input { name: name(p), text: std::fs::read(p).unwrap(), file: true }).collect()
 }
