@@ -85,7 +85,7 @@ fn plot(rows: &[Measured], f: fn(&Measured) -> Option<Pair>, left: f64, title: &
 fn svg(rows: &[Measured]) -> String {
     let mut s = String::from("<svg xmlns=\"http://www.w3.org/2000/svg\" width=\"840\" height=\"430\" font-family=\"sans-serif\" font-size=\"12\">\n<rect width=\"840\" height=\"430\" fill=\"white\"/>\n");
     s += &plot(rows, |m| m.read, 0.0, "Reading: time over the text's bytes");
-    s += &plot(rows, |m| m.write, 420.0, "Writing: time over the bytes of the text that was read");
+    s += &plot(rows, |m| m.write, 420.0, "Writing: time over the bytes that were read");
     for (i, (family, colour)) in FAMILIES.iter().enumerate() {
         let at = 60 + 180 * i;
         let _ = writeln!(s, "<line x1=\"{at}\" y1=\"404\" x2=\"{}\" y2=\"404\" stroke=\"{colour}\" stroke-width=\"2\"/><text x=\"{}\" y=\"408\">{}</text>", at + 24, at + 30, family.trim_end_matches('-').replace('-', " "));
