@@ -72,6 +72,13 @@ fn definitions(size: usize) -> String {
     text + ".end\n"
 }
 
+// Names of four letters or digits that the part's index puts into one chain.
+fn one_chain() -> impl Iterator<Item = String> {
+    let signs = b"abcdefghijklmnopqrstuvwxyz0123456789";
+    let names = (0..36usize.pow(4)).map(|k| [k / 46656, k / 1296 % 36, k / 36 % 36, k % 36].map(|d| signs[d]));
+    names.filter(|n| n.iter().fold(0, |h, c| (h * 623 + *c as usize) % 1024) == 0).map(|n| String::from_utf8_lossy(&n).into_owned())
+}
+
 // A chain of flip-flops, up to a size.
 fn latches(size: usize) -> String {
     let mut text = ".model m\n.inputs a\n.outputs q0\n".to_string();
@@ -94,6 +101,17 @@ fn xor(inputs: usize) -> String {
         text += " 1\n";
     }
     text + ".end\n"
+}
+
+// The worst text for the index: as many gates as there are names of one chain, each with two of them as inputs.
+pub fn worst() -> Input {
+    let mut numbers = Numbers(1);
+    let names: Vec<String> = one_chain().take(1027).collect();
+    let mut text = format!(".model m\n.inputs {}\n", names[..3].join(" "));
+    for g in 3..names.len() {
+        let _ = write!(text, ".names {} {} {}\n11 1\n", names[numbers.below(g)], names[numbers.below(g)], names[g]);
+    }
+    Input { name: "one-chain".to_string(), text: text.into_bytes(), file: false }
 }
 
 // A text of one piece, as often as 32,768 bytes have room for.

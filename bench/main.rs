@@ -165,7 +165,7 @@ fn main() {
         _ => {
             let made = all(None).len();
             let measured: Vec<Measured> = all(words.get(3)).iter().map(measure).collect();
-            report::report(&measured, made, &words[1], &words[2]);
+            report::report(&measured, made, &measure(&inputs::worst()), &words[1], &words[2]);
         }
     }
 }

@@ -93,7 +93,7 @@ fn svg(rows: &[Measured]) -> String {
     s + "<text x=\"60\" y=\"424\">whole lines: this part; broken lines: Quaigh, in Rust</text>\n</svg>\n"
 }
 
-pub fn report(rows: &[Measured], made: usize, folder: &str, docs: &str) {
+pub fn report(rows: &[Measured], made: usize, worst: &Measured, folder: &str, docs: &str) {
     let cores = std::thread::available_parallelism().map_or(1, |n| n.get());
     let (made, given) = rows.split_at(made);
     let mut lines = vec![summary("reading", made, |m| m.read), summary("writing", made, |m| m.write)];
@@ -106,8 +106,11 @@ pub fn report(rows: &[Measured], made: usize, folder: &str, docs: &str) {
     let filled: String = made.iter().filter(|m| m.name.starts_with("small-gates-")).map(|m| format!("| {} | {:.2} | {:.2} |\n", m.bytes, m.read.unwrap().part / 1e3, m.read_filled / 1e3)).collect();
     print!("{}", table(rows, folder));
     println!("{}", lines.join("\n"));
+    let w = worst.read.expect("the worst text is read");
+    let chain = format!("{} bytes, {:.0} µs here and {:.0} µs in the Rust", worst.bytes, w.part / 1e3, w.rust / 1e3);
+    println!("names of one chain: {chain}");
     let points: String = lines.iter().map(|l| format!("- {l}\n")).collect();
-    let page = include_str!("speed.template").replace("@CORES@", &cores.to_string()).replace("@SUMMARY@", points.trim_end()).replace("@TABLE@", table(made, folder).trim_end()).replace("@FILLED@", filled.trim_end());
+    let page = include_str!("speed.template").replace("@CORES@", &cores.to_string()).replace("@SUMMARY@", points.trim_end()).replace("@TABLE@", table(made, folder).trim_end()).replace("@FILLED@", filled.trim_end()).replace("@CHAIN@", &chain);
     std::fs::write(format!("{docs}/speed.md"), page).unwrap();
     std::fs::write(format!("{docs}/speed.svg"), svg(made)).unwrap();
 }

@@ -1,4 +1,5 @@
 // What the programs that replay stored answers share: numbers on standard input.
+use network::Counts;
 ghost use Prim.Native.Nat.{_^_, _<_};
 
 // A hexadecimal digit.
@@ -22,4 +23,35 @@ pub fn read_word() -> u32
         word = word % 0x1000_0000 * 16 + digit(bytes[i]);
     }
     word
+}
+
+// One more than the largest word.
+pub const WORD: usize = 0x1_0000_0000;
+
+// The next number of two words, the upper one first.
+fn read_count() -> usize {
+    let upper = read_word() as usize % WORD;
+    let lower = read_word() as usize % WORD;
+    upper * WORD + lower
+}
+
+// The next four numbers as counts.
+pub fn read_counts() -> Counts {
+    let inputs = read_count();
+    let gates = read_count();
+    let pins = read_count();
+    let outputs = read_count();
+    Counts {
+        inputs,
+        gates,
+        pins,
+        outputs,
+    }
+}
+
+// Puts a word into cell i, if there is one.
+pub fn put_word(cells: &mut [u32], i: usize, word: u32) {
+    if i < cells.len() {
+        cells[i] = word;
+    }
 }

@@ -6,45 +6,18 @@
 use lists::equal;
 use network::Counts;
 use network::GATE_CELLS;
+use replay::WORD;
+use replay::put_word;
+use replay::read_counts;
 use replay::read_word;
 use round_trip::TripAnswer;
 use round_trip::write_then_read;
 use simulate::clock;
 use simulate::put_bit;
 
-const WORD: usize = 0x1_0000_0000;
-
 const ONES: u32 = 0xffff_ffff;
 
 // ---- what is read
-
-// The next number of two words, the upper one first.
-fn read_count() -> usize {
-    let upper = read_word() as usize % WORD;
-    let lower = read_word() as usize % WORD;
-    upper * WORD + lower
-}
-
-// The next four numbers as counts.
-fn read_counts() -> Counts {
-    let inputs = read_count();
-    let gates = read_count();
-    let pins = read_count();
-    let outputs = read_count();
-    Counts {
-        inputs,
-        gates,
-        pins,
-        outputs,
-    }
-}
-
-// Puts a word into cell i, if there is one.
-fn put_word(cells: &mut [u32], i: usize, word: u32) {
-    if i < cells.len() {
-        cells[i] = word;
-    }
-}
 
 // The next words.
 fn read_words(cells: &mut [u32]) {

@@ -5,37 +5,9 @@
 use blif_write::WriteAnswer;
 use blif_write::write_blif;
 use network::Counts;
+use replay::put_word;
+use replay::read_counts;
 use replay::read_word;
-
-const WORD: usize = 0x1_0000_0000;
-
-// The next number of two words, the upper one first.
-fn read_count() -> usize {
-    let upper = read_word() as usize % WORD;
-    let lower = read_word() as usize % WORD;
-    upper * WORD + lower
-}
-
-// The next four numbers as counts.
-fn read_counts() -> Counts {
-    let inputs = read_count();
-    let gates = read_count();
-    let pins = read_count();
-    let outputs = read_count();
-    Counts {
-        inputs,
-        gates,
-        pins,
-        outputs,
-    }
-}
-
-// Puts a word into cell i, if there is one.
-fn put_word(cells: &mut [u32], i: usize, word: u32) {
-    if i < cells.len() {
-        cells[i] = word;
-    }
-}
 
 // Cell i, or zero if there is none.
 fn word_at(cells: &[u32], i: usize) -> u32 {

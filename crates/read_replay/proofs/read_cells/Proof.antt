@@ -2,7 +2,7 @@
 use Prim.Native.Nat.{ℕ}
 use native.Mathlib.Omega.{arith}
 use borrow.Author.Needs.{needs}
-use Rattle.read_replay.proofs.Parts.{first-cells}
+use Rattle.replay.proofs.Parts.{first-cells}
 use Rattle.read_replay.proofs.read_cells.Statement.{statement}
 use Rattle.read_replay.proofs.read_cells.Tie as tie
 

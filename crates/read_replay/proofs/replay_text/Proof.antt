@@ -1,7 +1,7 @@
 -- `replay_text` is safe and ends. Assumes nothing.
 use native.Mathlib.Omega.{arith}
 use borrow.Author.Needs.{needs}
-use Rattle.read_replay.proofs.Parts.{first-cells}
+use Rattle.replay.proofs.Parts.{first-cells}
 use Rattle.read_replay.proofs.replay_text.Statement.{statement}
 use Rattle.read_replay.proofs.replay_text.Tie as tie
 

@@ -1,5 +1,5 @@
 -- `replay_network` is safe and ends. Assumes nothing.
-use Rattle.trip_replay.proofs.Parts.{first-cells}
+use Rattle.replay.proofs.Parts.{first-cells}
 use native.Mathlib.Omega.{arith}
 use borrow.Author.Needs.{needs}
 use Rattle.trip_replay.proofs.replay_network.Statement.{statement}

@@ -1,7 +1,7 @@
 -- `replay_network` is safe and ends. Assumes nothing.
 use native.Mathlib.Omega.{arith}
 use borrow.Author.Needs.{needs}
-use Rattle.write_replay.proofs.Parts.{first-cells}
+use Rattle.replay.proofs.Parts.{first-cells}
 use Rattle.write_replay.proofs.replay_network.Statement.{statement}
 use Rattle.write_replay.proofs.replay_network.Tie as tie
 
