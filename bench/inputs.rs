@@ -127,6 +127,8 @@ pub fn inputs() -> Vec<Input> {
     for size in SIZES {
         add(format!("small-gates-{size}"), gates(size, &short));
     }
+    add("one-gate-100".to_string(), gates(100, &|g| format!("net{:04}", 997 + g)));
+    add("no-gates".to_string(), ".model m\n.inputs a b\n.outputs a\n.end\n".to_string());
     for size in &SIZES[2..] {
         add(format!("long-names-{size}"), gates(*size, &long));
         add(format!("latches-{size}"), latches(*size));
