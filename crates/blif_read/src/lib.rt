@@ -179,7 +179,7 @@ fn read_names(
     requires { ⌜ Sized (now text) (now pins) n ⌝ }
     ensures { λ r. ⌜ Holds (readText (now (text .entry))) r (now (gates .exit)) (now (pins .exit)) (now (outputs .exit)) ⌝ }
 {
-    let mut index = [0u32; 4864];
+    let mut index = [0u32; 6144];
     let d = build_name_to_sig(text, pins, n, &mut index, work_pins, gates);
     if d.refused != 0 {
         return ReadAnswer::Refused(d.refused);

@@ -1,3 +1,4 @@
-pub mod ChainLaws
+pub mod HashLaws
+pub mod TreeLaws
 pub mod EntryLaws
 pub mod IndexLaws

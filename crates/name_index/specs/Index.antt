@@ -1,41 +1,41 @@
--- The index of names in cells: 1,024 chains, each of the entries whose names have one hash. Assumes nothing: these are definitions.
+-- The index of names in cells: 1,024 trees of entries. A name's hash tells its tree, by its ten lowest bits, and the way through it, by the
+-- others, bit by bit. Assumes nothing: these are definitions.
 use mathlib.Core.Path.{_≡_}
-use mathlib.Core.Bool.{Bool, true, false, not, cond}
+use mathlib.Core.Bool.{Bool, true, false, not}
 use mathlib.Core.List.{List, [], _∷_, _++_, map}
-use Prim.Native.Nat.{ℕ, zero, suc, _+_, _*_, _%_, _≤_, _<_}
-use lib.Dec.{eqb}
+use Prim.Native.Nat.{ℕ, suc, _+_, _*_, _/_, _%_, _^_, _≤_, _<_}
 use lib.ListN.{length, getD}
 use Rattle.lists.specs.Lists.{Bytes, range, same, known}
 use Rattle.blif_text.specs.Places.{tokenStart, tokenLength, tokenOf}
 use Rattle.name_index.specs.Search.{Entry, entry}
 
--- how many chains
-abbrev pub chains : ℕ
-chains = 1024
+-- how many trees
+abbrev pub trees : ℕ
+trees = 1024
 
 -- "256 inputs" and "1,024 gates": no more names are defined
 abbrev pub maxNames : ℕ
 maxNames = 1280
 
--- the cells of an entry: its name's place, its signal, and the entry before it in its chain
+-- the cells of an entry: its name's place, its signal, and the entries to which the next bit of a hash leads, for 0 and for 1
 abbrev pub entryWidth : ℕ
-entryWidth = 3
+entryWidth = 4
 
--- the cells of an index: the last entry of each chain, then the entries
+-- the cells of an index: the first entry of each tree, then the entries
 abbrev pub indexCells : ℕ
-indexCells = chains + maxNames * entryWidth
+indexCells = trees + maxNames * entryWidth
 
 -- the place of entry e's name
 abbrev pub nameAt : List ℕ → ℕ → ℕ
-nameAt cells e = getD cells (chains + e * entryWidth) 0
+nameAt cells e = getD cells (trees + e * entryWidth) 0
 
 -- entry e's signal
 abbrev pub signalAt : List ℕ → ℕ → ℕ
-signalAt cells e = getD cells (chains + e * entryWidth + 1) 0
+signalAt cells e = getD cells (trees + e * entryWidth + 1) 0
 
--- one more than the entry before e in its chain, or 0
-abbrev pub linkAt : List ℕ → ℕ → ℕ
-linkAt cells e = getD cells (chains + e * entryWidth + 2) 0
+-- the cell of entry e that leads on, for the lowest of these bits
+abbrev pub branch : ℕ → ℕ → ℕ
+branch e bits = trees + e * entryWidth + 2 + bits % 2
 
 -- entry e
 abbrev pub entryAt : Bytes → List ℕ → ℕ → Entry
@@ -45,12 +45,12 @@ entryAt text cells e = entry (tokenOf text (nameAt cells e)) (signalAt cells e)
 abbrev pub entriesOf : Bytes → List ℕ → ℕ → List Entry
 entriesOf text cells k = map (entryAt text cells) (range 0 k)
 
--- the hash of a name's bytes, going on from h; by 623 the names of usual netlists, which end in numbers, spread evenly over the chains
+-- the hash of a name's bytes in 32 bits, going on from h; by 623 the names of usual netlists, which end in numbers, spread evenly
 abbrev pub hashFrom : ℕ → Bytes → ℕ
 hashFrom h [] = h
-hashFrom h (c ∷ s) = hashFrom ((h * 623 + c) % chains) s
+hashFrom h (c ∷ s) = hashFrom ((h * 623 + c) % 2 ^ 32) s
 
--- the hash of a name, below 1,024
+-- the hash of a name
 abbrev pub hashOf : Bytes → ℕ
 hashOf x = hashFrom 0 x
 
@@ -58,10 +58,18 @@ hashOf x = hashFrom 0 x
 abbrev pub hashAt : Bytes → List ℕ → ℕ → ℕ
 hashAt text cells e = hashOf (tokenOf text (nameAt cells e))
 
--- one more than the last of the first k entries whose hash is h, or 0
-abbrev pub latest : (ℕ → ℕ) → ℕ → ℕ → ℕ
-latest hash h zero = 0
-latest hash h (suc k) = cond (eqb (hash k) h) (suc k) (latest hash h k)
+-- the cell with the first entry of a hash's tree
+abbrev pub rootOf : ℕ → ℕ
+rootOf h = h % trees
+
+-- the bits of a hash that tell the way through its tree
+abbrev pub bitsOf : ℕ → ℕ
+bitsOf h = h / trees
+
+-- from a cell these bits lead to entry e: a cell holds one more than an entry's number, or 0 where there is none
+pub data Leads (cells : List ℕ) : ℕ → ℕ → ℕ → Type 0 where
+  here : {at bits e : ℕ} → getD cells at 0 ≡ suc e → Leads cells at bits e
+  on : {at bits f e : ℕ} → getD cells at 0 ≡ suc f → Leads cells (branch f bits) (bits / 2) e → Leads cells at bits e
 
 -- the cells are an index of k names of the text
 pub record Index (text cells : List ℕ) (k : ℕ) : Type 0 where
@@ -71,10 +79,12 @@ pub record Index (text cells : List ℕ) (k : ℕ) : Type 0 where
   pub few : k ≤ maxNames
   -- each is within the text
   pub inside : (e : ℕ) → e < k → tokenStart (nameAt cells e) + tokenLength (nameAt cells e) ≤ length text
-  -- each chain starts at its last entry
-  pub starts : (h : ℕ) → h < chains → getD cells h 0 ≡ latest (hashAt text cells) h k
-  -- and goes on to the entry before
-  pub links : (e : ℕ) → e < k → linkAt cells e ≡ latest (hashAt text cells) (hashAt text cells e) e
+  -- a tree starts with one of the entries, or with none
+  pub roots : (h : ℕ) → h < trees → getD cells h 0 ≤ k
+  -- an entry leads on to later ones
+  pub rises : (e bits f : ℕ) → e < k → getD cells (branch e bits) 0 ≡ suc f → (e < f) × (f < k)
+  -- its hash leads to each entry
+  pub held : (e : ℕ) → e < k → Leads cells (rootOf (hashAt text cells e)) (bitsOf (hashAt text cells e)) e
   -- no name stands twice
   pub once : (d e : ℕ) → d < e → e < k → same (tokenOf text (nameAt cells e)) (tokenOf text (nameAt cells d)) ≡ false
 

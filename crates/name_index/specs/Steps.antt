@@ -1,17 +1,27 @@
--- The search along a chain of the index. Assumes nothing: these are definitions.
+-- The search through a tree of the index. Assumes nothing: these are definitions.
 use mathlib.Core.Path.{_≡_}
 use mathlib.Core.Bool.{true, false}
 use mathlib.Core.List.{List}
-use Prim.Native.Nat.{ℕ, _-_, _≤_, _<_}
+use Prim.Native.Nat.{ℕ, suc, _-_, _/_, _≤_, _<_}
+use lib.ListN.{length, getD}
 use Rattle.lists.specs.Lists.{Bytes, same}
 use Rattle.blif_text.specs.Places.{tokenOf}
-use Rattle.name_index.specs.Index.{nameAt}
+use Rattle.name_index.specs.Index.{nameAt, branch, hashOf, rootOf, bitsOf}
 
--- r is one more than the number of the entry that has this name, or 0 where none has it
-pub record FoundIn (text cells : List ℕ) (k : ℕ) (name : Bytes) (r : ℕ) : Type 0 where
-  -- it is one of the first k
-  pub within : r ≤ k
-  -- its name is this one
-  pub here : 0 < r → same name (tokenOf text (nameAt cells (r - 1))) ≡ true
+-- from a cell these bits lead past entries to a cell
+pub data Passes (cells : List ℕ) : ℕ → ℕ → ℕ → Type 0 where
+  stay : {at bits : ℕ} → Passes cells at bits at
+  past : {at bits f to : ℕ} → getD cells at 0 ≡ suc f → Passes cells (branch f bits) (bits / 2) to → Passes cells at bits to
+
+-- the search for a name ends at cell r, which holds one more than the number of the entry that has it, or 0 where none has it
+pub record Sought (text cells : List ℕ) (k : ℕ) (name : Bytes) (r : ℕ) : Type 0 where
+  -- the cell is there
+  pub there : r < length cells
+  -- what it holds is one of the first k entries
+  pub within : getD cells r 0 ≤ k
+  -- whose name is this one
+  pub here : 0 < getD cells r 0 → same name (tokenOf text (nameAt cells (getD cells r 0 - 1))) ≡ true
   -- or none has it
-  pub none : r ≡ 0 → (e : ℕ) → e < k → same name (tokenOf text (nameAt cells e)) ≡ false
+  pub none : getD cells r 0 ≡ 0 → (e : ℕ) → e < k → same name (tokenOf text (nameAt cells e)) ≡ false
+  -- the name's hash leads to the cell
+  pub way : Passes cells (rootOf (hashOf name)) (bitsOf (hashOf name)) r

@@ -1,17 +1,23 @@
--- `find_signal` searches the chain of the name's hash. Assumes nothing.
+-- `find_signal` searches the name's tree. Assumes nothing.
 use borrow.Author.Needs.{needs}
-use Rattle.name_index.proofs.IndexLaws.{found-none, found-signal}
+use Rattle.name_index.proofs.IndexLaws.{sought-none, sought-signal}
 use Rattle.name_index.proofs.find_signal.Statement.{statement}
 use Rattle.name_index.proofs.find_signal.Tie as tie
 
-hash-of-requires : tie.Need-hash-of-requires
-hash-of-requires c κs = search needs
+seek-requires : tie.Need-seek-requires
+seek-requires c κs = search needs
 
-find-in-chain-requires : tie.Need-find-in-chain-requires
-find-in-chain-requires c κs = search needs
+mul-i : tie.Need-mul-i
+mul-i c = search needs
+
+shared-slice-read-i : tie.Need-shared-slice-read-i
+shared-slice-read-i c = search needs
+
+cast-i : tie.Need-cast-i
+cast-i c = search needs
 
 returns : tie.Need-returns
-returns c = found-none (c .before .before .before .before .before .before .pre) (c .before .find-in-chain .ensures) (c .if1 .taken)
+returns c = search (sought-none, needs)
 
 sub-result : tie.Need-sub-result
 sub-result c = search needs
@@ -32,14 +38,16 @@ shared-slice-read-result : tie.Need-shared-slice-read-result
 shared-slice-read-result c = search needs
 
 returns-2 : tie.Need-returns-2
-returns-2 c = found-signal (c .before .before .before .before .before .before .before .pre) (c .before .before .find-in-chain .ensures) (c .before .if1 .left)
+returns-2 c = search (sought-signal, needs)
 
 pub find-signal-spec : {M : Type 1} → statement M
 find-signal-spec =
     tie.close
     (tie.spec
-    hash-of-requires
-    find-in-chain-requires
+    seek-requires
+    mul-i
+    shared-slice-read-i
+    cast-i
     returns
     sub-result
     mul-result

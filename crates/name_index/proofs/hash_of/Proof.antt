@@ -2,7 +2,7 @@
 use Prim.Native.Nat.{_-_}
 use native.Mathlib.Omega.{arith}
 use lib.ListN.{length}
-use Rattle.name_index.proofs.ChainLaws.{Hashing, hashing-start, hashing-next, hashing-done}
+use Rattle.name_index.proofs.HashLaws.{Hashing, hashing-start, hashing-next, hashing-done}
 use Rattle.name_index.proofs.hash_of.Statement.{statement}
 use Rattle.name_index.proofs.hash_of.Tie as tie
 

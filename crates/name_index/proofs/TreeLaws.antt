@@ -1,0 +1,159 @@
+-- The way through a tree of the index, and the search along it. Assumes nothing.
+use mathlib.Core.Path.{_≡_, refl, sym, ap, subst, _∙_}
+use mathlib.Core.Bool.{Bool, true, false, false≢true}
+use mathlib.Core.List.{List}
+use Prim.Native.Nat.{ℕ, suc, _+_, _*_, _-_, _/_, _≤_, _<_}
+use native.Mathlib.Omega.{arith}
+use lib.ListN.{length, getD}
+use Rattle.lists.specs.Lists.{Bytes, same}
+use Rattle.lists.proofs.Same.{same-is}
+use Rattle.lists.proofs.Tests.{by-test}
+use Rattle.blif_text.specs.Places.{tokenStart, tokenLength, tokenOf}
+use Rattle.name_index.specs.Index.{trees, entryWidth, nameAt, branch, hashOf, rootOf, bitsOf, Leads, here, on, Index}
+use Rattle.name_index.specs.Steps.{Passes, stay, past, Sought}
+
+-- ---- the cells of the trees
+
+-- a cell that holds a tree's first entry, or to which one of the first k entries leads on
+pub data TreeCell (k at : ℕ) : Type 0 where
+  root : at < trees → TreeCell k at
+  link : (e bits : ℕ) → e < k → at ≡ branch e bits → TreeCell k at
+
+-- it is before entry k
+pub cell-before : {k at : ℕ} → TreeCell k at → at < trees + k * entryWidth
+cell-before (root l) = omega arith
+cell-before (link e bits l z) = omega arith
+
+-- and it has no name and no signal
+pub cell-apart : {k at : ℕ} → TreeCell k at → (e i : ℕ) → i < 2 → trees + e * entryWidth + i ≡ at → ⊥
+cell-apart (root l) e i u z = omega arith
+cell-apart (link f bits l y) e i u z = omega arith
+
+module _ {text cells : List ℕ} {k : ℕ} (x : Index text cells k) where
+  -- the entry it holds is one of the first k, and stands behind it
+  cell-holds : {at : ℕ} (f : ℕ) → TreeCell k at → getD cells at 0 ≡ suc f → (f < k) × (at < trees + f * entryWidth)
+  cell-holds {at} f (root l) q = (omega (arith, x .roots at l), omega arith)
+  cell-holds {at} f (link e bits l z) q =
+      let r : (e < f) × (f < k) = x .rises e bits f l (sym (ap (λ (j : ℕ). getD cells j 0) z) ∙ q) in
+      (r .1, omega (arith, r .0))
+
+  -- it leads on to such cells
+  cell-next : {at f : ℕ} (bits : ℕ) → TreeCell k at → getD cells at 0 ≡ suc f → TreeCell k (branch f bits)
+  cell-next {f = f} bits t q = link f bits (cell-holds f t q .0) refl
+
+  -- and so does a way of many
+  passes-cell : {at bits to : ℕ} → TreeCell k at → Passes cells at bits to → TreeCell k to
+  passes-cell t stay = t
+  passes-cell {bits = bits} t (past q p) = passes-cell (cell-next bits t q) p
+
+  -- a search ends in one
+  pub sought-cell : {name : Bytes} {at : ℕ} → Sought text cells k name at → TreeCell k at
+  sought-cell f = passes-cell (root (omega arith)) (f .way)
+
+  -- ---- other cells in which each entry of the trees stands where it was
+  module _ {cells′ : List ℕ} (kept : (at f : ℕ) → TreeCell k at → getD cells at 0 ≡ suc f → getD cells′ at 0 ≡ suc f) where
+    pub leads-kept : {at bits e : ℕ} → TreeCell k at → Leads cells at bits e → Leads cells′ at bits e
+    leads-kept {at} {bits} {e} t (here q) = here (kept at e t q)
+    leads-kept {at} {bits} {e} t (on {f = f} q l) = on (kept at f t q) (leads-kept (cell-next bits t q) l)
+
+    -- a way leads to the entry at its end
+    pub passes-lead : {at bits to e : ℕ} → TreeCell k at → Passes cells at bits to → getD cells′ to 0 ≡ suc e → Leads cells′ at bits e
+    passes-lead t stay z = here z
+    passes-lead {at} {bits} t (past {f = f} q p) z = on (kept at f t q) (passes-lead (cell-next bits t q) p z)
+
+-- ---- one step of a way
+
+module _ {cells : List ℕ} {at bits e : ℕ} where
+  -- a cell that holds nothing leads to no entry
+  leads-none : getD cells at 0 ≡ 0 → Leads cells at bits e → ⊥
+  leads-none z (here q) = omega (arith, q)
+  leads-none z (on q l) = omega (arith, q)
+
+  -- one that holds another entry leads on
+  leads-on : {f : ℕ} → getD cells at 0 ≡ suc f → (e ≡ f → ⊥) → Leads cells at bits e → Leads cells (branch f bits) (bits / 2) e
+  leads-on q n (here p) = absurd (n (omega arith))
+  leads-on {f} q n (on {f = g} p l) = let z : g ≡ f = omega arith in subst (λ (j : ℕ). Leads cells (branch j bits) (bits / 2) e) z l
+
+-- ---- the search
+
+-- a way past entries of other names has come to a cell, from which the bits left lead to the name's entry if there is one
+pub record Seeking (text cells : List ℕ) (k : ℕ) (name : Bytes) (at bits : ℕ) : Type 0 where
+  pub index : Index text cells k
+  pub cell : TreeCell k at
+  pub way : (to : ℕ) → Passes cells at bits to → Passes cells (rootOf (hashOf name)) (bitsOf (hashOf name)) to
+  pub left : (e : ℕ) → e < k → same name (tokenOf text (nameAt cells e)) ≡ true → Leads cells at bits e
+
+pub seeking-start : {text cells : List ℕ} {k h : ℕ} {name : Bytes} → Index text cells k → h ≡ hashOf name → Seeking text cells k name (rootOf h) (bitsOf h)
+seeking-start {text} {cells} {name = name} x q =
+    rw q
+    (record {
+      index = x;
+      cell = root (omega arith);
+      way = λ to p. p;
+      left = λ e l t. rw (same-is name (tokenOf text (nameAt cells e)) t) (x .held e l);
+    })
+
+module _ {text cells : List ℕ} {k : ℕ} {name : Bytes} {at bits : ℕ} (c : Seeking text cells k name at bits) where
+  -- the cell is there
+  pub seeking-there : at < length cells
+  seeking-there = omega (arith, cell-before (c .cell), c .index .few, c .index .room)
+
+  -- it holds nothing: no entry has the name
+  pub seeking-done : getD cells at 0 ≡ 0 → Sought text cells k name at
+  seeking-done z =
+      record {
+        there = seeking-there;
+        within = omega arith;
+        here = λ p. absurd (omega arith);
+        none = λ u e l. by-test (same name (tokenOf text (nameAt cells e))) (λ t. absurd (leads-none z (c .left e l t))) (λ t. t);
+        way = c .way at stay;
+      }
+
+  -- or it holds an entry
+  module _ (n : getD cells at 0 ≡ 0 → ⊥) where
+    -- this one
+    holds : getD cells at 0 ≡ suc (getD cells at 0 - 1)
+    holds = omega arith
+
+    -- one of the first k
+    seeking-within : getD cells at 0 - 1 < k
+    seeking-within = cell-holds (c .index) (getD cells at 0 - 1) (c .cell) holds .0
+
+    -- its cells are there
+    pub seeking-room : trees + (getD cells at 0 - 1) * entryWidth + entryWidth ≤ length cells
+    seeking-room = omega (arith, seeking-within, c .index .few, c .index .room)
+
+    -- its name is within the text
+    pub seeking-inside : tokenStart (nameAt cells (getD cells at 0 - 1)) + tokenLength (nameAt cells (getD cells at 0 - 1)) ≤ length text
+    seeking-inside = c .index .inside (getD cells at 0 - 1) seeking-within
+
+    -- it leads on behind the cell, for each bit
+    pub seeking-less : (b : ℕ) → trees + k * entryWidth - branch (getD cells at 0 - 1) b < trees + k * entryWidth - at
+    seeking-less b = omega (arith, seeking-within, cell-holds (c .index) (getD cells at 0 - 1) (c .cell) holds .1)
+
+    -- its name is compared
+    module _ {other : Bytes} {b : Bool} (o : other ≡ tokenOf text (nameAt cells (getD cells at 0 - 1))) (s : b ≡ same name other) where
+      told : same name (tokenOf text (nameAt cells (getD cells at 0 - 1))) ≡ b
+      told = ap (same name) (sym o) ∙ sym s
+
+      -- it is the name sought
+      pub seeking-found : b ≡ true → Sought text cells k name at
+      seeking-found t =
+          record {
+            there = seeking-there;
+            within = omega (arith, seeking-within);
+            here = λ p. told ∙ t;
+            none = λ z. absurd (n z);
+            way = c .way at stay;
+          }
+
+      -- or another, and the search goes on
+      pub seeking-next : b ≡ false → Seeking text cells k name (branch (getD cells at 0 - 1) bits) (bits / 2)
+      seeking-next t =
+          record {
+            index = c .index;
+            cell = cell-next (c .index) bits (c .cell) holds;
+            way = λ to p. c .way to (past holds p);
+            left = λ e l u.
+                leads-on holds (λ z. false≢true (sym (told ∙ t) ∙ sym (ap (λ (j : ℕ). same name (tokenOf text (nameAt cells j))) z) ∙ u)) (c .left e l u);
+          }
