@@ -45,10 +45,14 @@ entryAt text cells e = entry (tokenOf text (nameAt cells e)) (signalAt cells e)
 abbrev pub entriesOf : Bytes → List ℕ → ℕ → List Entry
 entriesOf text cells k = map (entryAt text cells) (range 0 k)
 
--- the hash of a name's bytes in 32 bits, going on from h; by 623 the names of usual netlists, which end in numbers, spread evenly
+-- how many hashes there are
+abbrev pub hashes : ℕ
+hashes = 2 ^ 54
+
+-- the hash of a name's bytes, going on from h; by 623 the names of usual netlists, which end in numbers, spread evenly over the trees
 abbrev pub hashFrom : ℕ → Bytes → ℕ
 hashFrom h [] = h
-hashFrom h (c ∷ s) = hashFrom ((h * 623 + c) % 2 ^ 32) s
+hashFrom h (c ∷ s) = hashFrom ((h * 623 + c) % hashes) s
 
 -- the hash of a name
 abbrev pub hashOf : Bytes → ℕ

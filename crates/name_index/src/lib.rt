@@ -2,7 +2,7 @@
 use blif_text::token;
 use lists::equal;
 ghost use mathlib.Core.Path.{_≡_};
-ghost use Prim.Native.Nat.{_+_, _^_, _≤_, _<_};
+ghost use Prim.Native.Nat.{_+_, _≤_, _<_};
 ghost use lib.ListN.{length};
 ghost use Rattle.blif_text.specs.Places.{tokenStart, tokenLength};
 ghost use Rattle.name_index.specs.Search.{signalIn};
@@ -16,14 +16,17 @@ const TREES: usize = 1024;
 // The cells of an entry: its name's place, its signal, and the entries to which a bit of 0 and a bit of 1 lead.
 const ENTRY_CELLS: usize = 4;
 
+// One more than the largest hash: the most that can be multiplied by 623 in 64 bits.
+const HASHES: usize = 0x40_0000_0000_0000;
+
 // The hash of a name.
 fn hash_of(name: &[u8]) -> usize
-    ensures { λ r. ⌜ (r ≡ hashOf (now (name .entry))) × (r < 2 ^ 32) ⌝ }
+    ensures { λ r. ⌜ r ≡ hashOf (now (name .entry)) ⌝ }
 {
     let mut h = 0;
     let mut i = 0;
     while i < name.len() {
-        h = (h * 623 + name[i] as usize) % 4294967296;
+        h = (h * 623 + name[i] as usize) % HASHES;
         i += 1;
     }
     h
