@@ -12,7 +12,8 @@ use Rattle.blif_text.specs.Walk.{rowsFrom}
 use Rattle.blif_text.specs.Decls.{isOne}
 use Rattle.blif_text.specs.Blocks.{defFrom}
 use Rattle.blif_model.specs.Read.{_then_, when, goodLine, coverFault}
-use Rattle.blif_covers.specs.Pass.{differ, linesOf, linesFault}
+use Rattle.blif_covers.proofs.LineLaws.{linesFault}
+use Rattle.blif_covers.specs.Pass.{differ, linesIn}
 use Rattle.blif_covers.specs.declared.Outputs.{Outputs}
 
 -- no output yet
@@ -21,7 +22,7 @@ noOutput = record { zero = false; one = false }
 
 -- the refusal of a block's definition is that of its lines
 pub block-fault : (text tokens : List ℕ) (n first names lines : ℕ) → first + names ≤ length tokens
-    → coverFault (defFrom text tokens n first names lines) ≡ linesFault (names - 1) noOutput (take (linesOf names lines) (rowsFrom text tokens n (first + names)))
+    → coverFault (defFrom text tokens n first names lines) ≡ linesFault (names - 1) noOutput (take (linesIn names lines) (rowsFrom text tokens n (first + names)))
 unfolding coverFault _then_ when
 block-fault text tokens n first zero lines h = refl
 block-fault text tokens n first (suc k) lines h =
@@ -32,12 +33,12 @@ block-fault text tokens n first (suc k) lines h =
     ap (λ (w : ℕ). when (not (all (goodLine w) ls)) 12 then when (any isOne ls && not (all isOne ls)) 13) (e ∙ p)
 
 -- a latch has no line
-pub latch-none : (names lines : ℕ) → 0 < linesOf names lines → 0 < names
+pub latch-none : (names lines : ℕ) → 0 < linesIn names lines → 0 < names
 latch-none zero lines h = absurd (let z : ⊥ = omega arith in z)
 latch-none (suc k) lines h = omega arith
 
 -- a cover has those that its record counts
-pub cover-lines : (names lines : ℕ) → 0 < names → linesOf names lines ≡ lines
+pub cover-lines : (names lines : ℕ) → 0 < names → linesIn names lines ≡ lines
 cover-lines zero lines h = absurd (let z : ⊥ = omega arith in z)
 cover-lines (suc k) lines h = refl
 

@@ -2,22 +2,29 @@
 use mathlib.Core.Path.{_≡_, refl, sym, ap, ap₂, _∙_}
 use mathlib.Core.Bool.{Bool, true, false, _&&_, _||_, not, true≢false, false≢true}
 use mathlib.Core.List.{List, [], _∷_}
-use Prim.Native.Nat.{ℕ, zero, suc, _+_, _-_, _≤_, _<_}
+use Prim.Native.Nat.{ℕ, zero, suc, _-_, _≤_, _<_}
 use native.Mathlib.Omega.{arith}
 use lib.Dec.{eqb, ltb}
-use lib.ListN.{length, getD, length-map}
-use lib.Seq.{slice, slice-empty, slice-cons, length-slice}
-use borrow.Author.Tests.{lt-ltb, le-ltb, ne-eqb}
-use Rattle.lists.specs.Lists.{if_then_else_, Bytes, same, all, any, known}
-use Rattle.lists.proofs.Tests.{by-test, by-order, and-right}
+use lib.ListN.{length, getD}
+use lib.Seq.{slice}
+use borrow.Author.Tests.{ltb-true, lt-ltb, le-ltb, ne-eqb}
+use Rattle.lists.specs.Lists.{if_then_else_, Bytes, same, all, any, elem, known}
+use Rattle.lists.proofs.Tests.{by-test, by-order, and-left, and-right}
 use Rattle.lists.proofs.Same.{same-is}
 use Rattle.blif_text.specs.Places.{tokenOf, tokensOf}
 use Rattle.blif_text.specs.Decls.{columns, output, isOne}
+use Rattle.blif_text.proofs.ColumnLaws.{row-count, last-output}
 use Rattle.blif_model.specs.Read.{_then_, when, goodLine}
-use Rattle.blif_covers.specs.Pass.{isColumn, outputOf, withOutput, right, fits, columnsOf, linesFault}
+use Rattle.blif_covers.specs.Pass.{isColumn, outputOf, withOutput, right, fits}
 use Rattle.blif_covers.specs.declared.Output.{Output}
 use Rattle.blif_covers.specs.declared.Output.the-variants.{Zero, One, Wrong}
 use Rattle.blif_covers.specs.declared.Outputs.{Outputs}
+
+-- the refusal of the lines left of a cover with w columns, after these outputs: 12 at a wrong one, else 13 where outputs differ
+abbrev pub linesFault : ℕ → Outputs → List (List Bytes) → ℕ
+linesFault w met ls =
+    when (not (all (goodLine w) ls)) 12
+    then when ((met .one || any isOne ls) && (met .zero || not (all isOne ls))) 13
 
 -- ---- outputs
 
@@ -51,11 +58,18 @@ one-is t = by-test (same t (48 ∷ [])) (λ e. zero-case t (same-is t (48 ∷ []
 
 -- ---- a row as a line
 
--- the tokens ts are a line of m tokens with these columns and this output, or more than two
-pub data LineIn (ts : List Bytes) (m : ℕ) (cols out : Bytes) : Type 0 where
-  single : ts ≡ out ∷ [] → m ≡ 1 → cols ≡ [] → LineIn ts m cols out
-  double : ts ≡ cols ∷ out ∷ [] → m ≡ 2 → LineIn ts m cols out
-  long : 3 ≤ length ts → 3 ≤ m → LineIn ts m cols out
+-- the tokens ts of a line are m, and where they are one or two their output is this one
+pub record LineIn (ts : List Bytes) (m : ℕ) (out : Bytes) : Type 0 where
+  pub some : 0 < m
+  pub counted : length ts ≡ m
+  pub out-is : m < 3 → output ts ≡ out
+
+-- one or two
+one-or-two : (m : ℕ) → 0 < m → m < 3 → elem m (1 ∷ 2 ∷ []) ≡ true
+one-or-two zero h l = absurd (let z : ⊥ = omega arith in z)
+one-or-two (suc zero) h l = refl
+one-or-two (suc (suc zero)) h l = refl
+one-or-two (suc (suc (suc m))) h l = absurd (let z : ⊥ = omega arith in z)
 
 swapped : (a b c : Bool) → (a && b && c) ≡ (a && c && b)
 swapped true true true = refl
@@ -64,56 +78,34 @@ swapped true false true = refl
 swapped true false false = refl
 swapped false b c = refl
 
-module _ {ts : List Bytes} {m : ℕ} {cols out : Bytes} (w : ℕ) where
+module _ {ts : List Bytes} {m : ℕ} {out : Bytes} (w : ℕ) (l : LineIn ts m out) where
   -- a line is good where it fits and its columns are
-  pub good-is : LineIn ts m cols out → goodLine w ts ≡ (fits m (length cols) w (outputOf out) && all isColumn cols)
-  unfolding goodLine columns output
-  good-is (single e p q) =
-      ap (goodLine w) e
-      ∙ ap (λ (b : Bool). eqb w 0 && true && b) (known-right out)
-      ∙ swapped (eqb w 0) true (right (outputOf out))
-      ∙ ap₂ (λ (k : ℕ) (c : Bytes). fits k (length c) w (outputOf out) && all isColumn c) (sym p) (sym q)
-  good-is (double e p) =
-      ap (goodLine w) e
-      ∙ ap (λ (b : Bool). eqb w (length cols) && all isColumn cols && b) (known-right out)
-      ∙ swapped (eqb w (length cols)) (all isColumn cols) (right (outputOf out))
-      ∙ ap (λ (k : ℕ). fits k (length cols) w (outputOf out) && all isColumn cols) (sym p)
-  good-is (long h k) =
-      simp (ne-eqb (length ts) 1 (λ e. let z : ⊥ = omega arith in z), ne-eqb (length ts) 2 (λ e. let z : ⊥ = omega arith in z), le-ltb m 3 k)
+  pub good-is : goodLine w ts ≡ (fits m (length (columns ts)) w (outputOf out) && all isColumn (columns ts))
+  unfolding goodLine
+  good-is =
+      by-order 3 m
+      (λ h. simp (ne-eqb (length ts) 1 (λ e. let z : ⊥ = omega (arith, l .counted) in z), ne-eqb (length ts) 2 (λ e. let z : ⊥ = omega (arith, l .counted) in z), le-ltb m 3 h))
+      (λ h.
+      ap₂ (λ (a b : Bool). a && eqb w (length (columns ts)) && all isColumn (columns ts) && b)
+      (ap (λ (k : ℕ). elem k (1 ∷ 2 ∷ [])) (l .counted) ∙ one-or-two m (l .some) h)
+      (ap (λ (t : Bytes). known t ((48 ∷ []) ∷ (49 ∷ []) ∷ [])) (l .out-is h) ∙ known-right out)
+      ∙ swapped (eqb w (length (columns ts))) (all isColumn (columns ts)) (right (outputOf out))
+      ∙ ap (λ (b : Bool). b && eqb w (length (columns ts)) && right (outputOf out) && all isColumn (columns ts)) (sym (lt-ltb m 3 h)))
 
   -- the output of a line that fits
-  pub one-of : LineIn ts m cols out → fits m (length cols) w (outputOf out) ≡ true → isOne ts ≡ one (outputOf out)
-  unfolding isOne output
-  one-of (single e p q) f = ap isOne e ∙ one-is out
-  one-of (double e p) f = ap isOne e ∙ one-is out
-  one-of (long h k) f = absurd (false≢true (sym (simp (le-ltb m 3 k)) ∙ f))
+  pub one-of : fits m (length (columns ts)) w (outputOf out) ≡ true → isOne ts ≡ one (outputOf out)
+  unfolding isOne
+  one-of f =
+      let a = ltb m 3 in
+      let b = eqb w (length (columns ts)) in
+      let h : m < 3 = ltb-true m 3 (and-left a b (and-left (a && b) (right (outputOf out)) f)) in
+      ap (λ (t : Bytes). same t (49 ∷ [])) (l .out-is h) ∙ one-is out
 
 -- the row from at to end is a line of that many tokens
 pub line-in : (text tokens : List ℕ) (at end : ℕ) → at < end → end ≤ length tokens
-    → LineIn (tokensOf text (slice at end tokens)) (end - at) (columnsOf text (getD tokens at 0) (end - at)) (tokenOf text (getD tokens (end - 1) 0))
+    → LineIn (tokensOf text (slice at end tokens)) (end - at) (tokenOf text (getD tokens (end - 1) 0))
 line-in text tokens at end h k =
-    by-order end (at + 1)
-    (λ l.
-    let q : suc at ≡ end = omega arith in
-    let r : end - 1 ≡ at = omega arith in
-    single
-    (ap (tokensOf text) (slice-cons at end tokens 0 h k ∙ ap₂ (λ (x : ℕ) (y : List ℕ). getD tokens x 0 ∷ y) (sym r) (ap (λ (j : ℕ). slice j end tokens) q ∙ slice-empty end tokens)))
-    (omega arith)
-    (simp (lt-ltb (end - at) 2 (omega arith))))
-    (λ l.
-    by-order end (at + 2)
-    (λ m.
-    let q : suc (suc at) ≡ end = omega arith in
-    let r : end - 1 ≡ suc at = omega arith in
-    double
-    (ap (tokensOf text)
-    (slice-cons at end tokens 0 h k
-    ∙ ap (λ (x : List ℕ). getD tokens at 0 ∷ x)
-    (slice-cons (suc at) end tokens 0 (omega arith) k
-    ∙ ap₂ (λ (x : ℕ) (y : List ℕ). getD tokens x 0 ∷ y) (sym r) (ap (λ (j : ℕ). slice j end tokens) q ∙ slice-empty end tokens)))
-    ∙ ap (λ (x : Bytes). x ∷ tokenOf text (getD tokens (end - 1) 0) ∷ []) (sym (simp (le-ltb (end - at) 2 (omega arith)))))
-    (omega arith))
-    (λ m. long (omega (arith, length-map (slice at end tokens) (tokenOf text), length-slice at end tokens k)) (omega arith)))
+    record { some = omega arith; counted = row-count text tokens at end h k; out-is = last-output text tokens at end h k }
 
 -- ---- refusals in order
 
@@ -140,7 +132,11 @@ more-differ Zero met some every h = ap (λ (b : Bool). (met .one || some) && b) 
 more-differ One met some every h = ap (λ (b : Bool). b && (met .zero || not every)) (or-true (met .one))
 more-differ Wrong met some every h = absurd (false≢true h)
 
-module _ {ts : List Bytes} {m : ℕ} {cols out : Bytes} (w : ℕ) (met : Outputs) (ls : List (List Bytes)) (l : LineIn ts m cols out) where
+module _ {ts : List Bytes} {m : ℕ} {out : Bytes} (w : ℕ) (met : Outputs) (ls : List (List Bytes)) (l : LineIn ts m out) where
+  -- the columns
+  abbrev cols : Bytes
+  cols = columns ts
+
   -- a line that does not fit is refused
   pub misfit : fits m (length cols) w (outputOf out) ≡ false → linesFault w met (ts ∷ ls) ≡ 12
   unfolding _then_ when

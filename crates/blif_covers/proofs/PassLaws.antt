@@ -1,6 +1,6 @@
 -- What is left of the pass over covers, step by step. Each record says that the whole pass answers what is left; each law takes one such
 -- fact to the next. Assumes nothing.
-use mathlib.Core.Path.{_≡_, sym, ap, _∙_, subst}
+use mathlib.Core.Path.{_≡_, sym, ap, ap₂, _∙_, subst}
 use mathlib.Core.Bool.{Bool, true, false, not}
 use mathlib.Core.List.{List, _∷_, map}
 use Prim.Native.Nat.{ℕ, suc, _+_, _-_, _≤_, _<_}
@@ -12,17 +12,18 @@ use borrow.Author.Tests.{not-true, not-false}
 use borrow.Author.Needs.{needs}
 use Rattle.lists.specs.Lists.{Bytes, all, range}
 use Rattle.lists.proofs.Tests.{by-order}
-use Rattle.blif_text.specs.Places.{maxTokens, tokenStart, tokenLength, tokenOf, tokensOf}
+use Rattle.blif_text.specs.Places.{maxTokens, InText, tokenOf, tokensOf}
+use Rattle.blif_text.specs.Decls.{columns}
 use Rattle.blif_text.specs.Keywords.{RowTo}
-use Rattle.blif_text.specs.Walk.{rowsFrom, RowsAt}
+use Rattle.blif_text.specs.Walk.{rowsFrom, Inside, RowsAt}
 use Rattle.blif_text.specs.Blocks.{firstName, nameCount, lineCount, defFrom, defAt, defsAt, BlockIn, Blocks}
-use Rattle.blif_text.proofs.RowWalk.{rows-end, rows-next, rows-are}
+use Rattle.blif_text.proofs.RowWalk.{inside-less, rows-end, rows-next, rows-are}
 use Rattle.blif_model.specs.Read.{_then_, when, coverFault, coverFaults}
-use Rattle.blif_covers.specs.Pass.{isColumn, outputOf, withOutput, differ, fits, columnsOf, linesOf, linesFault}
+use Rattle.blif_covers.specs.Pass.{isColumn, outputOf, withOutput, differ, fits, linesIn}
 use Rattle.blif_covers.specs.declared.Output.{Output}
 use Rattle.blif_covers.specs.declared.Outputs.{Outputs}
 use Rattle.blif_covers.proofs.CoverLaws.{noOutput, block-fault, latch-none, cover-lines, none-left}
-use Rattle.blif_covers.proofs.LineLaws.{LineIn, line-in, misfit, fitting, then-assoc, when-and}
+use Rattle.blif_covers.proofs.LineLaws.{linesFault, LineIn, line-in, misfit, fitting, then-assoc, when-and}
 
 minus-suc : (a b : ℕ) → a < b → b - a ≡ suc (b - (a + 1))
 minus-suc a b h = omega arith
@@ -92,7 +93,7 @@ module _ {text tokens : List ℕ} {n : ℕ} {blocks : List ℕ} {g : ℕ} where
 
     -- the next cover
     pub enter-cover : j < g → Covers text tokens n blocks g j → {first names lines l : ℕ}
-        → (first ≡ firstName blocks j) × (names ≡ nameCount blocks j) × (lines ≡ lineCount blocks j) → l ≡ linesOf names lines
+        → (first ≡ firstName blocks j) × (names ≡ nameCount blocks j) × (lines ≡ lineCount blocks j) → l ≡ linesIn names lines
         → Lines text tokens n blocks g j names l (first + names) noOutput 0
     enter-cover h v {first} {names} {lines} {l} e s =
         let b : BlockIn text tokens n first names lines =
@@ -101,7 +102,7 @@ module _ {text tokens : List ℕ} {n : ℕ} {blocks : List ℕ} {g : ℕ} where
         (subst (λ (x : ℕ). BlockIn text tokens n (firstName blocks j) x lines)
         (sym (e .1))
         (subst (λ (x : ℕ). BlockIn text tokens n (firstName blocks j) (nameCount blocks j) x) (sym (e .2)) (v .places .each j h))) in
-        let q : linesOf names lines ≡ l - 0 = omega (arith, s) in
+        let q : linesIn names lines ≡ l - 0 = omega (arith, s) in
         let some : 0 < l → 0 < names = λ m. latch-none names lines (subst (λ (x : ℕ). 0 < x) s m) in
         record {
           places = v .places;
@@ -147,12 +148,12 @@ module _ {text tokens : List ℕ} {n : ℕ} {blocks : List ℕ} {g : ℕ} where
             is = through h ∙ ap (λ (x : Bool). when x 13 then rest text tokens n blocks g (j + 1)) (sym e ∙ t);
           }
 
-      -- the line's first token is within the text
-      pub first-there : k < lines → tokenStart (getD tokens at 0) + tokenLength (getD tokens at 0) ≤ length text
-      first-there h = v .places .places .inside at (line-there h)
+      -- the line's tokens are places within the text
+      pub line-inside : {end : ℕ} → RowTo tokens at n end → Inside text tokens end
+      line-inside w = inside-less (w .high) (v .places .places)
 
-      -- and its last
-      pub last-there : k < lines → {end : ℕ} → RowTo tokens at n end → tokenStart (getD tokens (end - 1) 0) + tokenLength (getD tokens (end - 1) 0) ≤ length text
+      -- its last token is within the text
+      pub last-there : k < lines → {end : ℕ} → RowTo tokens at n end → InText text (getD tokens (end - 1) 0)
       last-there h {end} w = v .places .places .inside (end - 1) (omega (arith, w .low, w .high))
 
       -- the line has a token, and the cover a name
@@ -160,7 +161,7 @@ module _ {text tokens : List ℕ} {n : ℕ} {blocks : List ℕ} {g : ℕ} where
       line-some h {end} w = (omega (arith, w .low), v .named h)
 
       module _ {end : ℕ} {cols t : Bytes} {o : Output} {b : Bool} (h : k < lines) (w : RowTo tokens at n end)
-          (p : cols ≡ columnsOf text (getD tokens at 0) (end - at)) (u : t ≡ tokenOf text (getD tokens (end - 1) 0)) (s : o ≡ outputOf t)
+          (p : cols ≡ columns (tokensOf text (slice at end tokens))) (u : t ≡ tokenOf text (getD tokens (end - 1) 0)) (s : o ≡ outputOf t)
           (r : b ≡ fits (end - at) (length cols) (names - 1) o) where
         -- the row, then the lines behind it
         abbrev row : List Bytes
@@ -171,17 +172,14 @@ module _ {text tokens : List ℕ} {n : ℕ} {blocks : List ℕ} {g : ℕ} where
             ap (λ (m : ℕ). take m (rowsFrom text tokens n at)) (minus-suc k lines h)
             ∙ ap (take (suc (lines - (k + 1)))) (rows-are (v .rows h) (line-there h) w)
 
-        line : LineIn row (end - at) cols (tokenOf text (getD tokens (end - 1) 0))
-        line =
-            subst (λ (c : Bytes). LineIn row (end - at) c (tokenOf text (getD tokens (end - 1) 0)))
-            (sym p)
-            (line-in text tokens at end (w .low) (omega (arith, w .high, v .places .places .room)))
+        line : LineIn row (end - at) (tokenOf text (getD tokens (end - 1) 0))
+        line = line-in text tokens at end (w .low) (omega (arith, w .high, v .places .places .room))
 
         q : o ≡ outputOf (tokenOf text (getD tokens (end - 1) 0))
         q = s ∙ ap outputOf u
 
-        fits-is : fits (end - at) (length cols) (names - 1) (outputOf (tokenOf text (getD tokens (end - 1) 0))) ≡ b
-        fits-is = ap (fits (end - at) (length cols) (names - 1)) (sym q) ∙ sym r
+        fits-is : fits (end - at) (length (columns row)) (names - 1) (outputOf (tokenOf text (getD tokens (end - 1) 0))) ≡ b
+        fits-is = ap₂ (λ (c : Bytes) (x : Output). fits (end - at) (length c) (names - 1) x) (sym p) (sym q) ∙ sym r
 
         -- the pass answers what the line and those behind it give
         line-left : whole text tokens n blocks g
@@ -211,7 +209,10 @@ module _ {text tokens : List ℕ} {n : ℕ} {blocks : List ℕ} {g : ℕ} where
                   line-left
                   ∙ ap (λ (x : ℕ). x then rest text tokens n blocks g (j + 1))
                   (fitting (names - 1) met (take (lines - (k + 1)) (rowsFrom text tokens n end)) line (fits-is ∙ not-false b t)
-                  ∙ ap (λ (x : Output). when (not (all isColumn cols)) 12 then linesFault (names - 1) (withOutput met x) (take (lines - (k + 1)) (rowsFrom text tokens n end))) (sym q))
+                  ∙ ap₂
+                  (λ (c : Bytes) (x : Output). when (not (all isColumn c)) 12 then linesFault (names - 1) (withOutput met x) (take (lines - (k + 1)) (rowsFrom text tokens n end)))
+                  (sym p)
+                  (sym q))
                   ∙ then-assoc (when (not (all isColumn cols)) 12) _ (rest text tokens n blocks g (j + 1));
             }
 
@@ -266,4 +267,4 @@ module _ {text tokens : List ℕ} {n : ℕ} {blocks : List ℕ} {g : ℕ} where
                 ∙ ap (λ (x : Outputs). linesFault (names - 1) x (take (lines - (k + 1)) (rowsFrom text tokens n end)) then rest text tokens n blocks g (j + 1)) (sym e);
           }
 
-pub ruleset steps = (start, enter-cover, end-pass, line-there, first-there, last-there, line-some, lines-differ, lines-agree, line-misfits, enter-line, bad-column, next-column, end-line, needs)
+pub ruleset steps = (start, enter-cover, end-pass, line-there, line-inside, last-there, line-some, lines-differ, lines-agree, line-misfits, enter-line, bad-column, next-column, end-line, needs)

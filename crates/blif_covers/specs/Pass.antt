@@ -1,13 +1,10 @@
 -- A pass over covers, as far as it has come: what a line gives, and the refusal of what is left (document 01, refusals 12 and 13).
 -- Assumes nothing: these are definitions.
-use mathlib.Core.Bool.{Bool, true, false, _&&_, _||_, not}
-use mathlib.Core.List.{List, [], _∷_}
+use mathlib.Core.Bool.{Bool, true, false, _&&_}
+use mathlib.Core.List.{[], _∷_}
 use Prim.Native.Nat.{ℕ, zero, suc}
 use lib.Dec.{eqb, ltb}
-use Rattle.lists.specs.Lists.{if_then_else_, Bytes, same, all, any, elem}
-use Rattle.blif_text.specs.Places.{tokenOf}
-use Rattle.blif_text.specs.Decls.{isOne}
-use Rattle.blif_model.specs.Read.{_then_, when, goodLine}
+use Rattle.lists.specs.Lists.{if_then_else_, Bytes, same, elem}
 use Rattle.blif_covers.specs.declared.Output.{Output}
 use Rattle.blif_covers.specs.declared.Output.the-variants.{Zero, One, Wrong}
 use Rattle.blif_covers.specs.declared.Outputs.{Outputs}
@@ -40,17 +37,7 @@ right Wrong = false
 abbrev pub fits : ℕ → ℕ → ℕ → Output → Bool
 fits tokens columns wanted o = ltb tokens 3 && eqb wanted columns && right o
 
--- the columns of a line of so many tokens whose first has this cell: "the first of two tokens, or none"
-abbrev pub columnsOf : Bytes → ℕ → ℕ → Bytes
-columnsOf text first tokens = if ltb tokens 2 then [] else tokenOf text first
-
 -- the lines of a block: a latch, told by no name, has none
-abbrev pub linesOf : ℕ → ℕ → ℕ
-linesOf zero lines = 0
-linesOf (suc k) lines = lines
-
--- the refusal of the lines left of a cover with w columns, after these outputs: 12 at a wrong one, else 13 where outputs differ
-abbrev pub linesFault : ℕ → Outputs → List (List Bytes) → ℕ
-linesFault w met ls =
-    when (not (all (goodLine w) ls)) 12
-    then when ((met .one || any isOne ls) && (met .zero || not (all isOne ls))) 13
+abbrev pub linesIn : ℕ → ℕ → ℕ
+linesIn zero lines = 0
+linesIn (suc k) lines = lines

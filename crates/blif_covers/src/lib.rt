@@ -1,16 +1,15 @@
 // Cube lines: refusals 12 and 13 (Quaigh's src/io/blif.rs: build_network).
 use blif_text::Block;
 use blif_text::block_at;
+use blif_text::line_columns;
 use blif_text::row_end;
 use blif_text::token;
 use lists::equal;
 ghost use mathlib.Core.Path.{_≡_};
-ghost use Prim.Native.Nat.{_+_, _-_, _≤_, _<_};
-ghost use lib.ListN.{length};
-ghost use Rattle.blif_text.specs.Places.{tokenStart, tokenLength, tokenOf};
+ghost use Prim.Native.Nat.{_-_, _<_};
 ghost use Rattle.blif_text.specs.Blocks.{defsAt, Blocks};
 ghost use Rattle.blif_model.specs.Read.{coverFaults};
-ghost use Rattle.blif_covers.specs.Pass.{isColumn, outputOf, withOutput, differ, fits, columnsOf, linesOf};
+ghost use Rattle.blif_covers.specs.Pass.{isColumn, outputOf, withOutput, differ, fits, linesIn};
 
 // What a line's last token says of its output.
 enum Output {
@@ -86,23 +85,12 @@ fn differ(met: Outputs) -> bool
 
 // How many cube lines a block has; a latch, told by no name, has none.
 fn line_count(block: Block) -> usize
-    ensures { λ r. ⌜ r ≡ linesOf (block .names) (block .lines) ⌝ }
+    ensures { λ r. ⌜ r ≡ linesIn (block .names) (block .lines) ⌝ }
 {
     if block.names == 0 {
         return 0;
     }
     block.lines
-}
-
-// The columns of a line with this many tokens: none of a line with one, else its first token.
-fn line_columns(text: &[u8], first: u32, tokens: usize) -> &[u8]
-    requires { ⌜ tokenStart first + tokenLength first ≤ length (now text) ⌝ }
-    ensures { λ r. ⌜ now r ≡ columnsOf (now (text .entry)) first tokens ⌝ }
-{
-    if tokens < 2 {
-        return &text[0..0];
-    }
-    token(text, first)
 }
 
 // Whether a line of a cover of this many names has one or two tokens, a column for each name but the last, and an output.
@@ -140,7 +128,7 @@ pub fn check_covers(text: &[u8], tokens: &[u32], n: usize, blocks: &[u32], g: us
         let mut k: usize = 0;
         while k < lines {
             let end = row_end(tokens, at, n);
-            let columns = line_columns(text, tokens[at], end - at);
+            let columns = line_columns(text, tokens, at, end);
             let output = output_of(token(text, tokens[end - 1]));
             if !line_fits(end - at, columns.len(), names, output) {
                 break 'pass 12;

@@ -1,31 +1,32 @@
 -- The cover lines of forms: rows out of the fixed tables, one column throughout, and the masks of one parity. Assumes nothing.
 use mathlib.Core.Path.{_≡_, refl, sym, _∙_, ap, ap₂, subst}
-use mathlib.Core.Bool.{Bool, true, false, not, cond}
+use mathlib.Core.Bool.{Bool, true, false, not, _&&_, cond}
 use mathlib.Core.List.{List, [], _∷_, _++_, map, flatMap, append-assoc, append-nil}
-use Prim.Native.Nat.{ℕ, zero, suc, _+_, _*_, _^_, _/_, _%_, _≤_, _<_}
+use Prim.Native.Nat.{ℕ, zero, suc, _+_, _-_, _*_, _^_, _/_, _%_, _≤_, _<_}
 use native.Mathlib.Nat.{pow-succ'}
 use native.Mathlib.Numerals.{add-one}
 use native.Mathlib.Omega.{arith}
-use lib.Dec.{eqb}
+use lib.Dec.{eqb, ltb}
 use lib.Count.{ones, ones-step}
 use lib.ListN.{length, getD, drop, replicate, List·getD-map}
 use lib.Seq.{drop-cons, drop-length}
+use borrow.Author.Needs.{needs}
+use borrow.Author.Tests.{ltb-false}
 use Rattle.lists.specs.Lists.{Bytes, all, range}
 use Rattle.lists.proofs.Tests.{by-order}
 use Rattle.gates.specs.Gate.{odd, AndN, OrN, NandN, NorN, XorN, XnorN}
-use Rattle.gates.specs.Forms.{binaryForm, ternaryForm, naryForm}
+use Rattle.gates.specs.Forms.{formNumber, binaryForm, ternaryForm, naryForm}
 use Rattle.gates.specs.declared.BinaryType.{BinaryType}
 use Rattle.gates.specs.declared.BinaryType.the-variants as B
 use Rattle.gates.specs.declared.TernaryType.{TernaryType}
 use Rattle.gates.specs.declared.TernaryType.the-variants as T
 use Rattle.gates.specs.declared.NaryType.{NaryType}
 use Rattle.blif_model.specs.Blif.{Col, C0, C1, Line}
-use Rattle.blif_model.specs.Write as write
-use Rattle.blif_model.specs.Write.{doubled, masks, colOf, minterms, even, linesOf}
+use Rattle.blif_model.specs.Write.{coverRow, doubled, masks, colOf, minterms, even, linesOf, exclusive, maxExclusive}
 use Rattle.blif_model.specs.Render.{colByte, outByte, spaced, line}
 use Rattle.blif_names.specs.Text.{Appended}
-use Rattle.blif_cubes.specs.Lines.{cubeText, linesText, outputText, maskBits, columnsOf, cubeOf, sameCube, mintermAt, mintermsFrom, maskLines, Narrow}
-use Rattle.blif_names.proofs.Laws.{Going, going-start, going-append, going-done}
+use Rattle.blif_cubes.specs.Lines.{cubeText, linesText, outputText, maskBits, maskColumns, cubeOf, sameCube, mintermAt, mintermsFrom, maskLines, Narrow}
+use Rattle.blif_names.proofs.Laws.{append-past, Going, going-start, going-kept, going-append, going-done}
 
 -- a cube line is its columns and its output
 pub cube-text : (l : Line) → cubeText l ≡ map colByte (l .cols) ++ outputText (l .out)
@@ -46,36 +47,51 @@ ternary-ones T.Maj = refl
 ternary-ones T.Mux = refl
 
 abbrev blank : Line
-blank = write.line true []
+blank = coverRow true []
 
 one-at : (ls : List Line) (i : ℕ) → all (λ (l : Line). l .out) ls ≡ true → getD ls i blank .out ≡ true
 one-at [] i e = refl
 one-at (l ∷ ls) zero e = Rattle.lists.proofs.Tests.and-left (l .out) (all (λ (k : Line). k .out) ls) e
 one-at (l ∷ ls) (suc i) e = one-at ls i (Rattle.lists.proofs.Tests.and-right (l .out) (all (λ (k : Line). k .out) ls) e)
 
--- the first i lines are written
+-- the first i of lines with output 1 are written
 pub record Rows (ls : List Line) (o : Bytes) (a : ℕ) (p : Bytes) (at i : ℕ) : Type 0 where
+  pub ones : all (λ (l : Line). l .out) ls ≡ true
   pub within : i ≤ length ls
   pub going : Going (linesText ls) (linesText (drop i ls)) o a p at
 
-pub rows-start : {ls : List Line} {o : Bytes} {a : ℕ} → a ≤ length o → Rows ls o a o a 0
-rows-start h = record { within = omega arith; going = going-start refl h }
+pub rows-start : {ls : List Line} {o : Bytes} {a : ℕ} → all (λ (l : Line). l .out) ls ≡ true → a ≤ length o → Rows ls o a o a 0
+rows-start t h = record { ones = t; within = omega arith; going = going-start refl h }
 
-module _ {ls : List Line} {o p : Bytes} {a at i : ℕ} (c : Rows ls o a p at i) where
-  pub rows-next : {row q : Bytes} {r : ℕ} → all (λ (l : Line). l .out) ls ≡ true → i < length ls
-      → row ≡ getD (map (λ (l : Line). map colByte (l .cols)) ls) i [] → Appended (row ++ outputText true) p at q r → Rows ls o a q r (i + 1)
-  rows-next {row} t h e v =
+pub rows-kept : {ls : List Line} {o p : Bytes} {a at i : ℕ} → Rows ls o a p at i → length p ≡ length o
+rows-kept c = going-kept (c .going)
+
+-- the code knows the lines by their number
+module _ {i count lines : ℕ} (n : count ≡ lines) (h : i < count) where
+  pub row-there : i < lines
+  row-there = omega arith
+
+  pub rows-less : lines - (i + 1) < lines - i
+  rows-less = omega arith
+
+module _ {ls : List Line} {o p : Bytes} {a at i count : ℕ} (c : Rows ls o a p at i) (n : count ≡ length ls) where
+  pub rows-next : {row q : Bytes} {r : ℕ} → i < count → row ≡ getD (map (λ (l : Line). map colByte (l .cols)) ls) i []
+      → Appended (row ++ outputText true) p at q r → Rows ls o a q r (i + 1)
+  rows-next {row} h e v =
       let l : Line = getD ls i blank in
       let f : row ≡ map colByte (l .cols) = e ∙ List·getD-map (λ (k : Line). map colByte (k .cols)) ls i blank in
-      let g : cubeText l ≡ row ++ outputText true = cube-text l ∙ ap₂ (λ (x : Bytes) (b : Bool). x ++ outputText b) (sym f) (one-at ls i t) in
+      let g : cubeText l ≡ row ++ outputText true = cube-text l ∙ ap₂ (λ (x : Bytes) (b : Bool). x ++ outputText b) (sym f) (one-at ls i (c .ones)) in
       let s : linesText (drop i ls) ≡ (row ++ outputText true) ++ linesText (drop (i + 1) ls) =
-      ap linesText (drop-cons ls i blank h ∙ ap (λ (k : ℕ). l ∷ drop k ls) (sym (add-one i))) ∙ ap (λ (x : Bytes). x ++ linesText (drop (i + 1) ls)) g in
-      record { within = omega arith; going = going-append (c .going) s v }
+      ap linesText (drop-cons ls i blank (row-there n h) ∙ ap (λ (k : ℕ). l ∷ drop k ls) (sym (add-one i)))
+      ∙ ap (λ (x : Bytes). x ++ linesText (drop (i + 1) ls)) g in
+      record { ones = c .ones; within = omega arith; going = going-append (c .going) s v }
 
-  pub rows-done : length ls ≤ i → Appended (linesText ls) o a p at
+  pub rows-done : count ≤ i → Appended (linesText ls) o a p at
   rows-done h =
       let e : i ≡ length ls = omega (arith, c .within) in
       going-done (c .going) (ap linesText (ap (λ (k : ℕ). drop k ls) e ∙ drop-length ls))
+
+pub ruleset rows = (append-past, binary-ones, ternary-ones, rows-start, rows-kept, row-there, rows-less, rows-next, rows-done, needs)
 
 -- ---- one column throughout
 
@@ -83,10 +99,10 @@ map-same : (n : ℕ) (x : Col) → map colByte (replicate n x) ≡ replicate n (
 map-same zero x = refl
 map-same (suc n) x = ap (λ (l : Bytes). colByte x ∷ l) (map-same n x)
 
-same-line : (n : ℕ) (x : Col) (v : Bool) → sameCube n (colByte x) v ≡ linesText (write.line v (replicate n x) ∷ [])
+same-line : (n : ℕ) (x : Col) (v : Bool) → sameCube n (colByte x) v ≡ linesText (coverRow v (replicate n x) ∷ [])
 unfolding sameCube
 same-line n x v =
-    ap (λ (l : Bytes). l ++ outputText v) (sym (map-same n x)) ∙ sym (cube-text (write.line v (replicate n x))) ∙ sym (append-nil (cubeText (write.line v (replicate n x))))
+    ap (λ (l : Bytes). l ++ outputText v) (sym (map-same n x)) ∙ sym (cube-text (coverRow v (replicate n x))) ∙ sym (append-nil (cubeText (coverRow v (replicate n x))))
 
 module _ (n : ℕ) where
   pub and-line : sameCube n 49 true ≡ linesText (linesOf AndN n)
@@ -156,13 +172,13 @@ even-test k =
 even-bits : (n m : ℕ) → m < 2 ^ n → even (maskBits n m) ≡ eqb (ones m % 2) 0
 even-bits n m h = ap not (odd-bits n m h) ∙ even-test (ones m)
 
-cube-of : (n m : ℕ) → cubeOf n m true ≡ cubeText (write.line true (map colOf (maskBits n m)))
-unfolding cubeOf columnsOf
-cube-of n m = sym (cube-text (write.line true (map colOf (maskBits n m))))
+cube-of : (n m : ℕ) → cubeOf n m true ≡ cubeText (coverRow true (map colOf (maskBits n m)))
+unfolding cubeOf maskColumns
+cube-of n m = sym (cube-text (coverRow true (map colOf (maskBits n m))))
 
 module _ (parity n : ℕ) (f : List Bool → Bool) (is : (m : ℕ) → m < 2 ^ n → f (maskBits n m) ≡ eqb (ones m % 2) parity) where
   one-minterm : (b : Bool) (m : ℕ) (ls : List Line)
-      → cond b (cubeOf n m true) [] ++ linesText ls ≡ linesText (cond b (write.line true (map colOf (maskBits n m)) ∷ ls) ls)
+      → cond b (cubeOf n m true) [] ++ linesText ls ≡ linesText (cond b (coverRow true (map colOf (maskBits n m)) ∷ ls) ls)
   one-minterm true m ls = ap (λ (l : Bytes). l ++ linesText ls) (cube-of n m)
   one-minterm false m ls = refl
 
@@ -188,8 +204,8 @@ xnor-lines n = mask-lines 0 n even (even-bits n)
 pub lines-at : {t u : NaryType} {s : Bytes} (n : ℕ) → t ≡ u → s ≡ linesText (linesOf (naryForm u) n) → s ≡ linesText (linesOf (naryForm t) n)
 lines-at n e h = h ∙ ap (λ (x : NaryType). linesText (linesOf (naryForm x) n)) (sym e)
 
-pub narrow-at : {t u : NaryType} (n : ℕ) → t ≡ u → Narrow t n → Narrow u n
-narrow-at n e h = subst (λ (x : NaryType). Narrow x n) e h
+pub within-narrow : {t u : NaryType} (n : ℕ) → t ≡ u → exclusive (formNumber (naryForm u)) ≡ true → Narrow t n → n ≤ maxExclusive
+within-narrow n e x h = ltb-false maxExclusive n (ap (λ (b : Bool). b && ltb maxExclusive n) (sym x) ∙ subst (λ (v : NaryType). Narrow v n) e h)
 
 pub binary-at : {t u : BinaryType} {i : ℕ} → t ≡ u → i < length (linesOf (binaryForm t) 2) → i < length (linesOf (binaryForm u) 2)
 binary-at e h = rw e at h

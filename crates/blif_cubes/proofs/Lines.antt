@@ -17,7 +17,7 @@ use Rattle.lists.proofs.Tests.{by-order}
 use Rattle.blif_model.specs.Write.{colOf}
 use Rattle.blif_model.specs.Render.{colByte}
 use Rattle.blif_names.specs.Text.{Wrote}
-use Rattle.blif_cubes.specs.Lines.{maskBits, columnsOf, cubeOf, mintermAt, mintermsFrom, maskLines}
+use Rattle.blif_cubes.specs.Lines.{maskBits, maskColumns, cubeOf, mintermAt, mintermsFrom, maskLines}
 use Rattle.blif_names.proofs.Laws.{Copied, copy-start, copy-next, copy-full, copy-all, Going, going-start, going-part, going-full, going-done, from-start}
 
 -- ---- columns of a mask
@@ -26,8 +26,8 @@ bits-length : (n m : ℕ) → length (maskBits n m) ≡ n
 bits-length zero m = refl
 bits-length (suc n) m = ap suc (bits-length n (m / 2))
 
-pub columns-length : (n m : ℕ) → length (columnsOf n m) ≡ n
-unfolding columnsOf
+pub columns-length : (n m : ℕ) → length (maskColumns n m) ≡ n
+unfolding maskColumns
 columns-length n m = length-map (map colOf (maskBits n m)) colByte ∙ length-map (maskBits n m) colOf ∙ bits-length n m
 
 -- a bit's column
@@ -37,34 +37,34 @@ bit-byte m =
     (λ h. let e : m % 2 ≡ 1 = omega arith in rw e)
     (λ h. let e : m % 2 ≡ 0 = omega arith in rw e)
 
-columns-cons : (n m : ℕ) → columnsOf (suc n) m ≡ (48 + m % 2) ∷ columnsOf n (m / 2)
-unfolding columnsOf
+columns-cons : (n m : ℕ) → maskColumns (suc n) m ≡ (48 + m % 2) ∷ maskColumns n (m / 2)
+unfolding maskColumns
 columns-cons n m = ap (λ (x : ℕ). x ∷ map colByte (map colOf (maskBits n (m / 2)))) (sym (bit-byte m))
 
 -- the first i columns are written, and `left` holds the bits of the others
 pub record Columns (n m : ℕ) (o p : Bytes) (left i : ℕ) : Type 0 where
-  pub copied : Copied (columnsOf n m) o p i
+  pub copied : Copied (maskColumns n m) o p i
   pub within : i ≤ n
-  pub bits : drop i (columnsOf n m) ≡ columnsOf (n - i) left
+  pub bits : drop i (maskColumns n m) ≡ maskColumns (n - i) left
 
 pub columns-start : {n m : ℕ} {o : Bytes} → Columns n m o o m 0
-columns-start {n} {m} = record { copied = copy-start; within = omega arith; bits = ap (λ (k : ℕ). columnsOf k m) (sym (sub-zero n)) }
+columns-start {n} {m} = record { copied = copy-start; within = omega arith; bits = ap (λ (k : ℕ). maskColumns k m) (sym (sub-zero n)) }
 
 module _ {n m : ℕ} {o p : Bytes} {left i : ℕ} (c : Columns n m o p left i) where
   pub columns-next : i < n → i < length p → Columns n m o (set p i (48 + left % 2)) (left / 2) (i + 1)
   columns-next h k =
-      let l : i < length (columnsOf n m) = omega (arith, columns-length n m) in
+      let l : i < length (maskColumns n m) = omega (arith, columns-length n m) in
       let e : n - i ≡ suc (n - (i + 1)) = omega arith in
-      let q : getD (columnsOf n m) i 0 ∷ drop (suc i) (columnsOf n m) ≡ (48 + left % 2) ∷ columnsOf (n - (i + 1)) (left / 2) =
-      sym (drop-cons (columnsOf n m) i 0 l) ∙ c .bits ∙ ap (λ (j : ℕ). columnsOf j left) e ∙ columns-cons (n - (i + 1)) left in
-      let v : 48 + left % 2 ≡ getD (columnsOf n m) i 0 = cc in
-      let r : drop (suc i) (columnsOf n m) ≡ columnsOf (n - (i + 1)) (left / 2) = cc in
-      record { copied = copy-next v l k (c .copied); within = omega arith; bits = ap (λ (j : ℕ). drop j (columnsOf n m)) (add-one i) ∙ r }
+      let q : getD (maskColumns n m) i 0 ∷ drop (suc i) (maskColumns n m) ≡ (48 + left % 2) ∷ maskColumns (n - (i + 1)) (left / 2) =
+      sym (drop-cons (maskColumns n m) i 0 l) ∙ c .bits ∙ ap (λ (j : ℕ). maskColumns j left) e ∙ columns-cons (n - (i + 1)) left in
+      let v : 48 + left % 2 ≡ getD (maskColumns n m) i 0 = cc in
+      let r : drop (suc i) (maskColumns n m) ≡ maskColumns (n - (i + 1)) (left / 2) = cc in
+      record { copied = copy-next v l k (c .copied); within = omega arith; bits = ap (λ (j : ℕ). drop j (maskColumns n m)) (add-one i) ∙ r }
 
-  pub columns-full : i < n → length p ≤ i → Wrote (columnsOf n m) o p (i + 1)
+  pub columns-full : i < n → length p ≤ i → Wrote (maskColumns n m) o p (i + 1)
   columns-full h k = copy-full (omega (arith, columns-length n m)) k (c .copied)
 
-  pub columns-done : n ≤ i → Wrote (columnsOf n m) o p i
+  pub columns-done : n ≤ i → Wrote (maskColumns n m) o p i
   columns-done h = copy-all (omega (arith, columns-length n m)) (c .copied)
 
 -- ---- one column throughout

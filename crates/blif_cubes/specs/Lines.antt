@@ -1,16 +1,17 @@
 -- The texts of cube lines (document 01, src/io/blif.rs). Assumes nothing: these are definitions.
-use mathlib.Core.Bool.{Bool, true, cond}
+use mathlib.Core.Path.{_≡_}
+use mathlib.Core.Bool.{Bool, true, false, cond}
 use mathlib.Core.List.{List, [], _∷_, _++_, map}
-use Prim.Native.Nat.{ℕ, zero, suc, _^_, _/_, _%_, _≤_}
+use Prim.Native.Nat.{ℕ, zero, suc, _^_, _/_, _%_}
 use lib.Dec.{eqb}
 use lib.ListN.{replicate}
 use lib.Count.{ones}
 use Rattle.lists.specs.Lists.{Bytes}
 use Rattle.gates.specs.Gate.{Form}
 use Rattle.gates.specs.declared.NaryType.{NaryType}
-use Rattle.gates.specs.declared.NaryType.the-variants as N
+use Rattle.gates.specs.Forms.{formNumber, naryForm}
 use Rattle.blif_model.specs.Blif.{Line}
-use Rattle.blif_model.specs.Write.{colOf, linesOf}
+use Rattle.blif_model.specs.Write.{colOf, linesOf, tooWide}
 use Rattle.blif_model.specs.Render.{colByte, outByte, cubeLine, line}
 
 -- a cube line with its end
@@ -32,12 +33,12 @@ maskBits zero m = []
 maskBits (suc n) m = eqb (m % 2) 1 ∷ maskBits n (m / 2)
 
 -- the columns of a mask
-unfoldable pub columnsOf : ℕ → ℕ → Bytes
-columnsOf n m = map colByte (map colOf (maskBits n m))
+unfoldable pub maskColumns : ℕ → ℕ → Bytes
+maskColumns n m = map colByte (map colOf (maskBits n m))
 
 -- the cube line of a mask: what `write_blif_cube` writes
 unfoldable pub cubeOf : ℕ → ℕ → Bool → Bytes
-cubeOf n m v = columnsOf n m ++ outputText v
+cubeOf n m v = maskColumns n m ++ outputText v
 
 -- a cube line of the same column throughout
 unfoldable pub sameCube : ℕ → ℕ → Bool → Bytes
@@ -62,9 +63,4 @@ rowsOf f n = map (λ (l : Line). map colByte (l .cols)) (linesOf f n)
 
 -- the inputs that a gate of this type may have to be written: "21 when an Xor or Xnor of the Nary form has over 12 inputs"
 abbrev pub Narrow : NaryType → ℕ → Type 0
-Narrow N.And n = Unit {0}
-Narrow N.Or n = Unit {0}
-Narrow N.Nand n = Unit {0}
-Narrow N.Nor n = Unit {0}
-Narrow N.Xor n = n ≤ 12
-Narrow N.Xnor n = n ≤ 12
+Narrow t n = tooWide (formNumber (naryForm t)) n ≡ false

@@ -11,7 +11,7 @@ ghost use lib.ListN.{length, getD, replicate};
 ghost use Rattle.gates.specs.Forms.{binaryForm, ternaryForm, naryForm};
 ghost use Rattle.blif_model.specs.Write.{linesOf};
 ghost use Rattle.blif_names.specs.Text.{Wrote, Appended};
-ghost use Rattle.blif_cubes.specs.Lines.{outputText, columnsOf, cubeOf, sameCube, mintermAt, maskLines, linesText, rowsOf, Narrow};
+ghost use Rattle.blif_cubes.specs.Lines.{outputText, maskColumns, cubeOf, sameCube, mintermAt, maskLines, linesText, rowsOf, Narrow};
 
 // Writes a blank, the output and the line's end.
 fn append_output(out: &mut [u8], at: usize, val: bool) -> usize
@@ -25,7 +25,7 @@ fn append_output(out: &mut [u8], at: usize, val: bool) -> usize
 
 // Writes a column for each of the mask's bits, the lowest first.
 fn put_columns(out: &mut [u8], mask: u32, num_vars: usize) -> usize
-    ensures { λ r. ⌜ Wrote (columnsOf «num_vars» mask) (now (out .entry)) (now (out .exit)) r ⌝ }
+    ensures { λ r. ⌜ Wrote (maskColumns «num_vars» mask) (now (out .entry)) (now (out .exit)) r ⌝ }
 {
     let mut left = mask;
     let mut i = 0;

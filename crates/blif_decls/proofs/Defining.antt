@@ -12,16 +12,18 @@ use Rattle.blif_text.specs.Places.{tokenOf}
 use Rattle.blif_text.specs.Walk.{rowsFrom, stmtsFrom, Inside, StmtsAt}
 use Rattle.blif_text.specs.declared.Run.{Run}
 use Rattle.blif_text.specs.declared.Statement.the-variants as place
+use Rattle.blif_text.proofs.RowWalk.{inside-less}
 use Rattle.blif_text.proofs.RefusalLaws.{stmts-end}
 use Rattle.name_index.specs.Search.{Entry}
 use Rattle.name_index.specs.Index.{entriesOf, Index}
 use Rattle.blif_model.specs.Read.{when, naming}
 use Rattle.blif_sizes.specs.Rows.{names, RowIs, LinesAt}
 use Rattle.blif_decls.specs.Entries.{inputEntries}
-use Rattle.blif_decls.specs.Naming.{namesIn, InputsEntered, Tabled, Going, Steps}
+use Rattle.blif_decls.specs.Naming.{namesIn, InputsEntered, TablesTo, Going, Steps}
 use Rattle.blif_decls.specs.declared.Walk.{Walk}
 use Rattle.blif_sizes.proofs.RowStarts.{names-length, stmts-behind}
-use Rattle.blif_sizes.proofs.Counting.{sizes-within, no-decls}
+use Rattle.blif_model.proofs.SizeLimits.{sizes-within}
+use Rattle.blif_sizes.proofs.Counting.{no-decls}
 use Rattle.blif_decls.proofs.Tabling.{inside-more, tabled-model, tabled-end, tabled-inputs, tabled-outputs, outputs-few}
 use Rattle.blif_decls.proofs.Refusing.{chain-stop, chain-go, naming-model, naming-end, naming-inputs, naming-outputs}
 
@@ -83,7 +85,7 @@ module _ {text tokens : List ℕ} {n : ℕ} {index out blocks : List ℕ} {v : W
   -- the walk at another place, with these tables
   pub on : {index′ out′ blocks′ : List ℕ} (w : Walk) → w .refused ≡ 0 → StmtsAt text tokens n (w .at) → length out′ ≡ length out → length blocks′ ≡ length blocks
       → naming false [] (decls (stmtsFrom text tokens n 0)) ≡ naming (w .seen) (namesIn text index′ (w .inputs + w .gates)) (decls (stmtsFrom text tokens n (w .at)))
-      → Tabled (decls (stmtsFrom text tokens n 0)) (decls (stmtsFrom text tokens n (w .at))) text tokens n index′ out′ blocks′ (w .inputs) (w .gates) (w .outputs)
+      → TablesTo (decls (stmtsFrom text tokens n 0)) (decls (stmtsFrom text tokens n (w .at))) text tokens n index′ out′ blocks′ (w .inputs) (w .gates) (w .outputs)
       → Going text tokens n index′ out′ blocks′ w
   on w z r p q e t =
       record {
@@ -99,8 +101,8 @@ module _ {text tokens : List ℕ} {n : ℕ} {index out blocks : List ℕ} {v : W
 
   -- the tables of the declarations that are left
   pub tabled-as : {l : List Decl} → decls (stmtsFrom text tokens n (v .at)) ≡ l
-      → Tabled (decls (stmtsFrom text tokens n 0)) l text tokens n index out blocks (v .inputs) (v .gates) (v .outputs)
-  tabled-as e = subst (λ (l : List Decl). Tabled (decls (stmtsFrom text tokens n 0)) l text tokens n index out blocks (v .inputs) (v .gates) (v .outputs)) e (c .tabled)
+      → TablesTo (decls (stmtsFrom text tokens n 0)) l text tokens n index out blocks (v .inputs) (v .gates) (v .outputs)
+  tabled-as e = subst (λ (l : List Decl). TablesTo (decls (stmtsFrom text tokens n 0)) l text tokens n index out blocks (v .inputs) (v .gates) (v .outputs)) e (c .tabled)
 
   -- the refusal of the declarations that are left
   pub left-as : {l : List Decl} → decls (stmtsFrom text tokens n (v .at)) ≡ l
@@ -186,9 +188,9 @@ module _ {text tokens : List ℕ} {n : ℕ} {index out blocks : List ℕ} {v : W
         let t = tabled-as (outputs-decls w) in
         let s = sizes-within (decls (stmtsFrom text tokens n 0)) (c .small) in
         let few : v .outputs + (r - (v .at + 1)) ≤ length out′ =
-        omega (arith, outputs-few t, names-length w, s .1, c .outputs-room, p) in
+        omega (arith, outputs-few t, names-length w, s .outputs, c .outputs-room, p) in
         let inside : Inside text out′ (v .outputs + (r - (v .at + 1))) =
-        inside-more (record { room = h; inside = λ j a. w .rest .rows .places .inside j (omega (arith, w .rest .rows .high)) }) (omega (arith, w .low)) (t .outputs-in) e few in
+        inside-more (inside-less (w .rest .rows .high) (w .rest .rows .places)) (omega (arith, w .low)) (t .outputs-in) e few in
         record {
           low = w .low;
           refused = λ f. absurd (f (c .fine));

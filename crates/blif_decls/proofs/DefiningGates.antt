@@ -20,7 +20,7 @@ use Rattle.blif_sizes.specs.Rows.{names, RowIs}
 use Rattle.blif_decls.specs.Naming.{namesIn, GateDefined, gateWalk, LatchStep, CoverStep, Going, Steps}
 use Rattle.blif_decls.specs.declared.Walk.{Walk}
 use Rattle.blif_sizes.proofs.RowStarts.{names-length}
-use Rattle.blif_sizes.proofs.Counting.{sizes-within}
+use Rattle.blif_model.proofs.SizeLimits.{sizes-within}
 use Rattle.blif_decls.proofs.Tabling.{blocks-more, defs-more, tabled-gate, gate-few}
 use Rattle.blif_decls.proofs.Refusing.{chain-stop, chain-go, naming-latch, naming-empty, naming-cover}
 use Rattle.blif_decls.proofs.Defining.{names-more, latch-decls, cover-decls, on, tabled-as, left-as}
@@ -76,7 +76,7 @@ module _ {text tokens : List ℕ} {n : ℕ} {index out blocks : List ℕ} {v : W
   go-gate {d} {x} {a} {k} {l} {at} {b} {index′} {blocks′} h r e q y f i s p =
       let t = tabled-as c e in
       let few = sizes-within (decls (stmtsFrom text tokens n 0)) (c .small) in
-      let room : v .gates * 3 + 2 < length blocks = omega (arith, gate-few t, defs-few (defs (decls (stmtsFrom text tokens n 0))), few .2, c .blocks-room) in
+      let room : v .gates * 3 + 2 < length blocks = omega (arith, gate-few t, defs-few (defs (decls (stmtsFrom text tokens n 0))), few .gates, c .blocks-room) in
       record {
         low = h;
         refused = λ g. chain-stop _ refl g (left-as c e ∙ q);

@@ -1,5 +1,5 @@
 -- The tables of declarations, one declaration after the other. Assumes nothing.
-use mathlib.Core.Path.{_≡_, sym, ap, ap₂, _∙_, subst}
+use mathlib.Core.Path.{_≡_, refl, sym, ap, ap₂, _∙_, subst}
 use mathlib.Core.List.{List, [], _∷_, _++_, map-append, flatMap, append-assoc}
 use Prim.Native.Nat.{ℕ, _+_, _-_, _*_, _≤_, _<_}
 use native.Mathlib.Omega.{arith}
@@ -12,14 +12,14 @@ use Rattle.lists.proofs.OverAt.{over-three, length-overAt}
 use Rattle.signal.specs.Signal.{Gated, plain}
 use Rattle.signal.specs.Cell.{sigCell}
 use Rattle.blif_text.specs.Decls.{Def, Decl, model, end, inputs, outputs, gate, insOf, outsOf, defsOf, ins, outs, defs, defines}
-use Rattle.blif_text.specs.Places.{tokenStart, tokenLength, tokenOf, tokensOf}
+use Rattle.blif_text.specs.Places.{InText, tokenOf, tokensOf}
 use Rattle.blif_text.specs.Walk.{Inside}
 use Rattle.blif_text.specs.Blocks.{blockWidth, firstName, nameCount, lineCount, defFrom, defAt, defsAt, BlockIn, Blocks}
 use Rattle.name_index.specs.Search.{Entry, entry}
 use Rattle.name_index.specs.Index.{entriesOf, Index}
 use Rattle.name_index.proofs.EntryLaws.{map-range-last, map-range-same}
 use Rattle.blif_decls.specs.Entries.{inputEntries, entries}
-use Rattle.blif_decls.specs.Naming.{Tabled}
+use Rattle.blif_decls.specs.Naming.{TablesTo}
 
 -- ---- a record behind the others
 
@@ -119,48 +119,42 @@ inside-more {text} {tokens} {out} {out′} {first} {end} {o} p h w e k =
           let u : getD out′ j 0 ≡ getD tokens (first + (j - o)) 0 =
           q ∙ ap (λ (i : ℕ). getD (take o out ++ slice first end tokens) i 0) s ∙ getD-append-add (take o out) (slice first end tokens) (j - o) 0
           ∙ getD-drop first (take end tokens) (j - o) 0 ∙ getD-take end tokens (first + (j - o)) 0 (omega arith) in
-          subst (λ (x : ℕ). tokenStart x + tokenLength x ≤ length text) (sym u) (p .inside (first + (j - o)) (omega arith)))
+          subst (InText text) (sym u) (p .inside (first + (j - o)) (omega arith)))
           (λ b.
           let u : getD out′ j 0 ≡ getD out j 0 = q ∙ List·getD-append (take o out) (slice first end tokens) 0 j (omega arith) ∙ getD-take o out j 0 b in
-          subst (λ (x : ℕ). tokenStart x + tokenLength x ≤ length text) (sym u) (w .inside j b));
+          subst (InText text) (sym u) (w .inside j b));
     }
 
 -- ---- one declaration more
 
 module _ {ds l : List Decl} {text tokens : List ℕ} {n : ℕ} {index out blocks : List ℕ} {i g o : ℕ} where
-  pub tabled-model : Tabled ds (model ∷ l) text tokens n index out blocks i g o → Tabled ds l text tokens n index out blocks i g o
-  unfolding ins outs defs flatMap insOf outsOf defsOf
-  tabled-model t =
+  -- what is left declares the same
+  tabled-on : {k : List Decl} → ins k ≡ ins l → outs k ≡ outs l → defs k ≡ defs l → entries i g k ≡ entries i g l
+      → TablesTo ds k text tokens n index out blocks i g o → TablesTo ds l text tokens n index out blocks i g o
+  tabled-on a b c e t =
       record {
-        inputs = t .inputs;
-        gates = t .gates;
-        outputs = t .outputs;
+        inputs = t .inputs ∙ ap (λ (x : List Bytes). i + length x) a;
+        gates = t .gates ∙ ap (λ (x : List Def). g + length x) c;
+        outputs = t .outputs ∙ ap (λ (x : List Bytes). o + length x) b;
         index-is = t .index-is;
-        entries-are = t .entries-are;
-        outputs-are = t .outputs-are;
+        entries-are = t .entries-are ∙ ap (λ (x : List Entry). entriesOf text index (i + g) ++ x) e;
+        outputs-are = t .outputs-are ∙ ap (λ (x : List Bytes). tokensOf text (take o out) ++ x) b;
         outputs-in = t .outputs-in;
         blocks-in = t .blocks-in;
-        blocks-are = t .blocks-are;
+        blocks-are = t .blocks-are ∙ ap (λ (x : List Def). defsAt text tokens n blocks g ++ x) c;
       }
 
-  pub tabled-end : Tabled ds (end ∷ l) text tokens n index out blocks i g o → Tabled ds l text tokens n index out blocks i g o
+  pub tabled-model : TablesTo ds (model ∷ l) text tokens n index out blocks i g o → TablesTo ds l text tokens n index out blocks i g o
   unfolding ins outs defs flatMap insOf outsOf defsOf
-  tabled-end t =
-      record {
-        inputs = t .inputs;
-        gates = t .gates;
-        outputs = t .outputs;
-        index-is = t .index-is;
-        entries-are = t .entries-are;
-        outputs-are = t .outputs-are;
-        outputs-in = t .outputs-in;
-        blocks-in = t .blocks-in;
-        blocks-are = t .blocks-are;
-      }
+  tabled-model = tabled-on refl refl refl refl
 
-  pub tabled-inputs : {ns : List Bytes} {index′ : List ℕ} {m : ℕ} → Tabled ds (inputs ns ∷ l) text tokens n index out blocks i g o → length ns ≡ m
+  pub tabled-end : TablesTo ds (end ∷ l) text tokens n index out blocks i g o → TablesTo ds l text tokens n index out blocks i g o
+  unfolding ins outs defs flatMap insOf outsOf defsOf
+  tabled-end = tabled-on refl refl refl refl
+
+  pub tabled-inputs : {ns : List Bytes} {index′ : List ℕ} {m : ℕ} → TablesTo ds (inputs ns ∷ l) text tokens n index out blocks i g o → length ns ≡ m
       → Index text index′ (i + m + g) → entriesOf text index′ (i + m + g) ≡ entriesOf text index (i + g) ++ inputEntries i ns
-      → Tabled ds l text tokens n index′ out blocks (i + m) g o
+      → TablesTo ds l text tokens n index′ out blocks (i + m) g o
   unfolding ins outs defs flatMap insOf outsOf defsOf
   tabled-inputs {ns} {index′} {m} t q x a =
       record {
@@ -179,8 +173,8 @@ module _ {ds l : List Decl} {text tokens : List ℕ} {n : ℕ} {index out blocks
         blocks-are = t .blocks-are;
       }
 
-  pub tabled-outputs : (cs : List ℕ) {out′ : List ℕ} {m : ℕ} → Tabled ds (outputs (tokensOf text cs) ∷ l) text tokens n index out blocks i g o → length cs ≡ m
-      → take (o + m) out′ ≡ take o out ++ cs → Inside text out′ (o + m) → Tabled ds l text tokens n index out′ blocks i g (o + m)
+  pub tabled-outputs : (cs : List ℕ) {out′ : List ℕ} {m : ℕ} → TablesTo ds (outputs (tokensOf text cs) ∷ l) text tokens n index out blocks i g o → length cs ≡ m
+      → take (o + m) out′ ≡ take o out ++ cs → Inside text out′ (o + m) → TablesTo ds l text tokens n index out′ blocks i g (o + m)
   unfolding ins outs defs flatMap insOf outsOf defsOf
   tabled-outputs cs {out′} {m} t q e p =
       record {
@@ -198,10 +192,10 @@ module _ {ds l : List Decl} {text tokens : List ℕ} {n : ℕ} {index out blocks
         blocks-are = t .blocks-are;
       }
 
-  pub tabled-gate : {d : Def} {x : Bytes} {index′ blocks′ : List ℕ} → Tabled ds (gate d ∷ l) text tokens n index out blocks i g o → x ≡ defines d
+  pub tabled-gate : {d : Def} {x : Bytes} {index′ blocks′ : List ℕ} → TablesTo ds (gate d ∷ l) text tokens n index out blocks i g o → x ≡ defines d
       → Index text index′ (i + (g + 1)) → entriesOf text index′ (i + (g + 1)) ≡ entriesOf text index (i + g) ++ (entry x (sigCell (plain (Gated g))) ∷ [])
       → Blocks text tokens n blocks′ (g + 1) → defsAt text tokens n blocks′ (g + 1) ≡ defsAt text tokens n blocks g ++ (d ∷ [])
-      → Tabled ds l text tokens n index′ out blocks′ i (g + 1) o
+      → TablesTo ds l text tokens n index′ out blocks′ i (g + 1) o
   unfolding ins outs defs flatMap insOf outsOf defsOf
   tabled-gate {d} {x} {index′} {blocks′} t q ix a b e =
       record {
@@ -224,16 +218,16 @@ module _ {ds l : List Decl} {text tokens : List ℕ} {n : ℕ} {index out blocks
       }
 
   -- no more inputs than there are
-  pub inputs-few : {ns : List Bytes} → Tabled ds (inputs ns ∷ l) text tokens n index out blocks i g o → i + length ns ≤ length (ins ds)
+  pub inputs-few : {ns : List Bytes} → TablesTo ds (inputs ns ∷ l) text tokens n index out blocks i g o → i + length ns ≤ length (ins ds)
   unfolding ins flatMap insOf
   inputs-few {ns} t = omega (arith, t .inputs, length-append ns (flatMap insOf l))
 
   -- no more outputs
-  pub outputs-few : {ns : List Bytes} → Tabled ds (outputs ns ∷ l) text tokens n index out blocks i g o → o + length ns ≤ length (outs ds)
+  pub outputs-few : {ns : List Bytes} → TablesTo ds (outputs ns ∷ l) text tokens n index out blocks i g o → o + length ns ≤ length (outs ds)
   unfolding outs flatMap outsOf
   outputs-few {ns} t = omega (arith, t .outputs, length-append ns (flatMap outsOf l))
 
   -- no more gates
-  pub gate-few : {d : Def} → Tabled ds (gate d ∷ l) text tokens n index out blocks i g o → g < length (defs ds)
+  pub gate-few : {d : Def} → TablesTo ds (gate d ∷ l) text tokens n index out blocks i g o → g < length (defs ds)
   unfolding defs flatMap defsOf
   gate-few {d} t = omega (arith, t .gates)

@@ -9,29 +9,27 @@ use Rattle.lists.specs.Lists.{Bytes, zeros}
 use Rattle.network.specs.Cells.{maxGates, maxOutputs}
 use Rattle.blif_text.specs.Decls.{Def, cover, Decl, gate, cubes, decls, ins, outs, defs}
 use Rattle.blif_text.specs.Places.{maxTokens, tokensOf}
-use Rattle.blif_text.specs.Walk.{stmtsFrom, Inside, StmtsAt}
+use Rattle.blif_text.specs.Walk.{stmtsFrom, StmtsAt}
 use Rattle.blif_text.specs.Blocks.{blockWidth, defsAt}
 use Rattle.blif_text.specs.declared.Run.{Run}
 use Rattle.blif_text.specs.declared.Statement.the-variants as place
+use Rattle.blif_text.proofs.RowWalk.{inside-less}
 use Rattle.blif_text.proofs.RefusalLaws.{stmts-end}
 use Rattle.name_index.specs.Index.{indexCells, entriesOf, Index}
 use Rattle.name_index.proofs.IndexLaws.{index-empty}
 use Rattle.blif_model.specs.Read.{tooLarge, naming}
 use Rattle.blif_sizes.specs.Rows.{names, RowIs}
-use Rattle.blif_decls.specs.Naming.{namesIn, InputsFit, CoverFits, LatchFits, Tabled, Going}
+use Rattle.blif_decls.specs.Naming.{namesIn, InputsFit, CoverFits, LatchFits, TablesTo, Going}
 use Rattle.blif_decls.specs.Tables.{Tables, DefinedBy}
 use Rattle.blif_decls.specs.declared.Walk.{Walk}
 use Rattle.blif_sizes.proofs.RowStarts.{names-length}
-use Rattle.blif_sizes.proofs.Counting.{sizes-within, no-decls}
+use Rattle.blif_model.proofs.SizeLimits.{sizes-within}
+use Rattle.blif_sizes.proofs.Counting.{no-decls}
 use Rattle.blif_decls.proofs.Tabling.{inputs-few, outputs-few, gate-few}
 use Rattle.blif_decls.proofs.Defining.{inputs-decls, outputs-decls, latch-decls, tabled-as}
 use Rattle.blif_decls.proofs.DefiningGates.{defs-few}
 
 -- ---- what each statement asks for
-
--- fewer places
-places-to : {text tokens : List ℕ} {n : ℕ} (k : ℕ) → Inside text tokens n → k ≤ n → Inside text tokens k
-places-to k p h = record { room = omega (arith, p .room); inside = λ j l. p .inside j (omega arith) }
 
 -- a cover declares a gate
 names-decls : {text tokens : List ℕ} {n at r : ℕ} {run : Run} → RowIs text tokens n at r (place.Names run)
@@ -44,13 +42,13 @@ module _ {text tokens : List ℕ} {n : ℕ} {index out blocks : List ℕ} {v : W
   few-names : (v .inputs ≤ 256) × (v .gates ≤ 1024)
   few-names =
       let s = sizes-within (decls (stmtsFrom text tokens n 0)) (c .small) in
-      (omega (arith, c .tabled .inputs, s .0), omega (arith, c .tabled .gates, defs-few (defs (decls (stmtsFrom text tokens n 0))), s .2))
+      (omega (arith, c .tabled .inputs, s .inputs), omega (arith, c .tabled .gates, defs-few (defs (decls (stmtsFrom text tokens n 0))), s .gates))
 
   -- one gate more
   one-more : {d : Def} {l : List Decl} → decls (stmtsFrom text tokens n (v .at)) ≡ gate d ∷ l → v .gates < 1024
   one-more e =
       let s = sizes-within (decls (stmtsFrom text tokens n 0)) (c .small) in
-      omega (arith, gate-few (tabled-as c e), defs-few (defs (decls (stmtsFrom text tokens n 0))), s .2)
+      omega (arith, gate-few (tabled-as c e), defs-few (defs (decls (stmtsFrom text tokens n 0))), s .gates)
 
   module _ {r : ℕ} where
     pub inputs-fit : {run : Run} → RowIs text tokens n (v .at) r (place.Inputs run) → InputsFit text tokens (v .at + 1) r index (v .inputs) (v .gates)
@@ -58,15 +56,15 @@ module _ {text tokens : List ℕ} {n : ℕ} {index out blocks : List ℕ} {v : W
         let s = sizes-within (decls (stmtsFrom text tokens n 0)) (c .small) in
         record {
           index-is = c .tabled .index-is;
-          places = places-to r (w .rest .rows .places) (w .rest .rows .high);
+          places = inside-less (w .rest .rows .high) (w .rest .rows .places);
           low = omega (arith, w .low);
-          inputs = omega (arith, inputs-few (tabled-as c (inputs-decls w)), names-length w, s .0);
+          inputs = omega (arith, inputs-few (tabled-as c (inputs-decls w)), names-length w, s .inputs);
           gates = few-names .1;
         }
 
     -- "256 outputs"
     pub outputs-small : {run : Run} → RowIs text tokens n (v .at) r (place.Outputs run) → v .outputs + (r - v .at - 1) ≤ 256
-    outputs-small w = omega (arith, outputs-few (tabled-as c (outputs-decls w)), names-length w, sizes-within (decls (stmtsFrom text tokens n 0)) (c .small) .1)
+    outputs-small w = omega (arith, outputs-few (tabled-as c (outputs-decls w)), names-length w, sizes-within (decls (stmtsFrom text tokens n 0)) (c .small) .outputs)
 
     pub outputs-fit : {run : Run} → RowIs text tokens n (v .at) r (place.Outputs run)
         → (v .at + 1 ≤ r) × (r ≤ length tokens) × (v .outputs + (r - (v .at + 1)) ≤ length out)
@@ -98,7 +96,7 @@ module _ {text tokens : List ℕ} {n : ℕ} {index out blocks : List ℕ} {v : W
     cover-fit w =
         record {
           index-is = c .tabled .index-is;
-          places = places-to (v .at + 1 + (r - v .at - 1)) (w .rest .rows .places) (omega (arith, w .low, w .rest .rows .high));
+          places = inside-less (omega (arith, w .low, w .rest .rows .high)) (w .rest .rows .places);
           inputs = few-names .0;
           gates = one-more (names-decls w);
           room = c .blocks-room;
@@ -140,20 +138,23 @@ unfolding naming
 naming-none e seen earlier = ap (naming seen earlier) e
 
 -- no declaration is left
-tables-all : {ds : List Decl} {text tokens : List ℕ} {n : ℕ} {index out blocks : List ℕ} {i g o : ℕ} → Tabled ds [] text tokens n index out blocks i g o
+tables-all : {ds : List Decl} {text tokens : List ℕ} {n : ℕ} {index out blocks : List ℕ} {i g o : ℕ} → TablesTo ds [] text tokens n index out blocks i g o
     → Tables ds text tokens n index out blocks i g o
 unfolding ins outs defs flatMap
 tables-all {ds} {text} {tokens} {n} {index} {out} {blocks} {i} {g} {o} t =
     record {
-      inputs = omega (arith, t .inputs);
-      gates = omega (arith, t .gates);
-      outputs = omega (arith, t .outputs);
-      index-is = t .index-is;
-      entries-are = sym (t .entries-are ∙ append-nil (entriesOf text index (i + g)));
+      named =
+          record {
+            inputs = omega (arith, t .inputs);
+            gates = omega (arith, t .gates);
+            outputs = omega (arith, t .outputs);
+            index-is = t .index-is;
+            entries-are = sym (t .entries-are ∙ append-nil (entriesOf text index (i + g)));
+            blocks-in = t .blocks-in;
+            blocks-are = sym (t .blocks-are ∙ append-nil (defsAt text tokens n blocks g));
+          };
       outputs-are = sym (t .outputs-are ∙ append-nil (tokensOf text (take o out)));
       outputs-in = t .outputs-in;
-      blocks-in = t .blocks-in;
-      blocks-are = sym (t .blocks-are ∙ append-nil (defsAt text tokens n blocks g));
     }
 
 -- behind the last statement

@@ -6,7 +6,7 @@ use lib.ListN.{length}
 use Rattle.lists.specs.Lists.{Bytes}
 use Rattle.signal.specs.Signal.{Input, Gated, plain}
 use Rattle.signal.specs.Cell.{sigCell}
-use Rattle.blif_text.specs.Decls.{Def, Decl, model, end, inputs, outputs, gate, defines}
+use Rattle.blif_text.specs.Decls.{Decl, model, end, inputs, outputs, gate, defines}
 use Rattle.name_index.specs.Search.{Entry, entry}
 
 -- inputs' names with input signals from number i on

@@ -9,9 +9,9 @@ use lib.Seq.{slice}
 use Rattle.lists.specs.Lists.{Bytes, known, overAt}
 use Rattle.signal.specs.Signal.{Gated, plain}
 use Rattle.signal.specs.Cell.{sigCell}
-use Rattle.network.specs.Cells.{maxGates, maxOutputs}
+use Rattle.network.specs.Cells.{maxInputs, maxGates, maxOutputs}
 use Rattle.blif_text.specs.Decls.{Decl, decls, ins, outs, defs}
-use Rattle.blif_text.specs.Places.{maxTokens, tokenStart, tokenLength, tokenOf, tokensOf}
+use Rattle.blif_text.specs.Places.{maxTokens, InText, tokenOf, tokensOf}
 use Rattle.blif_text.specs.Walk.{stmtsFrom, Inside, StmtsAt}
 use Rattle.blif_text.specs.Blocks.{blockWidth, defsAt, Blocks}
 use Rattle.blif_text.specs.declared.Block.{Block}
@@ -35,9 +35,9 @@ pub record InputsFit (text tokens : List ℕ) (first end : ℕ) (index : List �
   -- they go upwards
   pub low : first ≤ end
   -- "256 inputs"
-  pub inputs : i + (end - first) ≤ 256
+  pub inputs : i + (end - first) ≤ maxInputs
   -- "1,024 gates"
-  pub gates : g ≤ 1024
+  pub gates : g ≤ maxGates
 
 -- the names from first to end are entered as inputs, or r is 10: one "is defined twice"
 pub record InputsEntered (text tokens : List ℕ) (first end : ℕ) (index : List ℕ) (i g : ℕ) (index′ : List ℕ) (r : ℕ) : Type 0 where
@@ -53,11 +53,11 @@ pub record GateFits (text index : List ℕ) (i g cell : ℕ) (block : Block) (bl
   -- the index so far
   pub index-is : Index text index (i + g)
   -- the name is within the text
-  pub inside : tokenStart cell + tokenLength cell ≤ length text
+  pub inside : InText text cell
   -- "256 inputs"
-  pub inputs : i ≤ 256
+  pub inputs : i ≤ maxInputs
   -- "1,024 gates"
-  pub gates : g < 1024
+  pub gates : g < maxGates
   -- the record is there
   pub room : maxGates * blockWidth ≤ length blocks
   -- its first name
@@ -85,9 +85,9 @@ pub record CoverFits (text tokens index : List ℕ) (i g first names : ℕ) (blo
   -- the tokens are places within the text
   pub places : Inside text tokens (first + names)
   -- "256 inputs"
-  pub inputs : i ≤ 256
+  pub inputs : i ≤ maxInputs
   -- "1,024 gates"
-  pub gates : g < 1024
+  pub gates : g < maxGates
   -- the record is there
   pub room : maxGates * blockWidth ≤ length blocks
   -- its names
@@ -140,7 +140,7 @@ pub record CoverStep (text tokens : List ℕ) (n : ℕ) (index blocks index′ b
   pub cover : CoverDefined text tokens index (w .inputs) (w .gates) (coverBlock (w .at) end count) blocks index′ blocks′ (r .refused)
 
 -- the tables so far: those of the declarations ds before `left`, with i inputs, g gates and o outputs
-pub record Tabled (ds left : List Decl) (text tokens : List ℕ) (n : ℕ) (index outNames blocks : List ℕ) (i g o : ℕ) : Type 0 where
+pub record TablesTo (ds left : List Decl) (text tokens : List ℕ) (n : ℕ) (index outNames blocks : List ℕ) (i g o : ℕ) : Type 0 where
   -- the inputs are counted
   pub inputs : length (ins ds) ≡ i + length (ins left)
   -- the gates are counted
@@ -177,7 +177,7 @@ pub record Going (text tokens : List ℕ) (n : ℕ) (index outNames blocks : Lis
   -- the refusal is that of what is left
   pub left : naming false [] (decls (stmtsFrom text tokens n 0)) ≡ naming (w .seen) (namesIn text index (w .inputs + w .gates)) (decls (stmtsFrom text tokens n (w .at)))
   -- the tables so far
-  pub tabled : Tabled (decls (stmtsFrom text tokens n 0)) (decls (stmtsFrom text tokens n (w .at))) text tokens n index outNames blocks (w .inputs) (w .gates) (w .outputs)
+  pub tabled : TablesTo (decls (stmtsFrom text tokens n 0)) (decls (stmtsFrom text tokens n (w .at))) text tokens n index outNames blocks (w .inputs) (w .gates) (w .outputs)
 
 -- a statement or more is passed: a refusal, or the walk goes on
 pub record Steps (text tokens : List ℕ) (n : ℕ) (index outNames blocks : List ℕ) (v w : Walk) : Type 0 where

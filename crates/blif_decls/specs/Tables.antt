@@ -5,7 +5,6 @@ use mathlib.Core.Bool.{false}
 use mathlib.Core.List.{List, []}
 use Prim.Native.Nat.{ℕ, _+_}
 use lib.ListN.{length, take}
-use Rattle.lists.specs.Lists.{Bytes}
 use Rattle.blif_text.specs.Decls.{Decl, ins, outs, defs}
 use Rattle.blif_text.specs.Places.{tokensOf}
 use Rattle.blif_text.specs.Walk.{Inside}
@@ -15,8 +14,8 @@ use Rattle.blif_model.specs.Read.{naming}
 use Rattle.blif_decls.specs.Entries.{entries}
 use Rattle.blif_decls.specs.declared.Defined.{Defined}
 
--- the tables of declarations, with i inputs, g gates and o outputs
-pub record Tables (ds : List Decl) (text tokens : List ℕ) (n : ℕ) (index outNames blocks : List ℕ) (i g o : ℕ) : Type 0 where
+-- the index and the blocks of declarations, with i inputs, g gates and o outputs
+pub record Named (ds : List Decl) (text tokens : List ℕ) (n : ℕ) (index blocks : List ℕ) (i g o : ℕ) : Type 0 where
   -- the inputs are counted
   pub inputs : i ≡ length (ins ds)
   -- the gates are counted
@@ -27,14 +26,19 @@ pub record Tables (ds : List Decl) (text tokens : List ℕ) (n : ℕ) (index out
   pub index-is : Index text index (i + g)
   -- which are those defined, with their signals
   pub entries-are : entriesOf text index (i + g) ≡ entries 0 0 ds
-  -- the outputs' names stand by their places
-  pub outputs-are : tokensOf text (take o outNames) ≡ outs ds
-  -- each within the text
-  pub outputs-in : Inside text outNames o
   -- the records place blocks
   pub blocks-in : Blocks text tokens n blocks g
   -- which are the latches and covers
   pub blocks-are : defsAt text tokens n blocks g ≡ defs ds
+
+-- the tables of declarations: index, blocks and the outputs' names
+pub record Tables (ds : List Decl) (text tokens : List ℕ) (n : ℕ) (index outNames blocks : List ℕ) (i g o : ℕ) : Type 0 where
+  -- index and blocks
+  pub named : Named ds text tokens n index blocks i g o
+  -- the outputs' names stand by their places
+  pub outputs-are : tokensOf text (take o outNames) ≡ outs ds
+  -- each within the text
+  pub outputs-in : Inside text outNames o
 
 -- a refusal of 7 to 10, or the tables
 pub record DefinedBy (ds : List Decl) (text tokens : List ℕ) (n : ℕ) (index outNames blocks : List ℕ) (r : Defined) : Type 0 where

@@ -8,7 +8,7 @@ use lib.ListN.{length, take}
 use lib.Seq.{slice, length-take-le}
 use Rattle.lists.specs.Lists.{Bytes, all, any}
 use Rattle.network.specs.Cells.{countAt}
-use Rattle.blif_text.specs.Decls.{Def, latch, cover, isOne}
+use Rattle.blif_text.specs.Decls.{Def, cover, isOne}
 use Rattle.blif_text.specs.Places.{maxTokens, tokensOf}
 use Rattle.blif_text.specs.Walk.{rowsFrom}
 use Rattle.blif_text.specs.Blocks.{firstName, nameCount, lineCount, defFrom, defAt, BlockIn, Blocks}

@@ -2,7 +2,6 @@
 use mathlib.Core.Path.{_≡_, refl, sym, ap, ap₂, _∙_, subst}
 use mathlib.Core.Bool.{Bool, true, false, cond}
 use mathlib.Core.List.{List, [], _∷_, map}
-use mathlib.Core.Option.{none}
 use Prim.Native.Nat.{ℕ, zero, suc, _+_, _-_, _*_, _≤_, _<_}
 use native.Mathlib.Omega.{arith}
 use native.Mathlib.Nat.{mul-suc}
@@ -15,21 +14,21 @@ use Rattle.lists.proofs.Tests.{and-left}
 use Rattle.signal.specs.Signal.{Signal, zeroS}
 use Rattle.signal.specs.Cell.{sigCell}
 use Rattle.gates.specs.Gate.{OrN, AndN, Buf, Gate, Comb}
-use Rattle.gates.specs.Forms.{formCell}
+use Rattle.gates.specs.Forms.{formNumber, formCell}
 use Rattle.network.specs.Cells.{gateWidth, maxGates, maxPins, firstAt, countAt}
 use Rattle.blif_text.specs.Decls.{columns, isOne}
 use Rattle.blif_text.specs.Keywords.{RowTo}
 use Rattle.blif_text.specs.Walk.{rowsFrom}
-use Rattle.blif_text.proofs.RowWalk.{row-there, rows-are}
+use Rattle.blif_text.proofs.RowWalk.{inside-less, row-there, rows-are}
 use Rattle.blif_model.specs.Build.{lineGate, gateRun, coverGate, lineGates}
 use Rattle.blif_model.specs.Read.{goodLine, added}
 use Rattle.blif_model.specs.Render.{lineOf}
 use Rattle.blif_model.specs.Working.{GateIn}
-use Rattle.blif_gates.specs.Steps.{joinForm, LineRoom, LinePut, rowTokens, GoodRow, Kept, GoodRows, LinesRoom, LinesPut, CoverRoom, CoverBuilt}
+use Rattle.blif_gates.specs.Steps.{joinForm, LineRoom, LinePut, rowTokens, GoodRow, GatesKept, GoodRows, LinesRoom, LinesPut, CoverRoom, CoverBuilt}
 use Rattle.blif_gates.proofs.CellLaws.{run-front}
 use Rattle.blif_gates.proofs.LiteralLaws.{one-store}
 use Rattle.blif_gates.proofs.JoinLaws.{run-long}
-use Rattle.blif_gates.proofs.RowLaws.{inside-less, row-wide}
+use Rattle.blif_gates.proofs.RowLaws.{row-wide}
 use Rattle.blif_gates.proofs.GateLaws.{three, gate-put, kept-put, kept-then, kept-some, room-wide, line-kept, line-end, line-gate}
 
 -- ---- the first row of a cover's lines
@@ -136,7 +135,7 @@ module _ {text tokens : List ℕ} {n row count j next at : ℕ} {gates pinsIn : 
       abbrev lines : List (List Bytes)
       lines = take count (rowsFrom text tokens n row)
 
-      joins-kept : Kept (λ h. h ≡ j → ⊥) gates pinsIn at gates₁ pins₁ (at + count)
+      joins-kept : GatesKept (λ h. h ≡ j → ⊥) gates pinsIn at gates₁ pins₁ (at + count)
       joins-kept = rw (eg, ep) (kept-put gates pinsIn (joinCells next count) at (at + count) j f at count (omega arith))
 
       -- the gate that joins them
@@ -180,7 +179,7 @@ module _ {text tokens : List ℕ} {n row count j next at : ℕ} {gates pinsIn : 
 
 -- "A cover without lines is Buf(zero)"
 pub none-built : (rows : List (List Bytes)) {count j next at x : ℕ} {gates pinsIn gates′ : List ℕ} → CoverRoom count j next at gates pinsIn → count ≡ 0 → x ≡ sigCell zeroS
-    → gates′ ≡ overAt (j * gateWidth) (three 13 at 1) gates → CoverBuilt (take count rows) j next at gates pinsIn gates′ (set pinsIn at x) (at + 1)
+    → gates′ ≡ overAt (j * gateWidth) (three (formNumber Buf) at 1) gates → CoverBuilt (take count rows) j next at gates pinsIn gates′ (set pinsIn at x) (at + 1)
 none-built rows {count} {j} {next} {at} {x} {gates} {pinsIn} {gates′} room z ex eg =
     let t : take count rows ≡ [] = ap (λ (k : ℕ). take k rows) z in
     let ep : set pinsIn at x ≡ overAt at (0 ∷ []) pinsIn = ap (set pinsIn at) ex ∙ one-store at 0 pinsIn in
@@ -188,7 +187,7 @@ none-built rows {count} {j} {next} {at} {x} {gates} {pinsIn} {gates′} room z e
     let fit : at + 1 ≤ length pinsIn = omega (arith, room .fits, room .room .pinRoom) in
     rw (t, ep, eg)
     (record {
-      kept = kept-some (λ h k. k .0) (kept-put gates pinsIn (0 ∷ []) at (at + 1) j 13 at 1 (omega arith));
+      kept = kept-some (λ h k. k .0) (kept-put gates pinsIn (0 ∷ []) at (at + 1) j (formNumber Buf) at 1 (omega arith));
       few = omega arith;
       main = λ ss a. gate-put gates pinsIn at (Comb Buf (zeroS ∷ [])) refl refl refl refl refl refl there fit;
       more = λ ss a i y q. absurd (let z : _≡_ {A = ℕ} 0 1 = cc in omega arith);

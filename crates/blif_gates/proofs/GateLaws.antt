@@ -9,14 +9,14 @@ use Rattle.lists.specs.Lists.{Bytes, overAt}
 use Rattle.lists.proofs.OverAt.{length-overAt}
 use Rattle.signal.specs.Signal.{Signal}
 use Rattle.signal.specs.Cell.{sigCell}
-use Rattle.gates.specs.Gate.{Gate, pins}
-use Rattle.gates.specs.Forms.{formCell}
+use Rattle.gates.specs.Gate.{Buf, Gate, pins}
+use Rattle.gates.specs.Forms.{formNumber, formCell}
 use Rattle.network.specs.Cells.{gateWidth, maxGates, maxPins}
 use Rattle.blif_model.specs.Build.{literals, literalGate}
 use Rattle.blif_model.specs.Render.{colOfByte}
 use Rattle.blif_model.specs.Working.{GateIn}
 use Rattle.blif_model.proofs.WorkingLaws.{record-kept, run-kept, used-more, gate-written}
-use Rattle.blif_gates.specs.Steps.{literalCells, literalsAt, singleCell, lineCells, lineForm, manyForm, LineRoom, LinePut, Kept}
+use Rattle.blif_gates.specs.Steps.{literalCells, literalsAt, singleCell, lineCells, lineForm, manyForm, LineRoom, LinePut, GatesKept}
 use Rattle.blif_gates.proofs.LiteralLaws.{LaidAt, many-pins, single-pins}
 use Rattle.blif_gates.proofs.CellLaws.{over-front, front-less, literals-sig, literals-few, line-sig, form-sig, line-few}
 
@@ -33,12 +33,12 @@ gate-put gates pinsIn at {gates′} {pinsIn′} {t} {r} {h} {f} {c} x eg ep er e
 -- ---- gates kept
 
 -- nothing is written
-pub kept-none : {keep : ℕ → Type 0} {gates pinsIn : List ℕ} {at : ℕ} → Kept keep gates pinsIn at gates pinsIn at
+pub kept-none : {keep : ℕ → Type 0} {gates pinsIn : List ℕ} {at : ℕ} → GatesKept keep gates pinsIn at gates pinsIn at
 kept-none = record { low = omega arith; front = refl; stay = λ h x k g. g }
 
 -- one step, then another
 pub kept-then : {keep : ℕ → Type 0} {gates pinsIn gates′ pinsIn′ gates″ pinsIn″ : List ℕ} {at at′ at″ : ℕ}
-    → Kept keep gates pinsIn at gates′ pinsIn′ at′ → Kept keep gates′ pinsIn′ at′ gates″ pinsIn″ at″ → Kept keep gates pinsIn at gates″ pinsIn″ at″
+    → GatesKept keep gates pinsIn at gates′ pinsIn′ at′ → GatesKept keep gates′ pinsIn′ at′ gates″ pinsIn″ at″ → GatesKept keep gates pinsIn at gates″ pinsIn″ at″
 kept-then {keep} {gates} {pinsIn} {gates′} {pinsIn′} {gates″} {pinsIn″} {at} {at′} {at″} a b =
     record {
       low = omega (arith, a .low, b .low);
@@ -48,12 +48,12 @@ kept-then {keep} {gates} {pinsIn} {gates′} {pinsIn′} {gates″} {pinsIn″} 
 
 -- fewer gates
 pub kept-some : {keep some : ℕ → Type 0} {gates pinsIn gates′ pinsIn′ : List ℕ} {at at′ : ℕ}
-    → ((h : ℕ) → some h → keep h) → Kept keep gates pinsIn at gates′ pinsIn′ at′ → Kept some gates pinsIn at gates′ pinsIn′ at′
+    → ((h : ℕ) → some h → keep h) → GatesKept keep gates pinsIn at gates′ pinsIn′ at′ → GatesKept some gates pinsIn at gates′ pinsIn′ at′
 kept-some f a = record { low = a .low; front = a .front; stay = λ h x k g. a .stay h x (f h k) g }
 
 -- a record and its run are written
 pub kept-put : (gates pinsIn t : List ℕ) (at at′ j f p c : ℕ) → at ≤ at′
-    → Kept (λ h. h ≡ j → ⊥) gates pinsIn at (overAt (j * gateWidth) (three f p c) gates) (overAt at t pinsIn) at′
+    → GatesKept (λ h. h ≡ j → ⊥) gates pinsIn at (overAt (j * gateWidth) (three f p c) gates) (overAt at t pinsIn) at′
 kept-put gates pinsIn t at at′ j f p c l =
     record {
       low = l;
@@ -77,7 +77,7 @@ module _ {columns : Bytes} {one : Bool} {source at h m : ℕ} {gates pinsIn gate
       }
 
   -- a line with none or one
-  pub line-single : {x : ℕ} → m ≤ 1 → at < length pinsIn → x ≡ singleCell one m (getD pinsIn′ at 0) → gates′ ≡ overAt (h * gateWidth) (three 13 at 1) gates
+  pub line-single : {x : ℕ} → m ≤ 1 → at < length pinsIn → x ≡ singleCell one m (getD pinsIn′ at 0) → gates′ ≡ overAt (h * gateWidth) (three (formNumber Buf) at 1) gates
       → LinePut columns one source at h gates pinsIn gates′ (set pinsIn′ at x) (at + 1)
   line-single {x} l room ex e =
       let lits = literalsAt columns source pinsIn in
@@ -115,7 +115,7 @@ line-room columns {source} {at} {h} {m} {gates} {pinsIn} l e =
 
 module _ {columns : Bytes} {one : Bool} {source at h : ℕ} {gates pinsIn gates′ pinsIn′ : List ℕ} {r : ℕ} (p : LinePut columns one source at h gates pinsIn gates′ pinsIn′ r) where
   -- the other gates stay
-  pub line-kept : Kept (λ k. k ≡ h → ⊥) gates pinsIn at gates′ pinsIn′ r
+  pub line-kept : GatesKept (λ k. k ≡ h → ⊥) gates pinsIn at gates′ pinsIn′ r
   line-kept =
       let lits = literalsAt columns source pinsIn in
       rw (p .records, p .runs, p .end)

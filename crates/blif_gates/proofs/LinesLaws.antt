@@ -18,14 +18,14 @@ use Rattle.gates.specs.Gate.{Gate}
 use Rattle.blif_text.specs.Decls.{columns, isOne}
 use Rattle.blif_text.specs.Keywords.{RowTo}
 use Rattle.blif_text.specs.Walk.{rowsFrom, RowsAt}
-use Rattle.blif_text.proofs.RowWalk.{row-there, rows-next, rows-are}
+use Rattle.blif_text.proofs.RowWalk.{inside-less, row-there, rows-next, rows-are}
 use Rattle.blif_model.specs.Build.{lineGate}
 use Rattle.blif_model.specs.Read.{goodLine}
 use Rattle.blif_model.specs.Render.{lineOf}
 use Rattle.blif_model.specs.Working.{GateIn}
 use Rattle.blif_gates.specs.Steps.{LineRoom, LinePut, rowTokens, GoodRow, GoodRows, LinesRoom, LinesPut}
 use Rattle.blif_gates.proofs.CellLaws.{run-front}
-use Rattle.blif_gates.proofs.RowLaws.{inside-less, row-wide}
+use Rattle.blif_gates.proofs.RowLaws.{row-wide}
 use Rattle.blif_gates.proofs.GateLaws.{kept-none, kept-then, kept-some, room-wide, line-kept, line-same, line-end, line-gate}
 
 -- a place of two lists is one of the first, or of the second

@@ -13,6 +13,8 @@ use Rattle.lists.specs.Lists.{Bytes, overAt}
 use Rattle.lists.proofs.OverAt.{length-overAt, overAt-nil, over-first, over-append, overAt-inside}
 use Rattle.signal.specs.Signal.{zeroS, xorS}
 use Rattle.signal.specs.Cell.{sigCell, sigOf}
+use Rattle.gates.specs.Gate.{Buf}
+use Rattle.gates.specs.Forms.{formNumber}
 use Rattle.blif_gates.specs.Steps.{turnCell, columnCells, literalCells, literalsAt, singleCell, lineCells, lineForm, manyForm}
 use Rattle.blif_gates.proofs.CellLaws.{over-front, front-at, front-less, one-literal}
 
@@ -153,7 +155,7 @@ many-pins one (c ∷ d ∷ cs) h = (refl, refl)
 -- one pin for none or one
 pub single-pins : (one : Bool) (lits o : List ℕ) (k : ℕ) → length lits ≤ 1 → k < length o
     → (set (overAt k lits o) k (singleCell one (length lits) (getD (overAt k lits o) k 0)) ≡ overAt k (lineCells one lits) o)
-    × (lineForm one lits ≡ 13) × (length (lineCells one lits) ≡ 1)
+    × (lineForm one lits ≡ formNumber Buf) × (length (lineCells one lits) ≡ 1)
 single-pins one [] o k h l =
     (ap (λ (s : List ℕ). set s k (singleCell one 0 0)) (overAt-nil k o) ∙ one-store k (singleCell one 0 0) o, refl, refl)
 single-pins one (c ∷ []) o k h l =

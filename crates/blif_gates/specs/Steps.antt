@@ -1,7 +1,7 @@
 -- The steps that build the gates of covers: literals, a line, the lines of a cover, a cover, a block (document 01, src/io/blif.rs:
 -- `build_network`). Assumes nothing: these are definitions.
 use mathlib.Core.Path.{_≡_}
-use mathlib.Core.Bool.{Bool, true, false, cond}
+use mathlib.Core.Bool.{Bool, true, cond}
 use mathlib.Core.List.{List, [], _∷_, _++_, map}
 use mathlib.Core.Option.{some}
 use Prim.Native.Nat.{ℕ, zero, suc, _+_, _-_, _*_, _%_, _≤_, _<_}
@@ -11,7 +11,8 @@ use lib.Seq.{slice}
 use Rattle.lists.specs.Lists.{Bytes, all, overAt}
 use Rattle.signal.specs.Signal.{Signal}
 use Rattle.signal.specs.Cell.{bitOf, sigCell}
-use Rattle.gates.specs.Gate.{AndN, Gate, Comb}
+use Rattle.gates.specs.Gate.{AndN, OrN, NandN, Buf, Gate, Comb}
+use Rattle.gates.specs.Forms.{formNumber}
 use Rattle.network.specs.Cells.{gateWidth, maxGates, maxPins, firstAt, countAt}
 use Rattle.blif_text.specs.Decls.{Def, latch, cover}
 use Rattle.blif_text.specs.Places.{tokensOf}
@@ -55,17 +56,17 @@ lineCells one (c ∷ d ∷ cs) = c ∷ d ∷ cs
 
 -- the form of a line with two or more literals: "Nary And", "with output 0 it is Nary Nand"
 abbrev pub manyForm : Bool → ℕ
-manyForm one = cond one 7 9
+manyForm one = cond one (formNumber AndN) (formNumber NandN)
 
 -- the form of a line's gate, of its literals
 abbrev pub lineForm : Bool → List ℕ → ℕ
-lineForm one [] = 13
-lineForm one (c ∷ []) = 13
+lineForm one [] = formNumber Buf
+lineForm one (c ∷ []) = formNumber Buf
 lineForm one (c ∷ d ∷ cs) = manyForm one
 
 -- the form that joins lines: "Or for 1", And for 0
 abbrev pub joinForm : Bool → ℕ
-joinForm one = cond one 8 7
+joinForm one = cond one (formNumber OrN) (formNumber AndN)
 
 -- ---- one line
 
@@ -95,11 +96,6 @@ pub record LinePut (columns : Bytes) (one : Bool) (source at h : ℕ) (gates pin
 abbrev pub rowTokens : Bytes → List ℕ → ℕ → ℕ → List Bytes
 rowTokens text tokens row end = tokensOf text (slice row end tokens)
 
--- the columns of a line of a cover with so many inputs, whose first token is t
-abbrev pub lineColumns : ℕ → Bytes → Bytes
-lineColumns zero t = []
-lineColumns (suc n) t = t
-
 -- the row is a good line of a cover with so many inputs
 pub record GoodRow (text tokens : List ℕ) (row end inputs : ℕ) : Type 0 where
   -- a token is there
@@ -112,7 +108,7 @@ pub record GoodRow (text tokens : List ℕ) (row end inputs : ℕ) : Type 0 wher
 -- ---- the lines of a cover
 
 -- the gates that `keep` tells stand as before, and so do the pins before cell at
-pub record Kept (keep : ℕ → Type 0) (gates pinsIn : List ℕ) (at : ℕ) (gates′ pinsIn′ : List ℕ) (at′ : ℕ) : Type 0 where
+pub record GatesKept (keep : ℕ → Type 0) (gates pinsIn : List ℕ) (at : ℕ) (gates′ pinsIn′ : List ℕ) (at′ : ℕ) : Type 0 where
   -- pins are only added
   pub low : at ≤ at′
   -- those before stay
@@ -143,7 +139,7 @@ pub record LinesRoom (inputs count source at next : ℕ) (gates pinsIn : List �
 -- the gates of lines are put into the records from `next` on
 pub record LinesPut (ls : List (List Bytes)) (inputs source at next : ℕ) (gates pinsIn gates′ pinsIn′ : List ℕ) (at′ : ℕ) : Type 0 where
   -- the gates before stay
-  pub kept : Kept (λ h. h < next) gates pinsIn at gates′ pinsIn′ at′
+  pub kept : GatesKept (λ h. h < next) gates pinsIn at gates′ pinsIn′ at′
   -- not too many pins
   pub few : at′ ≤ at + length ls * (inputs + 1)
   -- each line has its gate
@@ -168,7 +164,7 @@ pub record CoverRoom (count j next at : ℕ) (gates pinsIn : List ℕ) : Type 0 
 -- a cover's gate is put in place of the And, and those of its lines into the records from `next` on
 pub record CoverBuilt (ls : List (List Bytes)) (j next at : ℕ) (gates pinsIn gates′ pinsIn′ : List ℕ) (at′ : ℕ) : Type 0 where
   -- the other gates stay
-  pub kept : Kept (λ h. (h ≡ j → ⊥) × (h < next)) gates pinsIn at gates′ pinsIn′ at′
+  pub kept : GatesKept (λ h. (h ≡ j → ⊥) × (h < next)) gates pinsIn at gates′ pinsIn′ at′
   -- not too many pins
   pub few : at′ ≤ at + (length ls * (countAt gates j + 2) + 2)
   -- the cover's gate
@@ -207,7 +203,7 @@ pub record BlockRoom (d : Def) (j next at : ℕ) (gates pinsIn : List ℕ) : Typ
 -- a definition's gate stands as gate j, and those of its lines from `next` on
 pub record BlockBuilt (d : Def) (j next at : ℕ) (gates pinsIn gates′ pinsIn′ : List ℕ) (next′ at′ : ℕ) : Type 0 where
   -- the other gates stay
-  pub kept : Kept (λ h. (h ≡ j → ⊥) × (h < next)) gates pinsIn at gates′ pinsIn′ at′
+  pub kept : GatesKept (λ h. (h ≡ j → ⊥) × (h < next)) gates pinsIn at gates′ pinsIn′ at′
   -- the gates are counted
   pub counted : next′ ≡ next + addedOf d
   -- not too many pins

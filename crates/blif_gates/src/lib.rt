@@ -1,5 +1,6 @@
 // The gates of covers (Quaigh's src/io/blif.rs: build_network, its second loop).
 use blif_text::block_at;
+use blif_text::line_columns;
 use blif_text::row_end;
 use lists::equal;
 use network::count_at;
@@ -7,22 +8,21 @@ use network::first_at;
 use network::put_record;
 use signal::Signal;
 ghost use mathlib.Core.Path.{_≡_};
-ghost use mathlib.Core.Bool.{true};
 ghost use mathlib.Core.List.{[], _∷_, map};
 ghost use Prim.Native.Nat.{_+_, _*_, _≤_, _<_};
-ghost use lib.ListN.{length, getD, take};
+ghost use lib.ListN.{length, take};
 ghost use Rattle.lists.specs.Lists.{overAt, same};
 ghost use Rattle.signal.specs.Cell.{sigCell};
 ghost use Rattle.network.specs.Cells.{gateWidth, maxGates, firstAt, countAt};
 ghost use Rattle.blif_text.specs.Decls.{columns, isOne};
-ghost use Rattle.blif_text.specs.Places.{tokenStart, tokenLength, tokenOf};
+ghost use Rattle.blif_text.specs.Places.{InText, tokenOf};
 ghost use Rattle.blif_text.specs.Walk.{rowsFrom};
 ghost use Rattle.blif_text.specs.Blocks.{defAt, defsAt, Blocks};
 ghost use Rattle.blif_model.specs.Build.{gateRun};
 ghost use Rattle.blif_model.specs.Read.{added};
 ghost use Rattle.blif_gates.specs.Covers.{Buildable, BuiltBy};
 ghost use Rattle.blif_gates.specs.Steps.{columnCells, literalsAt, singleCell, manyForm, joinForm, LineRoom, LinePut};
-ghost use Rattle.blif_gates.specs.Steps.{rowTokens, lineColumns, GoodRow, GoodRows, LinesRoom, LinesPut, CoverRoom, CoverBuilt, BlockRoom, BlockBuilt};
+ghost use Rattle.blif_gates.specs.Steps.{rowTokens, GoodRow, GoodRows, LinesRoom, LinesPut, CoverRoom, CoverBuilt, BlockRoom, BlockBuilt};
 
 // Form numbers of the gates that are built.
 const AND: u32 = 7;
@@ -144,21 +144,10 @@ fn put_line(
 
 // Whether a token is 1.
 fn is_one(text: &[u8], cell: u32) -> bool
-    requires { ⌜ tokenStart cell + tokenLength cell ≤ length (now text) ⌝ }
+    requires { ⌜ InText (now text) cell ⌝ }
     ensures { λ r. ⌜ r ≡ same (tokenOf (now (text .entry)) cell) (49 ∷ []) ⌝ }
 {
     equal(blif_text::token(text, cell), b"1")
-}
-
-// The columns of a line of a cover with this many inputs: none, or its first token.
-fn line_columns(text: &[u8], cell: u32, inputs: usize) -> &[u8]
-    requires { ⌜ tokenStart cell + tokenLength cell ≤ length (now text) ⌝ }
-    ensures { λ r. ⌜ now r ≡ lineColumns inputs (tokenOf (now (text .entry)) cell) ⌝ }
-{
-    if inputs == 0 {
-        return &text[..0];
-    }
-    blif_text::token(text, cell)
 }
 
 // Puts the gate of the line from row to end into a record.
@@ -177,10 +166,8 @@ fn put_row(
     requires { ⌜ LineRoom (sources .count) (sources .first) at gate (now gates) (now pins) ⌝ }
     ensures { λ r. ⌜ LinePut (columns (rowTokens (now (text .entry)) (now (tokens .entry)) row end)) (isOne (rowTokens (now (text .entry)) (now (tokens .entry)) row end)) (sources .first) at gate (now (gates .entry)) (now (pins .entry)) (now (gates .exit)) (now (pins .exit)) r ⌝ }
 {
-    let first = tokens[row];
-    let last = tokens[end - 1];
-    let columns = line_columns(text, first, sources.count);
-    let one = is_one(text, last);
+    let columns = line_columns(text, tokens, row, end);
+    let one = is_one(text, tokens[end - 1]);
     put_line(columns, one, gates, gate, pins, sources.first, at)
 }
 

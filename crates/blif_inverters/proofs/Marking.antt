@@ -10,13 +10,13 @@ use lib.Seq.{drop-cons}
 use Rattle.signal.specs.Signal.{Node, Const, Input, Gated, Signal, inputNode, constNode}
 use Rattle.signal.specs.Cell.{nodeOf, sigOf, inputNumber, gateNumber}
 use Rattle.signal.proofs.Cells.{input-number, gate-number}
-use Rattle.blif_inverters.specs.Marks.{gateOf, inputOf, marked, markAll, Marked}
+use Rattle.blif_inverters.specs.Marks.{gateOf, inputOf, marked, markAll, SignalsMarked}
 use Rattle.blif_names.proofs.Numbers.{const-is, gate-left}
 
 -- ---- one signal
 
 marked-as : {gs is gs' is' : List ℕ} (v : Bool) (n : Node) → gs' ≡ marked v (gateOf n) gs → is' ≡ marked v (inputOf n) is
-    → (s : Signal) → s .inv ≡ v → s .node ≡ n → Marked (s ∷ []) gs is gs' is'
+    → (s : Signal) → s .inv ≡ v → s .node ≡ n → SignalsMarked (s ∷ []) gs is gs' is'
 marked-as {gs} {is} v n p q s h k =
     record {
       gated = p ∙ ap₂ (λ (b : Bool) (x : Node). marked b (gateOf x) gs) (sym h) (sym k);
@@ -25,18 +25,18 @@ marked-as {gs} {is} v n p q s h k =
 
 -- what `mark_signal` does of a cell's signal, by what the cell is
 module _ (c : ℕ) {gs is : List ℕ} {b : Bool} (w : b ≡ sigOf c .inv) where
-  pub mark-plain : b ≡ false → Marked (sigOf c ∷ []) gs is gs is
+  pub mark-plain : b ≡ false → SignalsMarked (sigOf c ∷ []) gs is gs is
   mark-plain t = marked-as false (nodeOf c) refl refl (sigOf c) (sym w ∙ t) refl
 
   pub mark-input : {i : Bool} {n : ℕ} {is' : List ℕ} → b ≡ true → i ≡ inputNode (nodeOf c) → i ≡ true → n ≡ inputNumber c → is' ≡ set is n 1
-      → Marked (sigOf c ∷ []) gs is gs is'
+      → SignalsMarked (sigOf c ∷ []) gs is gs is'
   mark-input t d e h k = marked-as true (Input (inputNumber c)) refl (k ∙ ap (λ (n : ℕ). set is n 1) h) (sigOf c) (sym w ∙ t) (input-number c (sym d ∙ e))
 
-  pub mark-const : {i : Bool} → b ≡ true → i ≡ constNode (nodeOf c) → i ≡ true → Marked (sigOf c ∷ []) gs is gs is
+  pub mark-const : {i : Bool} → b ≡ true → i ≡ constNode (nodeOf c) → i ≡ true → SignalsMarked (sigOf c ∷ []) gs is gs is
   mark-const t d e = marked-as true Const refl refl (sigOf c) (sym w ∙ t) (const-is (nodeOf c) (sym d ∙ e))
 
   pub mark-gated : {i k : Bool} {n : ℕ} {gs' : List ℕ} → b ≡ true → i ≡ inputNode (nodeOf c) → i ≡ false → k ≡ constNode (nodeOf c) → k ≡ false
-      → n ≡ gateNumber c → gs' ≡ set gs n 1 → Marked (sigOf c ∷ []) gs is gs' is
+      → n ≡ gateNumber c → gs' ≡ set gs n 1 → SignalsMarked (sigOf c ∷ []) gs is gs' is
   mark-gated t d e f g h k =
       marked-as true (Gated (gateNumber c)) (k ∙ ap (λ (n : ℕ). set gs n 1) h) refl (sigOf c) (sym w ∙ t)
       (gate-number c (gate-left (nodeOf c) (sym f ∙ g) (sym d ∙ e)))
@@ -47,18 +47,18 @@ marks-append : (pick : Node → Option ℕ) (a b : List Signal) (m : List ℕ) �
 marks-append pick [] b m = refl
 marks-append pick (s ∷ a) b m = marks-append pick a b (marked (s .inv) (pick (s .node)) m)
 
-pub marked-both : {a b : List Signal} {gs is gs' is' gs″ is″ : List ℕ} → Marked a gs is gs' is' → Marked b gs' is' gs″ is″ → Marked (a ++ b) gs is gs″ is″
+pub marked-both : {a b : List Signal} {gs is gs' is' gs″ is″ : List ℕ} → SignalsMarked a gs is gs' is' → SignalsMarked b gs' is' gs″ is″ → SignalsMarked (a ++ b) gs is gs″ is″
 marked-both {a} {b} {gs} {is} v w =
     record {
       gated = w .gated ∙ ap (markAll gateOf b) (v .gated) ∙ sym (marks-append gateOf a b gs);
       input = w .input ∙ ap (markAll inputOf b) (v .input) ∙ sym (marks-append inputOf a b is);
     }
 
-pub marked-none : {gs is : List ℕ} → Marked [] gs is gs is
+pub marked-none : {gs is : List ℕ} → SignalsMarked [] gs is gs is
 marked-none = record { gated = refl; input = refl }
 
-pub as-marked : {a b : List Signal} {gs is gs' is' : List ℕ} → a ≡ b → Marked a gs is gs' is' → Marked b gs is gs' is'
-as-marked {gs = gs} {is = is} {gs' = gs'} {is' = is'} e v = mathlib.Core.Path.subst (λ (l : List Signal). Marked l gs is gs' is') e v
+pub as-marked : {a b : List Signal} {gs is gs' is' : List ℕ} → a ≡ b → SignalsMarked a gs is gs' is' → SignalsMarked b gs is gs' is'
+as-marked {gs = gs} {is = is} {gs' = gs'} {is' = is'} e v = mathlib.Core.Path.subst (λ (l : List Signal). SignalsMarked l gs is gs' is') e v
 
 pub marked-length : (v : Bool) (n : Option ℕ) (m : List ℕ) → length (marked v n m) ≡ length m
 marked-length false n m = refl
@@ -69,7 +69,7 @@ pub marks-length : (pick : Node → Option ℕ) (ss : List Signal) (m : List ℕ
 marks-length pick [] m = refl
 marks-length pick (s ∷ ss) m = marks-length pick ss (marked (s .inv) (pick (s .node)) m) ∙ marked-length (s .inv) (pick (s .node)) m
 
-module _ {ss : List Signal} {gs is gs' is' : List ℕ} (v : Marked ss gs is gs' is') where
+module _ {ss : List Signal} {gs is gs' is' : List ℕ} (v : SignalsMarked ss gs is gs' is') where
   pub gates-kept : length gs' ≡ length gs
   gates-kept = ap length (v .gated) ∙ marks-length gateOf ss gs
 
@@ -80,13 +80,13 @@ module _ {ss : List Signal} {gs is gs' is' : List ℕ} (v : Marked ss gs is gs' 
 pub record Marking (left all : List Signal) (gs is gs' is' : List ℕ) : Type 0 where
   pub done : List Signal
   pub whole : done ++ left ≡ all
-  pub marks : Marked done gs is gs' is'
+  pub marks : SignalsMarked done gs is gs' is'
 
 pub marking-start : {left all : List Signal} {gs is : List ℕ} → left ≡ all → Marking left all gs is gs is
 marking-start e = record { done = []; whole = e; marks = marked-none }
 
 module _ {left all : List Signal} {gs is gs' is' : List ℕ} (c : Marking left all gs is gs' is') where
-  pub marking-next : {a rest : List Signal} {gs″ is″ : List ℕ} → left ≡ a ++ rest → Marked a gs' is' gs″ is″ → Marking rest all gs is gs″ is″
+  pub marking-next : {a rest : List Signal} {gs″ is″ : List ℕ} → left ≡ a ++ rest → SignalsMarked a gs' is' gs″ is″ → Marking rest all gs is gs″ is″
   marking-next {a} {rest} e v =
       record {
         done = c .done ++ a;
@@ -94,7 +94,7 @@ module _ {left all : List Signal} {gs is gs' is' : List ℕ} (c : Marking left a
         marks = marked-both (c .marks) v;
       }
 
-  pub marking-done : left ≡ [] → Marked all gs is gs' is'
+  pub marking-done : left ≡ [] → SignalsMarked all gs is gs' is'
   marking-done e = as-marked (sym (mathlib.Core.List.append-nil (c .done)) ∙ ap (λ (l : List Signal). c .done ++ l) (sym e) ∙ c .whole) (c .marks)
 
 pub cells-next : (cells : List ℕ) (i : ℕ) → i < length cells → map sigOf (drop i cells) ≡ (sigOf (getD cells i 0) ∷ []) ++ map sigOf (drop (i + 1) cells)

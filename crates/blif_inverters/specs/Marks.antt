@@ -38,7 +38,7 @@ markAll pick [] m = m
 markAll pick (s ∷ ss) m = markAll pick ss (marked (s .inv) (pick (s .node)) m)
 
 -- the marks of gates and of inputs after signals: "Inverted non-constant signals"
-pub record Marked (ss : List Signal) (gates inputs gates' inputs' : List ℕ) : Type 0 where
+pub record SignalsMarked (ss : List Signal) (gates inputs gates' inputs' : List ℕ) : Type 0 where
   -- those of gates
   pub gated : gates' ≡ markAll gateOf ss gates
   -- those of inputs

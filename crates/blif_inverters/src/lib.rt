@@ -5,12 +5,12 @@ use signal::Signal;
 ghost use mathlib.Core.Path.{_≡_};
 ghost use mathlib.Core.Bool.{false};
 ghost use mathlib.Core.List.{[], _∷_, map};
-ghost use Prim.Native.Nat.{_+_, _≤_, _<_};
+ghost use Prim.Native.Nat.{_≤_};
 ghost use lib.ListN.{length, set};
 ghost use Rattle.signal.specs.Cell.{sigOf};
 ghost use Rattle.network.specs.Cells.{maxGates, maxInputs};
 ghost use Rattle.blif_names.specs.Text.{Wrote, Appended};
-ghost use Rattle.blif_inverters.specs.Marks.{Marked, inverterAt, gateInverters, inputInverters};
+ghost use Rattle.blif_inverters.specs.Marks.{SignalsMarked, inverterAt, gateInverters, inputInverters};
 
 // Sets mark n, if there is one.
 fn set_mark(marks: &mut [u8], n: u32)
@@ -24,7 +24,7 @@ fn set_mark(marks: &mut [u8], n: u32)
 
 // Marks a signal that is inverted and no constant.
 fn mark_signal(gate_marks: &mut [u8], input_marks: &mut [u8], s: Signal)
-    ensures { λ _. ⌜ Marked (sigOf (s .a) ∷ []) (now («gate_marks» .entry)) (now («input_marks» .entry)) (now («gate_marks» .exit)) (now («input_marks» .exit)) ⌝ }
+    ensures { λ _. ⌜ SignalsMarked (sigOf (s .a) ∷ []) (now («gate_marks» .entry)) (now («input_marks» .entry)) (now («gate_marks» .exit)) (now («input_marks» .exit)) ⌝ }
 {
     if !s.is_inverted() {
         return;
@@ -41,7 +41,7 @@ fn mark_signal(gate_marks: &mut [u8], input_marks: &mut [u8], s: Signal)
 
 // Marks the signals of cells.
 pub fn mark_signals(gate_marks: &mut [u8], input_marks: &mut [u8], cells: &[u32])
-    ensures { λ _. ⌜ Marked (map sigOf (now (cells .entry))) (now («gate_marks» .entry)) (now («input_marks» .entry)) (now («gate_marks» .exit)) (now («input_marks» .exit)) ⌝ }
+    ensures { λ _. ⌜ SignalsMarked (map sigOf (now (cells .entry))) (now («gate_marks» .entry)) (now («input_marks» .entry)) (now («gate_marks» .exit)) (now («input_marks» .exit)) ⌝ }
 {
     let mut i = 0;
     while i < cells.len() {

@@ -17,10 +17,9 @@ use Rattle.blif_text.specs.Statements.{parsed, firstBad, stmts}
 use Rattle.blif_text.specs.Decls.{Decl, decls, defs}
 use Rattle.blif_model.specs.Blif.{BlifRuns}
 use Rattle.blif_model.specs.Build.{build, GoodBlock}
-use Rattle.blif_model.specs.Lookup.{lookup}
 use Rattle.blif_model.specs.Names.{byte-names}
 use Rattle.blif_model.specs.Render.{blockOf, modelOf, modelOfText}
-use Rattle.blif_model.specs.Read.{_then_, when, declFault, declsOf, readFault, read, answer, builtFrom, readText}
+use Rattle.blif_model.specs.Read.{_then_, when, declFault, declsOf, readFault, read, answer, look, builtFrom, readText}
 use Rattle.blif_model.specs.Demand.{Accepts}
 use Rattle.blif_model.proofs.Meaning.{builtOf, sorted-means}
 use Rattle.blif_model.proofs.Passed.{then-right, Passed, passed, passed-valid, closed-of, once-of, good-of, goods-of}
@@ -60,7 +59,7 @@ reads-of s new e =
         once = once-of ds (p .named);
         closed = closed-of ds (p .used);
         good = λ b w. let t = Memᴰ·of-map blockOf (defs ds) w in subst GoodBlock (t .2) (good-of (t .0) (goods-of (defs ds) (p .covered) (t .0) (t .1)));
-        free = sorted-free (build (lookup byte-names (modelOf ds)) (modelOf ds)) (passed-valid ds p) new (r .1);
+        free = sorted-free (build (look ds) (modelOf ds)) (passed-valid ds p) new (r .1);
       };
       isSorted = r .1;
     }

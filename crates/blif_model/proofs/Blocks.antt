@@ -16,7 +16,7 @@ use Rattle.signal.specs.Signal.{Node, Signal, oneS, zeroS}
 use Rattle.gates.specs.Gate.{Form, And2, Xor2, And3, Xor3, Maj3, Mux3, AndN, OrN, NandN, NorN, XorN, XnorN, Buf, FlipFlop, Gate, Comb, Dff}
 use Rattle.network.specs.Net.{Net, GateIs}
 use Rattle.blif_model.specs.Blif.{Feed, Block, Latch, Cover, target}
-use Rattle.blif_model.specs.Write.{line, named, downTo, inverters, gateName, feedOf, bufBlock, formBlock, combBlock, latchBlocks, combBlocks, inverterBlock, constBlocks, written}
+use Rattle.blif_model.specs.Write.{coverRow, named, downTo, inverters, gateName, feedOf, bufBlock, formBlock, combBlock, latchBlocks, combBlocks, inverterBlock, constBlocks, written}
 
 -- ---- lists of numbers
 
@@ -118,7 +118,7 @@ module _ {Name : Type 0} (name : Signal → Name) where
       ofDff : (g : ℕ) (s : FlipFlop) → GateIs net g (Dff s) → b ≡ Latch (feedOf name s) (gateName name g) → Source b
       ofComb : (g : ℕ) (f : Form) (ps : List Signal) → GateIs net g (Comb f ps) → b ≡ combBlock name g f ps → Source b
       ofInverter : (n : Node) → List·Memᴰ n (inverters net) → b ≡ inverterBlock name n → Source b
-      ofOne : b ≡ Cover [] (name oneS) (line true [] ∷ []) → Source b
+      ofOne : b ≡ Cover [] (name oneS) (coverRow true [] ∷ []) → Source b
       ofZero : b ≡ Cover [] (name zeroS) [] → Source b
 
     pub source : (b : Block Name) → List·Memᴰ b (written name net .blocks) → Source b

@@ -14,7 +14,8 @@ use Rattle.gates.specs.Gate.{Gate, Comb, Dff, pins}
 use Rattle.network.specs.Net.{Net, GateIs, Loop}
 use Rattle.network.proofs.OneChoice.{rises-free}
 use Rattle.blif_model.specs.Blif.{Line, Block, Latch, Cover, Model, target}
-use Rattle.blif_model.specs.Build.{literals, lineGate, coverGate, blockGate, moreGates, mains, extras, build, sources, Defined, Looks, Closed}
+use Rattle.blif_model.specs.Build.{literals, lineGate, coverGate, blockGate, moreGates, mains, extras, build, sources, Defined, Closed}
+use Rattle.blif_model.proofs.Lookups.{Looks}
 use Rattle.blif_model.proofs.Along.{Seg, seg-append, seg-of, Each, each-of, each-append, each-at, place-front}
 use Rattle.blif_model.proofs.CoverPins.{litNames, literals-all, line-all, cover-all, lit-source}
 use Rattle.blif_model.proofs.Reading.{mains-length}

@@ -1,6 +1,6 @@
 -- The gates as built, in working cells, are a network that the sort takes. Assumes nothing.
 use mathlib.Core.Path.{_≡_, sym, ap, _∙_, subst}
-use mathlib.Core.Bool.{true, false, _||_}
+use mathlib.Core.Bool.{Bool, true, false, _||_}
 use mathlib.Core.List.{List, _++_, map, List·Memᴰ}
 use mathlib.Core.Option.{some}
 use Prim.Native.Nat.{ℕ, _+_, _*_, _≤_, _<_}
@@ -14,49 +14,35 @@ use Rattle.lists.proofs.Every.{every-place}
 use Rattle.lists.proofs.Places.{place-lt, lt-place, ext-place, map-map}
 use Rattle.lists.proofs.Range.{length-range, map-range}
 use Rattle.signal.specs.Signal.{Node, Signal}
-use Rattle.signal.specs.Cell.{sigCell, sigOf, Small}
+use Rattle.signal.specs.Cell.{sigCell, sigOf}
+use Rattle.signal.proofs.Cells.{Small}
 use Rattle.signal.proofs.Cells.{signals-again}
 use Rattle.gates.specs.Gate.{Gate, pins}
 use Rattle.gates.specs.Forms.{formed, formCell, gateFrom}
 use Rattle.gates.proofs.Forms.{gate-again}
 use Rattle.network.specs.Net.{ValidNode, Valid}
-use Rattle.network.specs.Cells.{maxInputs, maxOutputs, maxGates, maxPins, gateWidth, firstAt, countAt, gateAt, pinCells, lent, orBuf, netOf}
+use Rattle.network.specs.Cells.{maxInputs, maxOutputs, maxGates, maxPins, WithinSizes, gateWidth, firstAt, countAt, gateAt, pinCells, lent, orBuf, netOf}
 use Rattle.network.specs.declared.Counts.{Counts}
 use Rattle.network.proofs.Lent.{valid-small}
 use Rattle.sort_order.specs.Sortable.{Sortable}
 use Rattle.blif_text.specs.Decls.{Decl, ins, outs, defs}
 use Rattle.blif_model.specs.Build.{mains, extras}
 use Rattle.blif_model.specs.Render.{blockOf}
-use Rattle.blif_model.specs.Read.{gateCount, pinCount, tooLarge, declFault, builtFrom}
-use Rattle.blif_model.specs.Working.{GateIn, builtGates}
-use Rattle.blif_model.specs.Built.{look, BuiltIn}
+use Rattle.blif_model.specs.Read.{gateCount, pinCount, declFault, look, builtFrom}
+use Rattle.blif_model.specs.Working.{GateIn, GatesIn, builtGates}
+use Rattle.blif_model.proofs.SizeLimits.{Sized, sizes-within}
 use Rattle.blif_model.proofs.BuiltCounts.{built-gates, built-pins, built-formed}
 use Rattle.blif_model.proofs.Passed.{passed, passed-valid}
 
--- ---- sizes
-
--- what refusal 6 leaves
-pub record Within (ds : List Decl) : Type 0 where
-  pub inputs : length (ins ds) ≤ maxInputs
-  pub outputs : length (outs ds) ≤ maxOutputs
-  pub gates : sumOf gateCount (defs ds) ≤ maxGates
-  pub pins : sumOf pinCount (defs ds) ≤ maxPins
-
-pub within : (ds : List Decl) → tooLarge ds ≡ false → Within ds
-unfolding tooLarge
-within ds e =
-    let a = ltb maxInputs (length (ins ds)) in
-    let b = ltb maxOutputs (length (outs ds)) in
-    let c = ltb maxGates (sumOf gateCount (defs ds)) in
-    let d = ltb maxPins (sumOf pinCount (defs ds)) in
-    let abc = or-left (a || b || c) d e in
-    let ab = or-left (a || b) c abc in
-    record {
-      inputs = ltb-false maxInputs (length (ins ds)) (or-left a b ab);
-      outputs = ltb-false maxOutputs (length (outs ds)) (or-right a b ab);
-      gates = ltb-false maxGates (sumOf gateCount (defs ds)) (or-right (a || b) c abc);
-      pins = ltb-false maxPins (sumOf pinCount (defs ds)) (or-right (a || b || c) d e);
-    }
+-- the gates as built, with runs among the first `used` pins, and the outputs stand in the cells, of which these counts are in use
+pub record BuiltIn (ds : List Decl) (c : Counts) (gates pinsIn outsIn : List ℕ) (used : ℕ) : Type 0 where
+  pub held : GatesIn gates pinsIn used (builtGates (look ds) (defs ds))
+  pub pinsRoom : used ≤ length pinsIn
+  pub gatesRoom : c .gates * gateWidth ≤ length gates
+  pub inputsCounted : c .inputs ≡ length (ins ds)
+  pub gatesCounted : c .gates ≡ length (builtGates (look ds) (defs ds))
+  pub outputsCounted : c .outputs ≡ length (outs ds)
+  pub outsHeld : take (c .outputs) outsIn ≡ map (λ x. sigCell (look ds x)) (outs ds)
 
 -- ---- one gate
 
@@ -82,8 +68,8 @@ module _ {ds : List Decl} {c : Counts} {gates pinsIn outsIn : List ℕ} {used : 
   abbrev built : List Gate
   built = builtGates (look ds) (defs ds)
 
-  sizes : Within ds
-  sizes = within ds (passed ds fault .within)
+  sizes : Sized ds
+  sizes = sizes-within ds (passed ds fault .within)
 
   valid : Valid (builtFrom ds)
   valid = passed-valid ds (passed ds fault)

@@ -10,7 +10,8 @@ use Rattle.signal.specs.Signal.{Node, Const, Input, Gated, Signal, oneS, zeroS}
 use Rattle.gates.specs.Gate.{Gate, pins}
 use Rattle.network.specs.Net.{Valid, ValidNode}
 use Rattle.blif_model.specs.Blif.{Line, Block, Latch, Cover, Model}
-use Rattle.blif_model.specs.Build.{optSig, optName, lineGate, blockGate, moreGates, mains, extras, build, sources, Defined, Looks, Closed}
+use Rattle.blif_model.specs.Build.{optSig, optName, lineGate, blockGate, moreGates, mains, extras, build, sources, Defined, Closed}
+use Rattle.blif_model.proofs.Lookups.{Looks}
 use Rattle.lists.proofs.Places.{place-lt}
 use Rattle.blif_model.proofs.Reading.{mains-length}
 use Rattle.blif_model.proofs.CoverPins.{All, all-nil, all-cons, literals-all, line-all, cover-all, lit-source}

@@ -13,7 +13,7 @@ use Rattle.signal.specs.Signal.{flip}
 use Rattle.gates.specs.Gate.{allOf, anyOf, odd, formBit, Form, And2, Xor2, And3, Xor3, Maj3, Mux3, AndN, OrN, NandN, NorN, XorN, XnorN, Buf}
 use Rattle.gates.specs.Forms.{canHave}
 use Rattle.blif_model.specs.Blif.{C0, C1, Line, cubeBit, cubesBit, coverBit}
-use Rattle.blif_model.specs.Write.{line, doubled, masks, colOf, minterms, even, linesOf}
+use Rattle.blif_model.specs.Write.{coverRow, doubled, masks, colOf, minterms, even, linesOf}
 
 -- ones of n: all are one
 ones-row : (bs : List Bool) → cubeBit (replicate (length bs) C1) bs ≡ allOf bs
@@ -33,8 +33,8 @@ zeros-row (b ∷ bs) = ap (λ (x : Bool). not b && x) (zeros-row bs) ∙ not-or 
 -- two masks of one more column: only the one with the bit's own column can hold
 module _ (v : List Bool) (R S : List Line) (bs : List Bool) where
   two-masks : (b x y : Bool) → cubesBit R (b ∷ bs) ≡ cubesBit S bs
-      → cubesBit (cond x (line true (C0 ∷ map colOf v) ∷ cond y (line true (C1 ∷ map colOf v) ∷ R) R) (cond y (line true (C1 ∷ map colOf v) ∷ R) R)) (b ∷ bs)
-      ≡ cubesBit (cond (cond b y x) (line true (map colOf v) ∷ S) S) bs
+      → cubesBit (cond x (coverRow true (C0 ∷ map colOf v) ∷ cond y (coverRow true (C1 ∷ map colOf v) ∷ R) R) (cond y (coverRow true (C1 ∷ map colOf v) ∷ R) R)) (b ∷ bs)
+      ≡ cubesBit (cond (cond b y x) (coverRow true (map colOf v) ∷ S) S) bs
   two-masks false false false ih = ih
   two-masks false false true ih = ih
   two-masks false true false ih = ap (λ (z : Bool). cubeBit (map colOf v) bs || z) ih
@@ -48,13 +48,13 @@ doubled-bit : (f : List Bool → Bool) (vs : List (List Bool)) (b : Bool) (bs : 
 doubled-bit f [] b bs = refl
 doubled-bit f (v ∷ vs) b bs =
     two-masks v (minterms f (doubled vs)) (minterms (λ (u : List Bool). f (b ∷ u)) vs) bs b (f (false ∷ v)) (f (true ∷ v)) (doubled-bit f vs b bs)
-    ∙ ap (λ (c : Bool). cubesBit (cond c (line true (map colOf v) ∷ minterms (λ (u : List Bool). f (b ∷ u)) vs) (minterms (λ (u : List Bool). f (b ∷ u)) vs)) bs) (pick b)
+    ∙ ap (λ (c : Bool). cubesBit (cond c (coverRow true (map colOf v) ∷ minterms (λ (u : List Bool). f (b ∷ u)) vs) (minterms (λ (u : List Bool). f (b ∷ u)) vs)) bs) (pick b)
   where
     pick : (b : Bool) → cond b (f (true ∷ v)) (f (false ∷ v)) ≡ f (b ∷ v)
     pick true = refl
     pick false = refl
 
-one-mask : (c : Bool) → cubesBit (cond c (line true [] ∷ []) []) [] ≡ c
+one-mask : (c : Bool) → cubesBit (cond c (coverRow true [] ∷ []) []) [] ≡ c
 one-mask true = refl
 one-mask false = refl
 
@@ -68,7 +68,7 @@ on-set : (f : List Bool → Bool) (vs : List (List Bool)) (bs : List Bool) → c
 on-set f [] bs = refl
 on-set f (v ∷ vs) bs = go (f v) (on-set f vs bs)
   where
-    go : (c : Bool) → coverBit (minterms f vs) bs ≡ cubesBit (minterms f vs) bs → coverBit (cond c (line true (map colOf v) ∷ minterms f vs) (minterms f vs)) bs ≡ cubesBit (cond c (line true (map colOf v) ∷ minterms f vs) (minterms f vs)) bs
+    go : (c : Bool) → coverBit (minterms f vs) bs ≡ cubesBit (minterms f vs) bs → coverBit (cond c (coverRow true (map colOf v) ∷ minterms f vs) (minterms f vs)) bs ≡ cubesBit (cond c (coverRow true (map colOf v) ∷ minterms f vs) (minterms f vs)) bs
     go false ih = ih
     go true ih = refl
 

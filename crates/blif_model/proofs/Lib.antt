@@ -17,9 +17,11 @@ pub mod Written
 pub mod WrittenOnce
 pub mod WrittenMeans
 pub mod Masks
+pub mod BlocksSaid
 pub mod Rendered
 pub mod NoFault
 pub mod Passed
+pub mod SizeLimits
 pub mod BuiltNet
 pub mod Accepted
 pub mod ReadNet

@@ -8,9 +8,15 @@ use Rattle.lists.specs.Lists.{Dup, find}
 use Rattle.lists.proofs.Places.{place-mem, map-place}
 use Rattle.lists.proofs.Find.{find-at, find-out}
 use Rattle.lists.proofs.Once.{dup-left, dup-right, dup-both}
-use Rattle.blif_model.specs.Blif.{Model, target}
-use Rattle.blif_model.specs.Build.{Looks}
+use Rattle.signal.specs.Signal.{Input, Gated, Signal, plain}
+use Rattle.blif_model.specs.Blif.{Block, Model, target}
 use Rattle.blif_model.specs.Lookup.{defined, signalOf, lookup}
+
+module _ {Name : Type 0} where
+  -- `look` gives each defined name its signal: what the search finds where no name is defined twice (refusal 10)
+  pub record Looks (m : Model Name) (look : Name → Signal) : Type 0 where
+    pub inputAt : (i : ℕ) (x : Name) → getElem? (m .inputs) i ≡ some x → look x ≡ plain (Input i)
+    pub blockAt : (j : ℕ) (b : Block Name) → getElem? (m .blocks) j ≡ some b → look (target b) ≡ plain (Gated j)
 
 module _ {Name : Type 0} (dec : (x y : Name) → Dec (x ≡ y)) where
   module _ (m : Model Name) (once : Dup (defined m) → ⊥) where

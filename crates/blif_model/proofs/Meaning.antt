@@ -12,7 +12,8 @@ use Rattle.network.proofs.Summary.{one-run}
 use Rattle.sort_order.specs.Sorted.{sorted}
 use Rattle.sort_order.proofs.Summary.{sorted-run}
 use Rattle.blif_model.specs.Blif.{Model, BlifClock, BlifRuns}
-use Rattle.blif_model.specs.Build.{build, Looks}
+use Rattle.blif_model.specs.Build.{build}
+use Rattle.blif_model.proofs.Lookups.{Looks}
 use Rattle.blif_model.specs.Lookup.{lookup}
 use Rattle.blif_model.specs.Demand.{Accepts}
 use Rattle.blif_model.proofs.Lookups.{looks}

@@ -15,7 +15,7 @@ use Rattle.lists.proofs.Once.{dup-left, dup-both}
 use Rattle.gates.specs.Gate.{FlipFlop, Dff}
 use Rattle.network.specs.Net.{Net, GateIs}
 use Rattle.signal.specs.Signal.{oneS, zeroS}
-use Rattle.blif_text.specs.Decls.{Decl, gate, cover, defs, defines, uses, columns, output, isOne}
+use Rattle.blif_text.specs.Decls.{Decl, gate, cover, defs, defines, usedNames, columns, output, isOne}
 use Rattle.blif_model.specs.Blif.{Col, C0, C1, Dash, Line, Block, Latch, Cover, Model, target}
 use Rattle.blif_model.specs.Build.{sources, optName, Defined, GoodLines, GoodBlock}
 use Rattle.blif_model.specs.Lookup.{defined}
@@ -24,7 +24,8 @@ use Rattle.blif_model.specs.Names.{nameBytes, byte-names}
 use Rattle.blif_model.specs.Render.{colByte, textOf}
 use Rattle.blif_model.specs.Read.{_then_, when, tooLarge, twice, naming, undefined, goodLine, coverFault, coverFaults, declFault, declsOf, readFault}
 use Rattle.blif_model.specs.Demand.{Accepts}
-use Rattle.blif_model.proofs.Rendered.{tok, tokOf, defOf, gateOf, last-at, cover-ins, cover-out, tok-columns, tok-one, textDecls, text-ascii, text-sound, decls-of, ins-are, outs-are, defs-are}
+use Rattle.blif_model.proofs.BlocksSaid.{tok, tokOf, defOf, gateOf, last-at, cover-ins, cover-out, tok-columns, tok-one}
+use Rattle.blif_model.proofs.Rendered.{textDecls, text-ascii, text-sound, decls-of, ins-are, outs-are, defs-are}
 
 -- ---- 10: no name twice
 
@@ -58,8 +59,8 @@ names-once seen earlier (Cover xs y ls ∷ bs) h =
 
 -- ---- 11: every name used is defined
 
-uses-sources : (b : Block Bytes) (x : Bytes) → List·Memᴰ x (uses (defOf b)) → List·Memᴰ x (sources b)
-unfolding uses
+uses-sources : (b : Block Bytes) (x : Bytes) → List·Memᴰ x (usedNames (defOf b)) → List·Memᴰ x (sources b)
+unfolding usedNames
 uses-sources (Latch f q) x m = Memᴰ·append-left (optName (f .enable) ++ optName (f .reset)) m
 uses-sources (Cover xs y ls) x m = subst (List·Memᴰ x) (cover-ins xs y) m
 
@@ -72,12 +73,12 @@ defines-all : (bs : List (Block Bytes)) → map defines (map defOf bs) ≡ map t
 defines-all [] = refl
 defines-all (b ∷ bs) = ap₂ (λ (x : Bytes) (l : List Bytes). x ∷ l) (defines-target b) (defines-all bs)
 
-uses-mem : (bs : List (Block Bytes)) (x : Bytes) → List·Memᴰ x (flatMap uses (map defOf bs)) → (b : Block Bytes) × List·Memᴰ b bs × List·Memᴰ x (sources b)
+uses-mem : (bs : List (Block Bytes)) (x : Bytes) → List·Memᴰ x (flatMap usedNames (map defOf bs)) → (b : Block Bytes) × List·Memᴰ b bs × List·Memᴰ x (sources b)
 unfolding flatMap
 uses-mem [] x m = absurd (List·Memᴰ·not-nil m)
 uses-mem (b ∷ bs) x m =
-    ⊎-elim (λ (w : List·Memᴰ x (uses (defOf b))). (b, List·Memᴰ·head refl, uses-sources b x w))
-    (λ (w : List·Memᴰ x (flatMap uses (map defOf bs))). let t = uses-mem bs x w in (t .0, List·Memᴰ·tail (t .1), t .2)) (List·Memᴰ·append-cases (uses (defOf b)) m)
+    ⊎-elim (λ (w : List·Memᴰ x (usedNames (defOf b))). (b, List·Memᴰ·head refl, uses-sources b x w))
+    (λ (w : List·Memᴰ x (flatMap usedNames (map defOf bs))). let t = uses-mem bs x w in (t .0, List·Memᴰ·tail (t .1), t .2)) (List·Memᴰ·append-cases (usedNames (defOf b)) m)
 
 defined-mem : (m : Model Bytes) (x : Bytes) → Defined m x → List·Memᴰ x (defined m)
 defined-mem m x (inl (i, e)) = Memᴰ·append-left (map target (m .blocks)) (place-mem (m .inputs) i x e)
@@ -152,11 +153,11 @@ module _ (net : Net) (plainFlops : (g : ℕ) (s : FlipFlop) → GateIs net g (Df
       rw (not-twice [] (w .inputs) (λ d. acc .once (dup-left (w .inputs) (map target (w .blocks)) d)))
       (names-once true (w .inputs) (w .blocks) (acc .once))
 
-  all-known : (x : Bytes) → List·Memᴰ x (w .outputs ++ flatMap uses (map defOf (w .blocks))) → known x (defined w) ≡ true
+  all-known : (x : Bytes) → List·Memᴰ x (w .outputs ++ flatMap usedNames (map defOf (w .blocks))) → known x (defined w) ≡ true
   all-known x m =
       mem-known x (defined w) (defined-mem w x (
       ⊎-elim (λ (v : List·Memᴰ x (w .outputs)). acc .closed .outputsDefined x v)
-      (λ (v : List·Memᴰ x (flatMap uses (map defOf (w .blocks)))). let t = uses-mem (w .blocks) x v in acc .closed .sourcesDefined (t .0) x (t .1) (t .2)) (List·Memᴰ·append-cases (w .outputs) m)))
+      (λ (v : List·Memᴰ x (flatMap usedNames (map defOf (w .blocks)))). let t = uses-mem (w .blocks) x v in acc .closed .sourcesDefined (t .0) x (t .1) (t .2)) (List·Memᴰ·append-cases (w .outputs) m)))
 
   none-undefined : undefined dl ≡ false
   unfolding undefined
@@ -164,8 +165,8 @@ module _ (net : Net) (plainFlops : (g : ℕ) (s : FlipFlop) → GateIs net g (Df
       let is = ins-are net plainFlops in
       let os = outs-are net plainFlops in
       let gs = defs-are net plainFlops in
-      (λ i. not (all (λ (n : Bytes). known n (is i ++ (ap (map defines) gs ∙ defines-all (w .blocks)) i)) (os i ++ flatMap uses (gs i))))
-      ∙ ap not (mem-all (λ (n : Bytes). known n (defined w)) (w .outputs ++ flatMap uses (map defOf (w .blocks))) all-known)
+      (λ i. not (all (λ (n : Bytes). known n (is i ++ (ap (map defines) gs ∙ defines-all (w .blocks)) i)) (os i ++ flatMap usedNames (gs i))))
+      ∙ ap not (mem-all (λ (n : Bytes). known n (defined w)) (w .outputs ++ flatMap usedNames (map defOf (w .blocks))) all-known)
 
   no-cover-fault : coverFaults (defs dl) ≡ 0
   no-cover-fault = ap coverFaults (defs-are net plainFlops) ∙ covers-good (w .blocks) (acc .good)

@@ -16,13 +16,13 @@ use Rattle.lists.proofs.Range.{all-mem, any-none}
 use Rattle.lists.proofs.Known.{known-mem, unknown-out}
 use Rattle.lists.proofs.Once.{once-nil, dup-left, dup-right, dup-both, dup-append}
 use Rattle.network.specs.Net.{Valid}
-use Rattle.blif_text.specs.Decls.{Def, latch, cover, Decl, model, end, inputs, outputs, gate, insOf, defsOf, ins, outs, defs, coverOut, coverIns, defines, uses, columns, output, isOne}
+use Rattle.blif_text.specs.Decls.{Def, latch, cover, Decl, model, end, inputs, outputs, gate, insOf, defsOf, ins, outs, defs, coverOut, coverIns, defines, usedNames, columns, output, isOne}
 use Rattle.blif_model.specs.Blif.{Model, target}
 use Rattle.blif_model.specs.Build.{sources, Defined, Closed, GoodLines, GoodBlock}
-use Rattle.blif_model.specs.Lookup.{defined, lookup}
+use Rattle.blif_model.specs.Lookup.{defined}
 use Rattle.blif_model.specs.Names.{byte-names}
 use Rattle.blif_model.specs.Render.{colOfByte, lineOf, blockOf, modelOf}
-use Rattle.blif_model.specs.Read.{_then_, when, tooLarge, twice, naming, undefined, goodLine, coverFault, coverFaults, declFault, builtFrom}
+use Rattle.blif_model.specs.Read.{_then_, when, tooLarge, twice, naming, undefined, goodLine, coverFault, coverFaults, declFault, look, builtFrom}
 use Rattle.blif_model.proofs.Lookups.{looks}
 use Rattle.blif_model.proofs.BuiltValid.{built-valid}
 
@@ -155,17 +155,17 @@ targets-of : (gs : List Def) → map target (map blockOf gs) ≡ map defines gs
 targets-of [] = refl
 targets-of (g ∷ gs) = ap₂ (λ (x : Bytes) (l : List Bytes). x ∷ l) (target-of g) (targets-of gs)
 
-sources-of : (g : Def) → sources (blockOf g) ≡ uses g
-unfolding uses
+sources-of : (g : Def) → sources (blockOf g) ≡ usedNames g
+unfolding usedNames
 sources-of (latch d q) = refl
 sources-of (cover ns ls) = refl
 
 -- ---- 11
 
-uses-in : (gs : List Def) (g : Def) (x : Bytes) → List·Memᴰ g gs → List·Memᴰ x (uses g) → List·Memᴰ x (flatMap uses gs)
+uses-in : (gs : List Def) (g : Def) (x : Bytes) → List·Memᴰ g gs → List·Memᴰ x (usedNames g) → List·Memᴰ x (flatMap usedNames gs)
 unfolding flatMap
-uses-in _ g x (List·Memᴰ·head {x = h} {xs = gs} e) m = Memᴰ·append-left (flatMap uses gs) (subst (λ (k : Def). List·Memᴰ x (uses k)) e m)
-uses-in _ g x (List·Memᴰ·tail {x = h} {xs = gs} w) m = Memᴰ·append-right (uses h) (uses-in gs g x w m)
+uses-in _ g x (List·Memᴰ·head {x = h} {xs = gs} e) m = Memᴰ·append-left (flatMap usedNames gs) (subst (λ (k : Def). List·Memᴰ x (usedNames k)) e m)
+uses-in _ g x (List·Memᴰ·tail {x = h} {xs = gs} w) m = Memᴰ·append-right (usedNames h) (uses-in gs g x w m)
 
 module _ (ds : List Decl) where
   abbrev m : Model Bytes
@@ -184,11 +184,11 @@ module _ (ds : List Decl) where
   unfolding undefined
   closed-of e =
       let names : List Bytes = ins ds ++ map defines (defs ds) in
-      let used : List Bytes = outs ds ++ flatMap uses (defs ds) in
-      let a : all (λ (n : Bytes). known n (ins ds ++ map defines (defs ds))) (outs ds ++ flatMap uses (defs ds)) ≡ true = not-false (all (λ (n : Bytes). known n (ins ds ++ map defines (defs ds))) (outs ds ++ flatMap uses (defs ds))) e in
-      let k : (x : Bytes) → List·Memᴰ x used → Defined m x = λ x w. mem-defined x (known-mem x names (all-mem (λ (n : Bytes). known n (ins ds ++ map defines (defs ds))) (outs ds ++ flatMap uses (defs ds)) a x w)) in
+      let used : List Bytes = outs ds ++ flatMap usedNames (defs ds) in
+      let a : all (λ (n : Bytes). known n (ins ds ++ map defines (defs ds))) (outs ds ++ flatMap usedNames (defs ds)) ≡ true = not-false (all (λ (n : Bytes). known n (ins ds ++ map defines (defs ds))) (outs ds ++ flatMap usedNames (defs ds))) e in
+      let k : (x : Bytes) → List·Memᴰ x used → Defined m x = λ x w. mem-defined x (known-mem x names (all-mem (λ (n : Bytes). known n (ins ds ++ map defines (defs ds))) (outs ds ++ flatMap usedNames (defs ds)) a x w)) in
       record {
-        outputsDefined = λ x w. k x (Memᴰ·append-left (flatMap uses (defs ds)) w);
+        outputsDefined = λ x w. k x (Memᴰ·append-left (flatMap usedNames (defs ds)) w);
         sourcesDefined = λ b x w v.
             let t = Memᴰ·of-map blockOf (defs ds) w in
             k x (Memᴰ·append-right (outs ds) (uses-in (defs ds) (t .0) x (t .1) (subst (List·Memᴰ x) (ap sources (sym (t .2)) ∙ sources-of (t .0)) v)));
@@ -263,4 +263,4 @@ passed ds e =
 -- the gates built for them have valid signals
 pub passed-valid : (ds : List Decl) → Passed ds → Valid (builtFrom ds)
 unfolding builtFrom
-passed-valid ds p = built-valid (modelOf ds) (lookup byte-names (modelOf ds)) (looks byte-names (modelOf ds) (once-of ds (p .named))) (closed-of ds (p .used))
+passed-valid ds p = built-valid (modelOf ds) (look ds) (looks byte-names (modelOf ds) (once-of ds (p .named))) (closed-of ds (p .used))

@@ -12,7 +12,8 @@ use Rattle.gates.specs.Gate.{Gate}
 use Rattle.network.specs.Net.{GateIs}
 use Rattle.network.specs.Clock.{Clock, sigBit}
 use Rattle.blif_model.specs.Blif.{Line, Feed, Block, Latch, Cover, Model, target, optBit, blockBit, coverBit, BlifClock}
-use Rattle.blif_model.specs.Build.{optSig, lineGate, lineGates, blockGate, moreGates, mains, extras, build, Looks, Closed, GoodBlock}
+use Rattle.blif_model.specs.Build.{optSig, lineGate, lineGates, blockGate, moreGates, mains, extras, build, Closed, GoodBlock}
+use Rattle.blif_model.proofs.Lookups.{Looks}
 use Rattle.lists.proofs.Places.{place-mem, mem-place, place-left, place-right, map-map}
 use Rattle.blif_model.proofs.Covers.{lineBit, linesBits, line-bit, cover-bit}
 use Rattle.blif_model.proofs.Along.{Seg}

@@ -2,21 +2,21 @@
 use mathlib.Core.Path.{_≡_, refl, sym, ap, _∙_}
 use mathlib.Core.List.{List, map}
 use mathlib.Core.Option.{some}
-use Prim.Native.Nat.{ℕ, _≤_, _<_}
+use Prim.Native.Nat.{ℕ, _<_}
 use native.Mathlib.Omega.{arith}
 use lib.ListN.{length, getElem?, length-map}
 use Rattle.lists.specs.Lists.{Bytes, sumOf}
 use Rattle.lists.proofs.Every.{every-place}
 use Rattle.gates.specs.Gate.{Gate}
 use Rattle.network.specs.Net.{Net, Valid, Formed, Feeds, Way, last, more, Loop}
-use Rattle.network.specs.Cells.{maxInputs, maxOutputs, maxGates, maxPins, pinCells}
+use Rattle.network.specs.Cells.{WithinSizes, pinCells}
 use Rattle.sort_order.specs.Sorted.{sorted}
 use Rattle.sort_order.proofs.Summary.{sorted-keeps, inputs-lower}
 use Rattle.blif_text.specs.Decls.{Decl, ins, outs, defs}
-use Rattle.blif_model.specs.Read.{declsOf, read, builtFrom, readText}
-use Rattle.blif_model.specs.Built.{look}
+use Rattle.blif_model.specs.Read.{declsOf, read, look, builtFrom, readText}
 use Rattle.blif_model.proofs.BuiltCounts.{built-gates, built-pins, built-formed}
-use Rattle.blif_model.proofs.BuiltNet.{within, gates-are}
+use Rattle.blif_model.proofs.BuiltNet.{gates-are}
+use Rattle.blif_model.proofs.SizeLimits.{sizes-within}
 use Rattle.blif_model.proofs.Passed.{passed-valid}
 use Rattle.blif_model.proofs.Accepted.{passed-read}
 
@@ -25,10 +25,7 @@ pub record NetRead (net : Net) : Type 0 where
   pub valid : Valid net
   pub formed : Formed net
   pub free : Loop net → ⊥
-  pub inputs : net .inputs ≤ maxInputs
-  pub gates : length (net .gates) ≤ maxGates
-  pub pins : length (pinCells (net .gates)) ≤ maxPins
-  pub outputs : length (net .outputs) ≤ maxOutputs
+  pub sizes : WithinSizes (net .inputs) (length (net .outputs)) (length (net .gates)) (length (pinCells (net .gates)))
 
 module _ (net new : Net) (valid : Valid net) (e : sorted net ≡ some new) where
   -- a way goes upwards in a sorted network
@@ -52,7 +49,7 @@ unfolding builtFrom
 read-net s new e =
     let r = passed-read s new e in
     let ds = declsOf s in
-    let w = within ds (r .0 .within) in
+    let w = sizes-within ds (r .0 .within) in
     let valid = passed-valid ds (r .0) in
     let k = sorted-keeps (builtFrom ds) new valid (r .1) in
     let g = ap length (gates-are ds) in
@@ -61,8 +58,11 @@ read-net s new e =
       valid = k .valid;
       formed = k .formed (formed-built ds);
       free = sorted-no-loop (builtFrom ds) new valid (r .1);
-      inputs = omega (arith, k .inputs, w .inputs);
-      gates = omega (arith, k .gates, g, built-gates (look ds) (defs ds), w .gates);
-      pins = omega (arith, k .pins, p, built-pins (look ds) (defs ds), w .pins);
-      outputs = omega (arith, k .outputs, length-map (outs ds) (look ds), w .outputs);
+      sizes =
+          record {
+            inputs = omega (arith, k .inputs, w .inputs);
+            outputs = omega (arith, k .outputs, length-map (outs ds) (look ds), w .outputs);
+            gates = omega (arith, k .gates, g, built-gates (look ds) (defs ds), w .gates);
+            pins = omega (arith, k .pins, p, built-pins (look ds) (defs ds), w .pins);
+          };
     }

@@ -16,7 +16,8 @@ use Rattle.gates.specs.Gate.{Gate}
 use Rattle.network.specs.Net.{Net}
 use Rattle.network.specs.Clock.{Fits, Clock, sigBit, gateBit}
 use Rattle.blif_model.specs.Blif.{Line, Feed, Block, Latch, Cover, Model, target, optBit, blockBit, coverBit, BlifClock}
-use Rattle.blif_model.specs.Build.{lineGate, optSig, optName, blockGate, moreGates, mains, extras, build, sources, Defined, Looks, Closed, GoodBlock}
+use Rattle.blif_model.specs.Build.{lineGate, optSig, optName, blockGate, moreGates, mains, extras, build, sources, Defined, Closed, GoodBlock}
+use Rattle.blif_model.proofs.Lookups.{Looks}
 use Rattle.lists.proofs.Places.{place-mem, place-left, map-on, map-map, map-place}
 use Rattle.blif_model.proofs.Covers.{lineBit, linesBits, line-bit, cover-bit}
 use Rattle.blif_model.proofs.Along.{Seg, seg-append, seg-of, Each, each-of, place-front}

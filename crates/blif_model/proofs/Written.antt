@@ -16,7 +16,7 @@ use Rattle.gates.specs.Gate.{Form, And2, Xor2, And3, Xor3, Maj3, Mux3, AndN, Or
 use Rattle.network.specs.Net.{Net, GateIs, Formed, Valid, ValidNode}
 use Rattle.blif_model.specs.Blif.{C0, C1, Block, Latch, Cover, Model, target}
 use Rattle.blif_model.specs.Build.{optName, sources, Defined, Closed, GoodLines, GoodBlock}
-use Rattle.blif_model.specs.Write.{isConst, unless, feedOf, line, colOf, doubled, masks, minterms, even, linesOf, sameNode, usedAmong, named, usedIn, inverted, downTo, inverters, bare, gateName, combBlock, latchBlocks, combBlocks, inverterBlock, constBlocks, written}
+use Rattle.blif_model.specs.Write.{isConst, unless, feedOf, coverRow, colOf, doubled, masks, minterms, even, linesOf, sameNode, usedAmong, named, usedIn, inverted, downTo, inverters, bare, gateName, combBlock, latchBlocks, combBlocks, inverterBlock, constBlocks, written}
 use Rattle.lists.specs.Lists.{range}
 use Rattle.lists.proofs.Places.{place-mem, mem-place, lt-place, map-place}
 use Rattle.network.proofs.OneChoice.{Ranked}
@@ -43,7 +43,7 @@ minterms-good : (n : ℕ) (f : List Bool → Bool) (vs : List (List Bool)) → (
 minterms-good n f [] h = tt
 minterms-good n f (v ∷ vs) h = go (f v) (minterms-good n f vs (λ u m. h u (List·Memᴰ·tail m)))
   where
-    go : (c : Bool) → GoodLines n true (minterms f vs) → GoodLines n true (cond c (line true (map colOf v) ∷ minterms f vs) (minterms f vs))
+    go : (c : Bool) → GoodLines n true (minterms f vs) → GoodLines n true (cond c (coverRow true (map colOf v) ∷ minterms f vs) (minterms f vs))
     go false g = g
     go true g = (length-map v colOf ∙ h v (List·Memᴰ·head refl), refl, g)
 
@@ -226,7 +226,7 @@ module _ {Name : Type 0} (name : Signal → Name) where
         go : (i : Bool) → s .inv ≡ i → (n : Node) → s .node ≡ n → Defined m (name s)
         go false e n q = subst (λ (t : Signal). Defined m (name t)) (λ i. record { node = s .node; inv = sym e i }) (node-defined (s .node) v)
         go true e Const q = subst (λ (t : Signal). Defined m (name t)) (λ i. record { node = sym q i; inv = sym e i })
-            (block-defines (Cover [] (name oneS) (line true [] ∷ [])) (name oneS) refl (in-const (Cover [] (name oneS) (line true [] ∷ [])) (List·Memᴰ·head refl)))
+            (block-defines (Cover [] (name oneS) (coverRow true [] ∷ [])) (name oneS) refl (in-const (Cover [] (name oneS) (coverRow true [] ∷ [])) (List·Memᴰ·head refl)))
         go true e (Input k) q = subst (λ (t : Signal). Defined m (name t)) (λ i. record { node = s .node; inv = sym e i })
             (inverter-defined (s .node) v (λ w. let z : _≡_ {A = ℕ} 0 1 = cc in omega arith) (u e))
         go true e (Gated k) q = subst (λ (t : Signal). Defined m (name t)) (λ i. record { node = s .node; inv = sym e i })

@@ -103,13 +103,6 @@ module _ {Name : Type 0} where
   abbrev pub Defined : Model Name → Name → Type 0
   Defined m x = ((i : ℕ) × (getElem? (m .inputs) i ≡ some x)) ⊎ ((j : ℕ) × (b : Block Name) × (getElem? (m .blocks) j ≡ some b) × (target b ≡ x))
 
-  -- `look` gives each defined name its signal: what the search finds where no name is defined twice (refusal 10)
-  pub record Looks (m : Model Name) (look : Name → Signal) : Type 0 where
-    -- input i is input signal i
-    pub inputAt : (i : ℕ) (x : Name) → getElem? (m .inputs) i ≡ some x → look x ≡ plain (Input i)
-    -- block j is gate j
-    pub blockAt : (j : ℕ) (b : Block Name) → getElem? (m .blocks) j ≡ some b → look (target b) ≡ plain (Gated j)
-
   -- no refusal 11
   pub record Closed (m : Model Name) : Type 0 where
     -- every output is defined

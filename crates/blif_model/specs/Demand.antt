@@ -1,19 +1,18 @@
 -- What demand 3 asks of a network and says of two, and the models that reading accepts (document 01). Assumes nothing: these are
 -- definitions.
 use mathlib.Core.Path.{_≡_}
-use mathlib.Core.Bool.{Bool}
+use mathlib.Core.Bool.{Bool, false}
 use mathlib.Core.List.{List, List·Memᴰ}
-use Prim.Native.Nat.{ℕ, _≤_}
+use Prim.Native.Nat.{ℕ}
 use lib.ListN.{length}
 use Rattle.lists.specs.Lists.{Dup}
-use Rattle.signal.specs.Signal.{Signal}
-use Rattle.gates.specs.Gate.{XorN, XnorN, Gate, Comb}
+use Rattle.gates.specs.Gate.{Gate}
 use Rattle.network.specs.Net.{Net, GateIs, Valid, Loop}
 use Rattle.network.specs.Settle.{run}
 use Rattle.blif_model.specs.Blif.{Block, Model}
 use Rattle.blif_model.specs.Lookup.{defined, lookup}
 use Rattle.blif_model.specs.Build.{build, Closed, GoodBlock}
-use Rattle.blif_model.specs.Write.{PlainGate}
+use Rattle.blif_model.specs.Write.{wide, PlainGate}
 
 -- "a valid, loop-free network with no exclusive gate over 12 inputs and plain flip-flops"
 pub record Good (net : Net) : Type 0 where
@@ -23,10 +22,8 @@ pub record Good (net : Net) : Type 0 where
   pub free : Loop net → ⊥
   -- pin counts that the forms can have, and plain flip-flops
   pub plainGates : (g : ℕ) (x : Gate) → GateIs net g x → PlainGate x
-  -- no Xor over 12 inputs
-  pub narrowXor : (g : ℕ) (ps : List Signal) → GateIs net g (Comb XorN ps) → length ps ≤ 12
-  -- no Xnor over 12 inputs
-  pub narrowXnor : (g : ℕ) (ps : List Signal) → GateIs net g (Comb XnorN ps) → length ps ≤ 12
+  -- no exclusive gate over 12 inputs
+  pub narrow : (g : ℕ) (x : Gate) → GateIs net g x → wide x ≡ false
 
 -- as many inputs and outputs, and for every list of input rows equal outputs at every clock from zero
 pub record SameOutputs (a b : Net) : Type 0 where

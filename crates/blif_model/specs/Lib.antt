@@ -6,6 +6,5 @@ pub mod Names
 pub mod Render
 pub mod Read
 pub mod Working
-pub mod Built
 pub mod Demand
 pub mod Cases

@@ -7,12 +7,13 @@ use Prim.Native.Nat.{ℕ, zero, suc, _+_, _-_, _*_}
 use lib.Dec.{eqb, leb, ltb}
 use lib.ListN.{length}
 use Rattle.lists.specs.Lists.{if_then_else_, Bytes, all, any, sumOf, elem, known}
+use Rattle.signal.specs.Signal.{Signal}
 use Rattle.network.specs.Net.{Net}
 use Rattle.network.specs.Cells.{maxInputs, maxOutputs, maxGates, maxPins}
 use Rattle.sort_order.specs.Sorted.{sorted}
 use Rattle.blif_text.specs.Places.{maxText}
 use Rattle.blif_text.specs.Statements.{parsed, firstBad, stmts}
-use Rattle.blif_text.specs.Decls.{Def, latch, cover, Decl, model, end, inputs, outputs, gate, decls, ins, outs, defs, coverOut, defines, uses, columns, output, isOne}
+use Rattle.blif_text.specs.Decls.{Def, latch, cover, Decl, model, end, inputs, outputs, gate, decls, ins, outs, defs, coverOut, defines, usedNames, columns, output, isOne}
 use Rattle.blif_model.specs.Lookup.{lookup}
 use Rattle.blif_model.specs.Build.{build}
 use Rattle.blif_model.specs.Names.{byte-names}
@@ -46,11 +47,13 @@ unfoldable pub pinCount : Def → ℕ
 pinCount (latch d q) = 3
 pinCount (cover ns ls) = (length ls + 1) * (length ns - 1 + 2)
 
--- "256 inputs; 256 outputs; 1,024 gates; 16,384 pins"
+-- a size is passed: "256 inputs; 256 outputs; 1,024 gates; 16,384 pins"
+abbrev pub overSizes : ℕ → ℕ → ℕ → ℕ → Bool
+overSizes i o g p = ltb maxInputs i || ltb maxOutputs o || ltb maxGates g || ltb maxPins p
+
+-- "6 when a size is passed"
 unfoldable pub tooLarge : List Decl → Bool
-tooLarge ds =
-    ltb maxInputs (length (ins ds)) || ltb maxOutputs (length (outs ds))
-    || ltb maxGates (sumOf gateCount (defs ds)) || ltb maxPins (sumOf pinCount (defs ds))
+tooLarge ds = overSizes (length (ins ds)) (length (outs ds)) (sumOf gateCount (defs ds)) (sumOf pinCount (defs ds))
 
 -- ---- 7 to 10: naming
 
@@ -76,7 +79,7 @@ naming seen earlier (gate (cover (n ∷ ns) ls) ∷ ds) =
 
 -- "11 when an output, latch input or cover input is undefined"
 unfoldable pub undefined : List Decl → Bool
-undefined ds = not (all (λ n. known n (ins ds ++ map defines (defs ds))) (outs ds ++ flatMap uses (defs ds)))
+undefined ds = not (all (λ n. known n (ins ds ++ map defines (defs ds))) (outs ds ++ flatMap usedNames (defs ds)))
 
 -- "12 when a line has neither one nor two tokens, or the wrong number of columns, a column other than 0, 1, dash, or an output
 -- other than 0, 1"
@@ -122,9 +125,13 @@ answer zero none = refused 14
 answer zero (some n) = read n
 answer (suc f) n = refused (suc f)
 
+-- the signal of a name that these declarations define
+abbrev pub look : List Decl → Bytes → Signal
+look ds = lookup byte-names (modelOf ds)
+
 -- the gates as built
 unfoldable pub builtFrom : List Decl → Net
-builtFrom ds = build (lookup byte-names (modelOf ds)) (modelOf ds)
+builtFrom ds = build (look ds) (modelOf ds)
 
 -- what reading gives, where the cells suffice
 unfoldable pub readText : Bytes → Result

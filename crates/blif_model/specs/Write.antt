@@ -5,20 +5,20 @@ use mathlib.Core.Bool.{Bool, true, false, not, _&&_, _||_, cond}
 use mathlib.Core.List.{List, [], _∷_, _++_, map}
 use mathlib.Core.Option.{Option, none, some}
 use Prim.Native.Nat.{ℕ, zero, suc}
-use lib.Dec.{eqb}
+use lib.Dec.{eqb, ltb}
 use lib.ListN.{length, replicate}
-use Rattle.lists.specs.Lists.{range, filter}
+use Rattle.lists.specs.Lists.{range, filter, elem}
 use Rattle.signal.specs.Signal.{Node, Const, Input, Gated, Signal, plain, zeroS, oneS, turned, constNode}
 use Rattle.gates.specs.Gate.{odd, Form, And2, Xor2, And3, Xor3, Maj3, Mux3, AndN, OrN, NandN, NorN, XorN, XnorN, Buf, FlipFlop, Gate, Comb, Dff, pins}
-use Rattle.gates.specs.Forms.{canHave}
+use Rattle.gates.specs.Forms.{formNumber, formCell, canHave}
 use Rattle.network.specs.Net.{Net}
 use Rattle.blif_model.specs.Blif.{Col, C0, C1, Dash, Line, Feed, Block, Latch, Cover, Model}
 
 -- ---- cover lines
 
 -- a row with its output
-abbrev pub line : Bool → List Col → Line
-line o cs = record { cols = cs; out = o }
+abbrev pub coverRow : Bool → List Col → Line
+coverRow o cs = record { cols = cs; out = o }
 
 -- each vector behind a zero and behind a one
 abbrev pub doubled : List (List Bool) → List (List Bool)
@@ -38,7 +38,7 @@ colOf false = C0
 -- "those with an odd or even number of ones, output 1": the masks at which f is one
 abbrev pub minterms : (List Bool → Bool) → List (List Bool) → List Line
 minterms f [] = []
-minterms f (v ∷ vs) = cond (f v) (line true (map colOf v) ∷ minterms f vs) (minterms f vs)
+minterms f (v ∷ vs) = cond (f v) (coverRow true (map colOf v) ∷ minterms f vs) (minterms f vs)
 
 -- "an .. even number of ones"
 abbrev pub even : List Bool → Bool
@@ -47,19 +47,19 @@ even v = not (odd v)
 -- the cover lines of a gate of this form with n inputs: "And 11; Xor 10, 01; And 111; Xor 111, 100, 010, 001; Mux 11-, 0-1; Maj 11-, -11,
 -- 1-1; all with output 1. Nary And and Nand have one line of ones (output 1, 0), Or and Nor one line of zeros (0, 1)"; Buf `1 1`
 abbrev pub linesOf : Form → ℕ → List Line
-linesOf And2 n = line true (C1 ∷ C1 ∷ []) ∷ []
-linesOf Xor2 n = line true (C1 ∷ C0 ∷ []) ∷ line true (C0 ∷ C1 ∷ []) ∷ []
-linesOf And3 n = line true (C1 ∷ C1 ∷ C1 ∷ []) ∷ []
-linesOf Xor3 n = line true (C1 ∷ C1 ∷ C1 ∷ []) ∷ line true (C1 ∷ C0 ∷ C0 ∷ []) ∷ line true (C0 ∷ C1 ∷ C0 ∷ []) ∷ line true (C0 ∷ C0 ∷ C1 ∷ []) ∷ []
-linesOf Maj3 n = line true (C1 ∷ C1 ∷ Dash ∷ []) ∷ line true (Dash ∷ C1 ∷ C1 ∷ []) ∷ line true (C1 ∷ Dash ∷ C1 ∷ []) ∷ []
-linesOf Mux3 n = line true (C1 ∷ C1 ∷ Dash ∷ []) ∷ line true (C0 ∷ Dash ∷ C1 ∷ []) ∷ []
-linesOf AndN n = line true (replicate n C1) ∷ []
-linesOf OrN n = line false (replicate n C0) ∷ []
-linesOf NandN n = line false (replicate n C1) ∷ []
-linesOf NorN n = line true (replicate n C0) ∷ []
+linesOf And2 n = coverRow true (C1 ∷ C1 ∷ []) ∷ []
+linesOf Xor2 n = coverRow true (C1 ∷ C0 ∷ []) ∷ coverRow true (C0 ∷ C1 ∷ []) ∷ []
+linesOf And3 n = coverRow true (C1 ∷ C1 ∷ C1 ∷ []) ∷ []
+linesOf Xor3 n = coverRow true (C1 ∷ C1 ∷ C1 ∷ []) ∷ coverRow true (C1 ∷ C0 ∷ C0 ∷ []) ∷ coverRow true (C0 ∷ C1 ∷ C0 ∷ []) ∷ coverRow true (C0 ∷ C0 ∷ C1 ∷ []) ∷ []
+linesOf Maj3 n = coverRow true (C1 ∷ C1 ∷ Dash ∷ []) ∷ coverRow true (Dash ∷ C1 ∷ C1 ∷ []) ∷ coverRow true (C1 ∷ Dash ∷ C1 ∷ []) ∷ []
+linesOf Mux3 n = coverRow true (C1 ∷ C1 ∷ Dash ∷ []) ∷ coverRow true (C0 ∷ Dash ∷ C1 ∷ []) ∷ []
+linesOf AndN n = coverRow true (replicate n C1) ∷ []
+linesOf OrN n = coverRow false (replicate n C0) ∷ []
+linesOf NandN n = coverRow false (replicate n C1) ∷ []
+linesOf NorN n = coverRow true (replicate n C0) ∷ []
 linesOf XorN n = minterms odd (masks n)
 linesOf XnorN n = minterms even (masks n)
-linesOf Buf n = line true (C1 ∷ []) ∷ []
+linesOf Buf n = coverRow true (C1 ∷ []) ∷ []
 
 -- ---- which signals need an inverter
 
@@ -82,20 +82,7 @@ usedAmong n (s ∷ ss) = (s .inv && sameNode (s .node) n) || usedAmong n ss
 
 -- the signals of a gate that are written by name, inverted or not: "inputs of every gate but Buf"
 abbrev pub named : Gate → List Signal
-named (Comb And2 ps) = ps
-named (Comb Xor2 ps) = ps
-named (Comb And3 ps) = ps
-named (Comb Xor3 ps) = ps
-named (Comb Maj3 ps) = ps
-named (Comb Mux3 ps) = ps
-named (Comb AndN ps) = ps
-named (Comb OrN ps) = ps
-named (Comb NandN ps) = ps
-named (Comb NorN ps) = ps
-named (Comb XorN ps) = ps
-named (Comb XnorN ps) = ps
-named (Comb Buf ps) = []
-named (Dff s) = pins (Dff s)
+named x = cond (eqb (formCell x) (formNumber Buf)) [] (pins x)
 
 -- the node is used inverted by these gates
 abbrev pub usedIn : Node → List Gate → Bool
@@ -133,7 +120,7 @@ module _ {Name : Type 0} (name : Signal → Name) where
 
   -- "Buf names its signal without inversion (one becomes `gnd`), then `1 1` or `0 1`"
   abbrev pub bufBlock : ℕ → List Signal → Block Name
-  bufBlock g ps = Cover (map (λ (s : Signal). name (bare s)) ps) (gateName g) (line true (map (λ (s : Signal). colOf (not (s .inv))) ps) ∷ [])
+  bufBlock g ps = Cover (map (λ (s : Signal). name (bare s)) ps) (gateName g) (coverRow true (map (λ (s : Signal). colOf (not (s .inv))) ps) ∷ [])
 
   -- "a gate is `.names`, its inputs' names and `xN`", and its form's lines
   abbrev pub formBlock : ℕ → Form → List Signal → Block Name
@@ -141,19 +128,7 @@ module _ {Name : Type 0} (name : Signal → Name) where
 
   -- the cover of a combinational gate
   abbrev pub combBlock : ℕ → Form → List Signal → Block Name
-  combBlock g And2 ps = formBlock g And2 ps
-  combBlock g Xor2 ps = formBlock g Xor2 ps
-  combBlock g And3 ps = formBlock g And3 ps
-  combBlock g Xor3 ps = formBlock g Xor3 ps
-  combBlock g Maj3 ps = formBlock g Maj3 ps
-  combBlock g Mux3 ps = formBlock g Mux3 ps
-  combBlock g AndN ps = formBlock g AndN ps
-  combBlock g OrN ps = formBlock g OrN ps
-  combBlock g NandN ps = formBlock g NandN ps
-  combBlock g NorN ps = formBlock g NorN ps
-  combBlock g XorN ps = formBlock g XorN ps
-  combBlock g XnorN ps = formBlock g XnorN ps
-  combBlock g Buf ps = bufBlock g ps
+  combBlock g f ps = cond (eqb (formNumber f) (formNumber Buf)) (bufBlock g ps) (formBlock g f ps)
 
   -- the name, unless the signal is that constant
   abbrev pub unless : Bool → Signal → Option Name
@@ -177,11 +152,11 @@ module _ {Name : Type 0} (name : Signal → Name) where
 
   -- "an inverter is `.names s s_n` and `0 1`"
   abbrev pub inverterBlock : Node → Block Name
-  inverterBlock n = Cover (name (plain n) ∷ []) (name (turned (plain n))) (line true (C0 ∷ []) ∷ [])
+  inverterBlock n = Cover (name (plain n) ∷ []) (name (turned (plain n))) (coverRow true (C0 ∷ []) ∷ [])
 
   -- "`vdd`, `gnd`"
   abbrev pub constBlocks : List (Block Name)
-  constBlocks = Cover [] (name oneS) (line true [] ∷ []) ∷ Cover [] (name zeroS) [] ∷ []
+  constBlocks = Cover [] (name oneS) (coverRow true [] ∷ []) ∷ Cover [] (name zeroS) [] ∷ []
 
   -- "inputs, outputs, latches, gates, inverters, `vdd`, `gnd`"
   abbrev pub written : Net → Model Name
@@ -190,6 +165,24 @@ module _ {Name : Type 0} (name : Signal → Name) where
     outputs = map name (net .outputs);
     blocks = latchBlocks 0 (net .gates) ++ (combBlocks 0 (net .gates) ++ (map inverterBlock (inverters net) ++ constBlocks));
   }
+
+-- ---- refusal 21, and demand 3
+
+-- the form of this number is "an Xor or Xnor of the Nary form"
+abbrev pub exclusive : ℕ → Bool
+exclusive form = elem form (formNumber XorN ∷ formNumber XnorN ∷ [])
+
+-- "over 12 inputs"
+abbrev pub maxExclusive : ℕ
+maxExclusive = 12
+
+-- "an Xor or Xnor of the Nary form has over 12 inputs"
+abbrev pub tooWide : ℕ → ℕ → Bool
+tooWide form n = exclusive form && ltb maxExclusive n
+
+-- the gate is such a one
+abbrev pub wide : Gate → Bool
+wide x = tooWide (formCell x) (length (pins x))
 
 -- a gate of demand 3: a pin count that the form can have, and a flip-flop "with enable one and reset zero"
 abbrev pub PlainGate : Gate → Type 0

@@ -11,7 +11,7 @@ use Rattle.signal.specs.Signal.{Node, Const, Input, Gated, inputNode, constNode
 use Rattle.signal.specs.Cell.{nodeOf, sigOf, inputNumber, gateNumber}
 use Rattle.signal.proofs.Cells.{input-number, gate-number}
 use Rattle.blif_model.specs.Names.{decimalBefore, decimal, suffix, nodeBytes, nameBytes}
-use Rattle.blif_names.specs.Text.{digitOf, fourOf, leading, Appended}
+use Rattle.blif_names.specs.Text.{lastDigit, fourOf, leading, Appended}
 use Rattle.blif_names.proofs.Laws.{and-append, as-text}
 
 -- the two cases of `decimalBefore`
@@ -58,10 +58,10 @@ more-digits n h = decimal-then (n / 10) ((48 + n % 10) ∷ []) ∙ sym (tens-fir
 
 -- ---- digit by digit
 
-pub digit-none : (n : ℕ) → n ≡ 0 → [] ≡ digitOf n
-digit-none n e = ap digitOf (sym e)
+pub digit-none : (n : ℕ) → n ≡ 0 → [] ≡ lastDigit n
+digit-none n e = ap lastDigit (sym e)
 
-pub digit-some : (n : ℕ) → 1 ≤ n → (48 + n % 10) ∷ [] ≡ digitOf n
+pub digit-some : (n : ℕ) → 1 ≤ n → (48 + n % 10) ∷ [] ≡ lastDigit n
 digit-some zero h = absurd (omega arith)
 digit-some (suc n) h = refl
 
@@ -79,7 +79,7 @@ all-digits n =
     (λ l. ap (λ (t : Bytes). t ++ ((48 + n % 10) ∷ [])) (leading-some (n / 10) (omega arith)) ∙ more-digits n l)
     (λ l. ap (λ (t : Bytes). t ++ ((48 + n % 10) ∷ [])) (sym (leading-none (n / 10) (omega arith))) ∙ one-digit n l)
 
-leading-next : (n : ℕ) → leading (n / 10) ++ digitOf n ≡ leading n
+leading-next : (n : ℕ) → leading (n / 10) ++ lastDigit n ≡ leading n
 leading-next zero = refl
 leading-next (suc n) = all-digits (suc n)
 
@@ -90,10 +90,10 @@ to-left t a b c d = simp append-assoc
 
 four-next : (n : ℕ) → leading (n / 10000) ++ fourOf n ≡ leading n
 four-next n =
-    let a : Bytes = digitOf (n / 1000) in
-    let b : Bytes = digitOf (n / 100) in
-    let c : Bytes = digitOf (n / 10) in
-    let d : Bytes = digitOf n in
+    let a : Bytes = lastDigit (n / 1000) in
+    let b : Bytes = lastDigit (n / 100) in
+    let c : Bytes = lastDigit (n / 10) in
+    let d : Bytes = lastDigit n in
     let e₁ : n / 10000 ≡ n / 1000 / 10 = omega arith in
     let e₂ : n / 1000 ≡ n / 100 / 10 = omega arith in
     let e₃ : n / 100 ≡ n / 10 / 10 = omega arith in

@@ -24,13 +24,13 @@ pub record Appended (t o : Bytes) (a : ℕ) (p : Bytes) (r : ℕ) : Type 0 where
 -- ---- "the decimal number", digit by digit
 
 -- the last digit of a number, and nothing for zero
-abbrev pub digitOf : ℕ → Bytes
-digitOf zero = []
-digitOf (suc n) = (48 + suc n % 10) ∷ []
+abbrev pub lastDigit : ℕ → Bytes
+lastDigit zero = []
+lastDigit (suc n) = (48 + suc n % 10) ∷ []
 
 -- the last four digits of a number, from its first digit on
 abbrev pub fourOf : ℕ → Bytes
-fourOf n = ((digitOf (n / 1000) ++ digitOf (n / 100)) ++ digitOf (n / 10)) ++ digitOf n
+fourOf n = ((lastDigit (n / 1000) ++ lastDigit (n / 100)) ++ lastDigit (n / 10)) ++ lastDigit n
 
 -- the digits that stand before others: the number in decimal, and nothing for zero
 abbrev pub leading : ℕ → Bytes

@@ -3,13 +3,13 @@
 use signal::Signal;
 ghost use mathlib.Core.Path.{_≡_};
 ghost use mathlib.Core.List.{[], _∷_, _++_};
-ghost use Prim.Native.Nat.{_/_, _≤_, _<_};
+ghost use Prim.Native.Nat.{_/_, _≤_};
 ghost use lib.ListN.{length};
 ghost use Rattle.lists.specs.Lists.{over};
 ghost use Rattle.signal.specs.Signal.{Const};
 ghost use Rattle.signal.specs.Cell.{sigOf};
 ghost use Rattle.blif_model.specs.Names.{decimal, suffix, nodeBytes, nameBytes};
-ghost use Rattle.blif_names.specs.Text.{Wrote, digitOf, fourOf, leading, Appended};
+ghost use Rattle.blif_names.specs.Text.{Wrote, lastDigit, fourOf, leading, Appended};
 
 // Copies s to the front of out, which is as long or longer.
 fn copy(out: &mut [u8], s: &[u8])
@@ -59,7 +59,7 @@ pub fn append_byte(out: &mut [u8], at: usize, x: u8) -> usize
 
 // Writes the last digit of n, and nothing for zero.
 fn append_digit(out: &mut [u8], at: usize, n: u32) -> usize
-    ensures { λ r. ⌜ Appended (digitOf n) (now (out .entry)) at (now (out .exit)) r ⌝ }
+    ensures { λ r. ⌜ Appended (lastDigit n) (now (out .entry)) at (now (out .exit)) r ⌝ }
 {
     if at > out.len() {
         return out.len() + 1;

@@ -16,8 +16,7 @@ use Rattle.gates.specs.declared.NaryType.{NaryType}
 use Rattle.gates.specs.Forms.{naryForm}
 use Rattle.blif_model.specs.Blif.{Line, Cover}
 use Rattle.blif_model.specs.Names.{nameBytes}
-use Rattle.blif_model.specs.Write as write
-use Rattle.blif_model.specs.Write.{colOf, linesOf, formBlock, isConst, unless, gateName, bare, bufBlock}
+use Rattle.blif_model.specs.Write.{coverRow, colOf, linesOf, formBlock, isConst, unless, gateName, bare, bufBlock}
 use Rattle.blif_model.specs.Render.{spaced, line, cubeLine, field, latchLine, flopLine, storedLine}
 use Rattle.blif_names.specs.Text.{Appended}
 use Rattle.blif_cubes.specs.Lines.{linesText}
@@ -155,13 +154,13 @@ pub names-then : {t : Bytes} (xs : List Bytes) (y : Bytes) (ls : List Line) → 
 names-then xs y ls e = ap (λ (u : Bytes). (u ++ line (spaced (y ∷ []))) ++ linesText ls) e ∙ cover-text xs y ls
 
 -- the line of a Buf gate
-pub buf-inverted : (s : Signal) → s .inv ≡ true → bytes "0 1\n" ≡ linesText (write.line true (colOf (not (s .inv)) ∷ []) ∷ [])
+pub buf-inverted : (s : Signal) → s .inv ≡ true → bytes "0 1\n" ≡ linesText (coverRow true (colOf (not (s .inv)) ∷ []) ∷ [])
 unfolding line spaced flatMap
-buf-inverted s h = ap (λ (b : Bool). linesText (write.line true (colOf (not b) ∷ []) ∷ [])) (sym h)
+buf-inverted s h = ap (λ (b : Bool). linesText (coverRow true (colOf (not b) ∷ []) ∷ [])) (sym h)
 
-pub buf-plain : (s : Signal) → s .inv ≡ false → bytes "1 1\n" ≡ linesText (write.line true (colOf (not (s .inv)) ∷ []) ∷ [])
+pub buf-plain : (s : Signal) → s .inv ≡ false → bytes "1 1\n" ≡ linesText (coverRow true (colOf (not (s .inv)) ∷ []) ∷ [])
 unfolding line spaced flatMap
-buf-plain s h = ap (λ (b : Bool). linesText (write.line true (colOf (not b) ∷ []) ∷ [])) (sym h)
+buf-plain s h = ap (λ (b : Bool). linesText (coverRow true (colOf (not b) ∷ []) ∷ [])) (sym h)
 
 -- ---- constants
 
@@ -221,8 +220,8 @@ nary-text t cells g =
     (sym (length-map cells sigOf))
     ∙ cover-text (map nameBytes (map sigOf cells)) (gateName nameBytes g) (linesOf (naryForm t) (length (map sigOf cells)))
 
-pub buf-text : {b : Signal} {t : Bytes} (s : Signal) (g : ℕ) → b ≡ bare s → t ≡ linesText (write.line true (colOf (not (s .inv)) ∷ []) ∷ [])
+pub buf-text : {b : Signal} {t : Bytes} (s : Signal) (g : ℕ) → b ≡ bare s → t ≡ linesText (coverRow true (colOf (not (s .inv)) ∷ []) ∷ [])
     → ((bytes ".names" ++ (32 ∷ nameBytes b)) ++ line (spaced (gateName nameBytes g ∷ []))) ++ t ≡ blockText (bufBlock nameBytes g (s ∷ []))
 buf-text {b} {t} s g e h =
     ap₂ (λ (x : Signal) (u : Bytes). ((bytes ".names" ++ (32 ∷ nameBytes x)) ++ line (spaced (gateName nameBytes g ∷ []))) ++ u) e h
-    ∙ names-then (nameBytes (bare s) ∷ []) (gateName nameBytes g) (write.line true (colOf (not (s .inv)) ∷ []) ∷ []) (one-name (nameBytes (bare s)))
+    ∙ names-then (nameBytes (bare s) ∷ []) (gateName nameBytes g) (coverRow true (colOf (not (s .inv)) ∷ []) ∷ []) (one-name (nameBytes (bare s)))

@@ -1,16 +1,15 @@
 -- The cells that reading leaves are a network by document 01's layout: the one read. Assumes nothing.
-use mathlib.Core.Path.{_≡_, refl, sym, ap, _∙_, subst}
+use mathlib.Core.Path.{_≡_, ap, _∙_}
 use mathlib.Core.Bool.{true}
-use mathlib.Core.List.{List, map}
-use Prim.Native.Nat.{ℕ, _*_, _≤_}
+use mathlib.Core.List.{map}
+use Prim.Native.Nat.{ℕ}
 use native.Mathlib.Omega.{arith}
-use lib.ListN.{length, replicate, length-replicate}
-use Rattle.lists.specs.Lists.{Bytes, zeros, over}
+use lib.ListN.{length-replicate}
+use Rattle.lists.specs.Lists.{Bytes, zeros}
 use Rattle.lists.proofs.Over.{length-over}
 use Rattle.signal.specs.Cell.{sigCell}
 use Rattle.network.specs.Net.{Net}
-use Rattle.network.specs.Cells.{gateWidth, gateCells, pinCells, lent, countsOf, netOf, isNetwork}
-use Rattle.network.proofs.Records.{Sizes}
+use Rattle.network.specs.Cells.{gateCells, pinCells, lent, countsOf, netOf, isNetwork}
 use Rattle.network.proofs.Laying.{laid-over}
 use Rattle.network.proofs.Lent.{laid-network}
 use Rattle.blif_model.specs.Read.{Result, read, readText}
@@ -41,16 +40,13 @@ module _ (text : Bytes) (net : Net) (n : Lengths) (e : enough n ≡ true) (r : r
       let lp = length-over (pinCells (net .gates)) (zeros (n .pins)) in
       let lo = length-over (map sigCell (net .outputs)) (zeros (n .outputs)) in
       laid-network net (lent (countsOf net) (filled (read net) n .gates) (filled (read net) n .pins) (filled (read net) n .outputs))
-      (laid-over net (zeros (n .gates)) (zeros (n .pins)) (zeros (n .outputs)) (omega (arith, known .gates, room .gates)) (omega (arith, known .pins, room .pins)) (omega (arith, known .outputs, room .outputs)))
+      (laid-over net (zeros (n .gates)) (zeros (n .pins)) (zeros (n .outputs)) (omega (arith, known .sizes .gates, room .gates)) (omega (arith, known .sizes .pins, room .pins)) (omega (arith, known .sizes .outputs, room .outputs)))
       (known .valid) (known .formed)
       (record {
-        few-inputs = known .inputs;
-        few-gates = known .gates;
-        few-pins = known .pins;
-        few-outputs = known .outputs;
-        gates-lent = omega (arith, known .gates, room .gates, lg);
-        pins-lent = omega (arith, known .pins, room .pins, lp);
-        outs-lent = omega (arith, known .outputs, room .outputs, lo);
+        few = known .sizes;
+        gates-lent = omega (arith, known .sizes .gates, room .gates, lg);
+        pins-lent = omega (arith, known .sizes .pins, room .pins, lp);
+        outs-lent = omega (arith, known .sizes .outputs, room .outputs, lo);
       })
 
   -- what is left is a network by the layout that refusal 20 asks for

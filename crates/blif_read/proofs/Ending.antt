@@ -1,9 +1,9 @@
 -- The covers' gates and the sort: refusal 14, and the network read. Assumes nothing.
-use mathlib.Core.Path.{_≡_, refl, sym, ap, ap₂, _∙_, subst}
+use mathlib.Core.Path.{_≡_, refl, sym, ap, _∙_, subst}
 use mathlib.Core.Bool.{Bool, true, false, true≢false, false≢true}
-use mathlib.Core.List.{List, [], _∷_, _++_, map}
+use mathlib.Core.List.{List, map}
 use mathlib.Core.Option.{Option, none, some}
-use Prim.Native.Nat.{ℕ, zero, suc, _+_, _*_, _≤_, _<_}
+use Prim.Native.Nat.{ℕ, _*_, _≤_}
 use native.Mathlib.Omega.{arith}
 use lib.Dec.{leb, ltb}
 use lib.ListN.{length, take, length-map}
@@ -11,9 +11,8 @@ use lib.Seq.{length-take-le}
 use Rattle.lists.specs.Lists.{Bytes, any, over, range}
 use Rattle.lists.proofs.Range.{length-range}
 use Rattle.signal.specs.Cell.{sigCell, sigOf}
-use Rattle.gates.specs.Gate.{Gate}
-use Rattle.network.specs.Net.{Net, Valid}
-use Rattle.network.specs.Cells.{maxGates, maxPins, maxOutputs, gateWidth, gateCells, pinCells, lent, netOf, countsOf, Laid}
+use Rattle.network.specs.Net.{Net}
+use Rattle.network.specs.Cells.{gateWidth, gateCells, pinCells, lent, netOf, countsOf, Laid}
 use Rattle.network.specs.declared.Counts.{Counts}
 use Rattle.network.proofs.Laying.{laid-over}
 use Rattle.sort_order.specs.Sorted.{sorted, Preserved}
@@ -24,21 +23,19 @@ use Rattle.sort.specs.declared.Sorted.the-variants.{Order, Loop}
 use Rattle.sort_order.proofs.Summary.{sorted-keeps}
 use Rattle.blif_text.specs.Statements.{parsed, firstBad}
 use Rattle.blif_text.specs.Places.{maxText}
-use Rattle.blif_text.specs.Decls.{Def, Decl, ins, outs, defs}
-use Rattle.blif_text.specs.Blocks.{defsAt, Blocks}
-use Rattle.blif_model.specs.Lookup.{lookup}
-use Rattle.blif_model.specs.Names.{byte-names}
-use Rattle.blif_model.specs.Render.{modelOf}
-use Rattle.blif_model.specs.Read.{when, declFault, declsOf, readFault, Result, read, refused, answer, builtFrom, readText}
+use Rattle.blif_text.specs.Decls.{Def, outs}
+use Rattle.blif_text.specs.Blocks.{defsAt}
+use Rattle.blif_model.specs.Read.{when, declFault, declsOf, readFault, Result, read, refused, answer, look, builtFrom, readText}
 use Rattle.blif_model.specs.Working.{GatesIn, placed, builtGates, WorkRoom}
 use Rattle.blif_gates.specs.Covers.{Buildable, BuiltBy}
 use Rattle.blif_gates.specs.declared.Built.{Built}
-use Rattle.blif_read.specs.Stages.{Holds, Enough, Placing}
+use Rattle.blif_read.specs.Stages.{Holds, Placing}
 use Rattle.blif_read.specs.declared.ReadAnswer.{ReadAnswer}
 use Rattle.blif_read.specs.declared.ReadAnswer.the-variants.{Read, Refused}
-use Rattle.blif_model.specs.Built.{BuiltIn}
+use Rattle.blif_model.proofs.BuiltNet.{BuiltIn}
 use Rattle.blif_model.proofs.Passed.{then-right, passed}
-use Rattle.blif_model.proofs.BuiltNet.{within, built-net, built-sortable}
+use Rattle.blif_model.proofs.SizeLimits.{sizes-within}
+use Rattle.blif_model.proofs.BuiltNet.{built-net, built-sortable}
 use Rattle.blif_read.proofs.Refusing.{sorted-or-loop}
 
 -- ---- no refusal took the text
@@ -96,7 +93,7 @@ module _ {text tokens : List ℕ} {n : ℕ} {blocks : List ℕ} {i g o : ℕ} {g
   pub buildable : WorkRoom gates pinsIn → Buildable (defsAt text tokens n blocks g) gates pinsIn used
   buildable w =
       let p = passed (declsOf text) (decls-none text (c .none)) in
-      let s = within (declsOf text) (p .within) in
+      let s = sizes-within (declsOf text) (p .within) in
       subst (λ (ds : List Def). Buildable ds gates pinsIn used) (sym (c .blocks-are))
       (record {
         room = w;
@@ -104,7 +101,7 @@ module _ {text tokens : List ℕ} {n : ℕ} {blocks : List ℕ} {i g o : ℕ} {g
         fewPins = s .pins;
         good = p .covered;
         start = c .used-is;
-        first = (lookup byte-names (modelOf (declsOf text)), c .gates-in);
+        first = (look (declsOf text), c .gates-in);
       })
 
   module _ {gates′ pinsIn′ : List ℕ} {b : Built} (h : BuiltBy (defsAt text tokens n blocks g) gates pinsIn used gates′ pinsIn′ b)
@@ -116,22 +113,22 @@ module _ {text tokens : List ℕ} {n : ℕ} {blocks : List ℕ} {i g o : ℕ} {g
     -- the cells hold what is built
     cells-built : BuiltIn (declsOf text) counts gates′ pinsIn′ os (b .pins)
     cells-built =
-        let look = lookup byte-names (modelOf (declsOf text)) in
+        let signal = look (declsOf text) in
         record {
           held =
-              subst (λ (ds : List Def). GatesIn gates′ pinsIn′ (b .pins) (builtGates look ds)) (c .blocks-are)
-              (h .gates-in look (subst (λ (ds : List Def). GatesIn gates pinsIn used (map (placed look) ds)) (sym (c .blocks-are)) (c .gates-in)));
+              subst (λ (ds : List Def). GatesIn gates′ pinsIn′ (b .pins) (builtGates signal ds)) (c .blocks-are)
+              (h .gates-in signal (subst (λ (ds : List Def). GatesIn gates pinsIn used (map (placed signal) ds)) (sym (c .blocks-are)) (c .gates-in)));
           pinsRoom = omega (arith, h .fewPins, pr);
           gatesRoom = omega (arith, h .fewGates, gr);
           inputsCounted = c .inputs;
-          gatesCounted = h .counted look ∙ ap (λ (ds : List Def). length (builtGates look ds)) (c .blocks-are);
+          gatesCounted = h .counted signal ∙ ap (λ (ds : List Def). length (builtGates signal ds)) (c .blocks-are);
           outputsCounted = c .outputs;
           outsHeld = c .outs-are;
         }
 
     -- the outputs have room
     outs-room : o ≤ length os
-    outs-room = omega (arith, c .outputs, within (declsOf text) (passed (declsOf text) (decls-none text (c .none)) .within) .outputs, or)
+    outs-room = omega (arith, c .outputs, sizes-within (declsOf text) (passed (declsOf text) (decls-none text (c .none)) .within) .outputs, or)
 
     -- what the sort asks
     pub sortable : (newGates newPins : ℕ) → 3072 ≤ newGates → 16384 ≤ newPins → Sortable (lent counts gates′ pinsIn′ os) newGates newPins

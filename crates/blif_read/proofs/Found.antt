@@ -1,20 +1,14 @@
 -- Names that are used: what is found in the index is defined, and what is not found is refusal 11. Assumes nothing.
-use mathlib.Core.Path.{_≡_, refl, sym, ap, ap₂, _∙_, subst}
-use mathlib.Core.Bool.{Bool, true, false, not, _&&_, cond, false≢true, true≢false}
+use mathlib.Core.Path.{_≡_, refl, sym, ap, ap₂, _∙_}
+use mathlib.Core.Bool.{Bool, true, false, not, _&&_, cond}
 use mathlib.Core.List.{List, [], _∷_, _++_, map, flatMap}
-use Prim.Native.Nat.{ℕ, zero, suc, _≤_}
-use native.Mathlib.Omega.{arith}
-use lib.Dec.{eqb}
+use Prim.Native.Nat.{ℕ}
 use Rattle.lists.specs.Lists.{Bytes, all, known}
 use Rattle.lists.proofs.Tests.{by-test, and-left, and-right, and-false}
-use Rattle.signal.specs.Signal.{Signal}
 use Rattle.signal.specs.Cell.{sigCell}
-use Rattle.blif_text.specs.Decls.{Decl, ins, outs, defs, defines, uses}
-use Rattle.name_index.specs.Search.{Entry, signalIn}
-use Rattle.blif_model.specs.Lookup.{lookup}
-use Rattle.blif_model.specs.Names.{byte-names}
-use Rattle.blif_model.specs.Render.{modelOf}
-use Rattle.blif_model.specs.Read.{tooLarge, naming, undefined}
+use Rattle.blif_text.specs.Decls.{Decl, ins, outs, defs, defines, usedNames}
+use Rattle.name_index.specs.Search.{signalIn}
+use Rattle.blif_model.specs.Read.{tooLarge, naming, undefined, look}
 use Rattle.blif_decls.specs.Entries.{entries}
 use Rattle.blif_uses.specs.Resolve.{isFound, Signals}
 use Rattle.blif_decls.proofs.EntryLaws.{entry-signal, entry-found}
@@ -53,41 +47,37 @@ module _ (ds : List Decl) (named : naming false [] ds ≡ 0) (sized : tooLarge d
   abbrev isKnown : Bytes → Bool
   isKnown x = known x (ins ds ++ map defines (defs ds))
 
-  -- its signal
-  abbrev look : Bytes → Signal
-  look = lookup byte-names (modelOf ds)
-
   -- a name is found where it is defined
   pub found-known : (x : Bytes) → isFound (sig x) ≡ isKnown x
   found-known x =
       by-test (isKnown x)
       (λ t. entry-found ds named sized x t ∙ sym t)
-      (λ t. ap isFound (entry-signal ds named x ∙ ap (λ (b : Bool). cond b (sigCell (look x)) 0) t) ∙ sym t)
+      (λ t. ap isFound (entry-signal ds named x ∙ ap (λ (b : Bool). cond b (sigCell (look ds x)) 0) t) ∙ sym t)
 
   -- and what is found is its signal
-  pub found-signal : Signals sig look
-  found-signal x e = entry-signal ds named x ∙ ap (λ (b : Bool). cond b (sigCell (look x)) 0) (sym (found-known x) ∙ e)
+  pub found-signal : Signals sig (look ds)
+  found-signal x e = entry-signal ds named x ∙ ap (λ (b : Bool). cond b (sigCell (look ds x)) 0) (sym (found-known x) ∙ e)
 
   -- names are all found where all are defined
   pub found-all : (xs : List Bytes) → all isFound (map sig xs) ≡ all isKnown xs
   found-all xs = all-map isFound sig xs ∙ all-same (λ (x : Bytes). isFound (sig x)) isKnown found-known xs
 
   -- their signals
-  pub found-signals : (xs : List Bytes) → all isKnown xs ≡ true → map sig xs ≡ map (λ (x : Bytes). sigCell (look x)) xs
-  found-signals xs e = map-where isKnown sig (λ (x : Bytes). sigCell (look x)) (λ x t. found-signal x (found-known x ∙ t)) xs e
+  pub found-signals : (xs : List Bytes) → all isKnown xs ≡ true → map sig xs ≡ map (λ (x : Bytes). sigCell (look ds x)) xs
+  found-signals xs e = map-where isKnown sig (λ (x : Bytes). sigCell (look ds x)) (λ x t. found-signal x (found-known x ∙ t)) xs e
 
-  undefined-is : undefined ds ≡ not (all isKnown (outs ds) && all isKnown (flatMap uses (defs ds)))
+  undefined-is : undefined ds ≡ not (all isKnown (outs ds) && all isKnown (flatMap usedNames (defs ds)))
   unfolding undefined
-  undefined-is = ap not (all-append isKnown (outs ds) (flatMap uses (defs ds)))
+  undefined-is = ap not (all-append isKnown (outs ds) (flatMap usedNames (defs ds)))
 
   -- an output is undefined
   pub output-missing : all isKnown (outs ds) ≡ false → undefined ds ≡ true
-  output-missing e = undefined-is ∙ ap (λ (b : Bool). not (b && all isKnown (flatMap uses (defs ds)))) e
+  output-missing e = undefined-is ∙ ap (λ (b : Bool). not (b && all isKnown (flatMap usedNames (defs ds)))) e
 
   -- a latch's input or a cover's is undefined
-  pub use-missing : all isKnown (flatMap uses (defs ds)) ≡ false → undefined ds ≡ true
+  pub use-missing : all isKnown (flatMap usedNames (defs ds)) ≡ false → undefined ds ≡ true
   use-missing e = undefined-is ∙ ap (λ (b : Bool). not (all isKnown (outs ds) && b)) e ∙ ap not (and-false (all isKnown (outs ds)))
 
   -- none is
-  pub none-missing : all isKnown (outs ds) ≡ true → all isKnown (flatMap uses (defs ds)) ≡ true → undefined ds ≡ false
+  pub none-missing : all isKnown (outs ds) ≡ true → all isKnown (flatMap usedNames (defs ds)) ≡ true → undefined ds ≡ false
   none-missing e f = undefined-is ∙ ap₂ (λ (a b : Bool). not (a && b)) e f

@@ -1,18 +1,16 @@
 -- From the cells in use to every cell: what is left when all others are cleared. Assumes nothing.
 use mathlib.Core.Path.{_≡_, refl, sym, ap, _∙_, subst}
 use mathlib.Core.Bool.{Bool, true, false}
-use mathlib.Core.List.{List, [], map}
+use mathlib.Core.List.{List}
 use Prim.Native.Nat.{ℕ, _*_, _^_, _≤_, _<_}
 use native.Mathlib.Omega.{arith}
 use lib.ListN.{length, take, length-take}
 use Rattle.lists.specs.Lists.{if_then_else_, Bytes, zeros, over}
-use Rattle.signal.specs.Cell.{sigCell}
-use Rattle.network.specs.Net.{Net}
-use Rattle.network.specs.Cells.{gateWidth, gateCells, pinCells, lent, countsOf, Laid}
+use Rattle.network.specs.Cells.{countsOf}
 use Rattle.network.specs.declared.Counts.{Counts}
 use Rattle.network.proofs.Laying.{length-gateCells}
 use Rattle.blif_model.specs.Read.{Result, read, refused, readText}
-use Rattle.blif_read.specs.Into.{Lengths, lengths, enough, Outcome, outcome, leaving, filled, readInto}
+use Rattle.blif_read.specs.Into.{Lengths, enough, outcome, leaving, filled, readInto}
 use Rattle.blif_read.specs.Stages.{answered, countsIn, Holds}
 use Rattle.blif_read.specs.declared.ReadAnswer.{ReadAnswer}
 use Rattle.blif_read.specs.declared.ReadAnswer.the-variants.{Read, Refused}

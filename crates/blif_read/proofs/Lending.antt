@@ -2,7 +2,7 @@
 use mathlib.Core.Path.{_≡_, refl, sym, ap, _∙_}
 use mathlib.Core.Bool.{true, false, _&&_}
 use mathlib.Core.List.{List, [], _∷_, _++_, append-nil}
-use Prim.Native.Nat.{ℕ, zero, suc, _+_, _-_, _*_, _≤_, _<_}
+use Prim.Native.Nat.{ℕ, zero, suc, _-_, _≤_, _<_}
 use native.Mathlib.Omega.{arith}
 use lib.Dec.{leb}
 use lib.ListN.{length, take, drop, length-drop, drop-of-length-le}
@@ -10,7 +10,6 @@ use borrow.Rule.Slice.PartMut.{midOf, putMid, post-is, mid-len}
 use borrow.Author.Tests.{le-leb, lt-leb, leb-true}
 use Rattle.lists.specs.Lists.{zeros, over}
 use Rattle.lists.proofs.Tests.{and-false, and-left, and-right}
-use Rattle.network.specs.Cells.{gateWidth, maxGates, maxPins, maxOutputs}
 use Rattle.blif_read.specs.Into.{Lengths, lengths, enough}
 use Rattle.blif_read.specs.Stages.{Enough}
 

@@ -1,34 +1,31 @@
 -- From the index of names to the gates placed: refusals 7 to 13. Assumes nothing.
-use mathlib.Core.Path.{_≡_, refl, sym, ap, ap₂, _∙_, subst}
+use mathlib.Core.Path.{_≡_, sym, ap, ap₂, _∙_, subst}
 use mathlib.Core.Bool.{Bool, true, false}
 use mathlib.Core.List.{List, [], _∷_, _++_, map, flatMap}
-use Prim.Native.Nat.{ℕ, zero, suc, _+_, _-_, _*_, _≤_, _<_}
+use Prim.Native.Nat.{ℕ, zero, suc, _+_, _-_, _*_, _≤_}
 use native.Mathlib.Omega.{arith}
-use lib.ListN.{length, getD, take, length-take, length-map}
+use lib.ListN.{length, take, length-map}
 use lib.Seq.{length-take-le, getD-take}
 use Rattle.lists.specs.Lists.{Bytes, all, known, over, sumOf}
 use Rattle.lists.proofs.Over.{take-over}
-use Rattle.signal.specs.Signal.{Signal}
 use Rattle.signal.specs.Cell.{sigCell}
-use Rattle.network.specs.Cells.{maxGates, maxPins, maxOutputs, gateWidth}
-use Rattle.blif_text.specs.Decls.{Def, latch, cover, Decl, decls, ins, outs, defs, defines, uses}
-use Rattle.blif_text.specs.Places.{tokenStart, tokenLength, tokensOf}
+use Rattle.network.specs.Cells.{maxPins}
+use Rattle.blif_text.specs.Decls.{Def, latch, cover, Decl, decls, ins, outs, defs, defines, usedNames}
+use Rattle.blif_text.specs.Places.{InText, tokensOf}
 use Rattle.blif_text.specs.Walk.{stmtsFrom, Inside}
-use Rattle.blif_text.specs.Blocks.{defsAt, Blocks}
+use Rattle.blif_text.specs.Blocks.{defsAt}
 use Rattle.name_index.specs.Search.{Entry, signalIn}
-use Rattle.name_index.specs.Index.{entriesOf, Index}
-use Rattle.blif_model.specs.Lookup.{lookup}
-use Rattle.blif_model.specs.Names.{byte-names}
-use Rattle.blif_model.specs.Render.{modelOf}
-use Rattle.blif_model.specs.Read.{_then_, when, gateCount, pinCount, tooLarge, naming, undefined, coverFaults, declsOf, readFault, refused, readText}
-use Rattle.blif_model.specs.Working.{GatesIn, placed, placedCount, WorkRoom}
+use Rattle.name_index.specs.Index.{entriesOf}
+use Rattle.blif_model.specs.Read.{_then_, when, pinCount, tooLarge, naming, undefined, coverFaults, declsOf, readFault, refused, look, readText}
+use Rattle.blif_model.specs.Working.{GatesIn, placed, placedCount}
 use Rattle.blif_decls.specs.Entries.{entries}
 use Rattle.blif_decls.specs.Tables.{Tables, DefinedBy}
 use Rattle.blif_decls.specs.declared.Defined.{Defined}
 use Rattle.blif_uses.specs.Resolve.{isFound, Resolved, PlacedBy, Signals}
 use Rattle.blif_uses.specs.declared.Placed.{Placed}
-use Rattle.blif_read.specs.Stages.{Enough, Sized, Resolving, Placing}
-use Rattle.blif_model.proofs.BuiltNet.{within}
+use Rattle.blif_read.specs.Stages.{Sized, Resolving, Placing}
+use Rattle.blif_model.proofs.SizeLimits.{sizes-within}
+use Rattle.blif_decls.proofs.DefiningGates.{defs-few}
 use Rattle.blif_read.proofs.Refusing.{refuses, refuses-when, goes-on, passes-when, refused-by}
 use Rattle.blif_read.proofs.Found.{found-all, found-signals, found-signal, output-missing, use-missing, none-missing}
 
@@ -38,7 +35,7 @@ use Rattle.blif_read.proofs.Found.{found-all, found-signals, found-sign
 pub record Naming (text tokens : List ℕ) (n : ℕ) (index outNames blocks : List ℕ) (i g o : ℕ) : Type 0 where
   pub tables : Tables (declsOf text) text tokens n index outNames blocks i g o
   pub sized : tooLarge (declsOf text) ≡ false
-  pub named : naming false [] (declsOf text) ≡ 0
+  pub once : naming false [] (declsOf text) ≡ 0
   pub left : readFault text ≡ (when (undefined (declsOf text)) 11 then coverFaults (defs (declsOf text)))
 
 module _ {text tokens : List ℕ} {n : ℕ} (c : Sized text tokens n) where
@@ -63,7 +60,7 @@ module _ {text tokens : List ℕ} {n : ℕ} (c : Sized text tokens n) where
         record {
           tables = subst (λ (ds : List Decl). Tables ds text tokens n index outNames blocks (d .inputs) (d .gates) (d .outputs)) (sym (c .declared)) (h .tables z);
           sized = c .sized;
-          named = e;
+          once = e;
           left = goes-on text (naming false [] (declsOf text)) _ (c .left) e;
         }
 
@@ -74,13 +71,13 @@ inside-first {text} {cells} o h =
     record {
       room = omega arith;
       inside = λ i l.
-          subst (λ (x : ℕ). tokenStart x + tokenLength x ≤ length text) (sym (getD-take o cells i 0 (omega (arith, e, l)))) (h .inside i (omega (arith, e, l)));
+          subst (InText text) (sym (getD-take o cells i 0 (omega (arith, e, l)))) (h .inside i (omega (arith, e, l)));
     }
 
 module _ {text tokens : List ℕ} {n : ℕ} {index outNames blocks : List ℕ} {i g o : ℕ} (c : Naming text tokens n index outNames blocks i g o) where
   -- "256 outputs"
   pub few-outs : o ≤ 256
-  few-outs = omega (arith, c .tables .outputs, within (declsOf text) (c .sized) .outputs)
+  few-outs = omega (arith, c .tables .named .outputs, sizes-within (declsOf text) (c .sized) .outputs)
 
   -- so many have room
   pub outs-fit : (m : ℕ) → 256 ≤ m → length (take o outNames) ≤ m
@@ -92,34 +89,28 @@ module _ {text tokens : List ℕ} {n : ℕ} {index outNames blocks : List ℕ} {
 
     -- the signals asked for are those of the outputs
     asked : map (signalIn (entriesOf text index (i + g))) (tokensOf text (take o outNames)) ≡ map (signalIn (entries 0 0 ds)) (outs ds)
-    asked = ap₂ (λ (es : List Entry) (xs : List Bytes). map (signalIn es) xs) (c .tables .entries-are) (c .tables .outputs-are)
+    asked = ap₂ (λ (es : List Entry) (xs : List Bytes). map (signalIn es) xs) (c .tables .named .entries-are) (c .tables .outputs-are)
 
     -- whether all are defined
     all-known : r ≡ all (λ (x : Bytes). known x (ins ds ++ map defines (defs ds))) (outs ds)
-    all-known = h .found ∙ ap (all isFound) asked ∙ found-all ds (c .named) (c .sized) (outs ds)
+    all-known = h .found ∙ ap (all isFound) asked ∙ found-all ds (c .once) (c .sized) (outs ds)
 
     -- an output is undefined
     pub output-refused : r ≡ false → readText text ≡ refused 11
     output-refused e =
-        refuses-when text (undefined ds) 10 (coverFaults (defs ds)) (c .left) (output-missing ds (c .named) (c .sized) (sym all-known ∙ e))
+        refuses-when text (undefined ds) 10 (coverFaults (defs ds)) (c .left) (output-missing ds (c .once) (c .sized) (sym all-known ∙ e))
 
     -- none is
     pub outputs-found : r ≡ true → 256 ≤ length os → Resolving text tokens n index os′ blocks i g o
     outputs-found e room =
         let k = sym all-known ∙ e in
-        let s = found-signals ds (c .named) (c .sized) (outs ds) k in
-        let cells : List ℕ = map (λ (x : Bytes). sigCell (lookup byte-names (modelOf ds) x)) (outs ds) in
-        let l : length cells ≡ o = length-map (outs ds) (λ (x : Bytes). sigCell (lookup byte-names (modelOf ds) x)) ∙ sym (c .tables .outputs) in
+        let s = found-signals ds (c .once) (c .sized) (outs ds) k in
+        let cells : List ℕ = map (λ (x : Bytes). sigCell (look ds x)) (outs ds) in
+        let l : length cells ≡ o = length-map (outs ds) (λ (x : Bytes). sigCell (look ds x)) ∙ sym (c .tables .named .outputs) in
         record {
-          inputs = c .tables .inputs;
-          gates = c .tables .gates;
-          outputs = c .tables .outputs;
-          index-is = c .tables .index-is;
-          entries-are = c .tables .entries-are;
-          blocks-in = c .tables .blocks-in;
-          blocks-are = c .tables .blocks-are;
+          tables = c .tables .named;
           sized = c .sized;
-          named = c .named;
+          once = c .once;
           outs-known = k;
           outs-are =
               ap (take o) (h .laid e ∙ ap (λ (x : List ℕ). over x os) (asked ∙ s))
@@ -143,46 +134,39 @@ placed-within (cover ns ls ∷ ds) =
     wide zero m = omega arith
     wide (suc k) m = omega (arith, wide k m)
 
--- each definition is a gate
-defs-within : (ds : List Def) → length ds ≤ sumOf gateCount ds
-unfolding gateCount
-defs-within [] = omega arith
-defs-within (latch d q ∷ ds) = omega (arith, defs-within ds)
-defs-within (cover ns ls ∷ ds) = omega (arith, defs-within ds)
-
 module _ {text tokens : List ℕ} {n : ℕ} {index os blocks : List ℕ} {i g o : ℕ} (c : Resolving text tokens n index os blocks i g o) where
   -- "1,024 gates"
   pub few-gates : g ≤ 1024
-  few-gates = omega (arith, c .gates, defs-within (defs (declsOf text)), within (declsOf text) (c .sized) .gates)
+  few-gates = omega (arith, c .tables .gates, defs-few (defs (declsOf text)), sizes-within (declsOf text) (c .sized) .gates)
 
   -- "16,384 pins"
   pub few-placed : sumOf placedCount (defsAt text tokens n blocks g) ≤ maxPins
   few-placed =
-      omega (arith, ap (sumOf placedCount) (c .blocks-are), placed-within (defs (declsOf text)), within (declsOf text) (c .sized) .pins)
+      omega (arith, ap (sumOf placedCount) (c .tables .blocks-are), placed-within (defs (declsOf text)), sizes-within (declsOf text) (c .sized) .pins)
 
   module _ {gates pinsIn : List ℕ} {p : Placed} (h : PlacedBy (signalIn (entriesOf text index (i + g))) (defsAt text tokens n blocks g) gates pinsIn p) where
     -- whether all uses are defined
-    uses-known : p .found ≡ all (λ (x : Bytes). known x (ins (declsOf text) ++ map defines (defs (declsOf text)))) (flatMap uses (defs (declsOf text)))
+    uses-known : p .found ≡ all (λ (x : Bytes). known x (ins (declsOf text) ++ map defines (defs (declsOf text)))) (flatMap usedNames (defs (declsOf text)))
     uses-known =
         h .found
-        ∙ ap₂ (λ (es : List Entry) (xs : List Def). all isFound (map (signalIn es) (flatMap uses xs))) (c .entries-are) (c .blocks-are)
-        ∙ found-all (declsOf text) (c .named) (c .sized) (flatMap uses (defs (declsOf text)))
+        ∙ ap₂ (λ (es : List Entry) (xs : List Def). all isFound (map (signalIn es) (flatMap usedNames xs))) (c .tables .entries-are) (c .tables .blocks-are)
+        ∙ found-all (declsOf text) (c .once) (c .sized) (flatMap usedNames (defs (declsOf text)))
 
     -- one is undefined
     pub use-refused : p .found ≡ false → readText text ≡ refused 11
     use-refused e =
         refuses-when text (undefined (declsOf text)) 10 (coverFaults (defs (declsOf text))) (c .left)
-        (use-missing (declsOf text) (c .named) (c .sized) (sym uses-known ∙ e))
+        (use-missing (declsOf text) (c .once) (c .sized) (sym uses-known ∙ e))
 
     module _ (e : p .found ≡ true) where
       covers-left : readFault text ≡ coverFaults (defs (declsOf text))
       covers-left =
           passes-when text (undefined (declsOf text)) 11 (coverFaults (defs (declsOf text))) (c .left)
-          (none-missing (declsOf text) (c .named) (c .sized) (c .outs-known) (sym uses-known ∙ e))
+          (none-missing (declsOf text) (c .once) (c .sized) (c .outs-known) (sym uses-known ∙ e))
 
       module _ {b : ℕ} (q : b ≡ coverFaults (defsAt text tokens n blocks g)) where
         fault-is : readFault text ≡ b
-        fault-is = covers-left ∙ sym (q ∙ ap coverFaults (c .blocks-are))
+        fault-is = covers-left ∙ sym (q ∙ ap coverFaults (c .tables .blocks-are))
 
         -- a cover is refused
         pub cover-refused : (b ≡ 0 → ⊥) → readText text ≡ refused b
@@ -192,15 +176,15 @@ module _ {text tokens : List ℕ} {n : ℕ} {index os blocks : List ℕ} {i g o 
         pub gates-placed : b ≡ 0 → Placing text tokens n blocks i g o gates pinsIn os (p .pins)
         gates-placed z =
             record {
-              inputs = c .inputs;
-              outputs = c .outputs;
-              blocks-in = c .blocks-in;
-              blocks-are = c .blocks-are;
+              inputs = c .tables .inputs;
+              outputs = c .tables .outputs;
+              blocks-in = c .tables .blocks-in;
+              blocks-are = c .tables .blocks-are;
               none = fault-is ∙ z;
-              used-is = h .pins e ∙ ap (sumOf placedCount) (c .blocks-are);
+              used-is = h .pins e ∙ ap (sumOf placedCount) (c .tables .blocks-are);
               gates-in =
-                  subst (λ (xs : List Def). GatesIn gates pinsIn (p .pins) (map (placed (lookup byte-names (modelOf (declsOf text)))) xs)) (c .blocks-are)
-                  (h .gates-in e (lookup byte-names (modelOf (declsOf text)))
-                  (subst (λ (es : List Entry). Signals (signalIn es) (lookup byte-names (modelOf (declsOf text)))) (sym (c .entries-are)) (found-signal (declsOf text) (c .named) (c .sized))));
+                  subst (λ (xs : List Def). GatesIn gates pinsIn (p .pins) (map (placed (look (declsOf text))) xs)) (c .tables .blocks-are)
+                  (h .gates-in e (look (declsOf text))
+                  (subst (λ (es : List Entry). Signals (signalIn es) (look (declsOf text))) (sym (c .tables .entries-are)) (found-signal (declsOf text) (c .once) (c .sized))));
               outs-are = c .outs-are;
             }

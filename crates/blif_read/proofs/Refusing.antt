@@ -2,19 +2,19 @@
 use mathlib.Core.Path.{_≡_, refl, sym, ap, _∙_, subst}
 use mathlib.Core.Bool.{Bool, true, false}
 use mathlib.Core.List.{List, []}
-use Prim.Native.Nat.{ℕ, zero, suc, _≤_, _<_}
+use Prim.Native.Nat.{ℕ, zero, suc, _≤_}
 use native.Mathlib.Omega.{arith}
 use lib.Dec.{ltb, leb}
 use lib.ListN.{length}
 use Rattle.lists.specs.Lists.{Bytes, any}
 use Rattle.sort_order.specs.Sorted.{sorted}
-use Rattle.blif_text.specs.Statements.{parsed, firstBad, stmts}
-use Rattle.blif_text.specs.Decls.{Decl, decls, defs}
-use Rattle.blif_text.specs.Places.{maxText, Marked}
+use Rattle.blif_text.specs.Statements.{parsed, firstBad}
+use Rattle.blif_text.specs.Decls.{decls, defs}
+use Rattle.blif_text.specs.Places.{maxText, TokensMarked}
 use Rattle.blif_text.specs.Walk.{stmtsFrom}
 use Rattle.blif_text.proofs.RefusalLaws.{stmts-start, stmts-all}
-use Rattle.blif_model.specs.Read.{_then_, when, tooLarge, naming, undefined, coverFaults, declFault, declsOf, readFault, Result, read, refused, answer, builtFrom, readText}
-use Rattle.blif_read.specs.Stages.{Holds, Readable, Sized}
+use Rattle.blif_model.specs.Read.{_then_, when, tooLarge, naming, undefined, coverFaults, declFault, declsOf, readFault, Result, refused, answer, builtFrom, readText}
+use Rattle.blif_read.specs.Stages.{Holds, PlainText, Sized}
 use Rattle.blif_read.specs.declared.ReadAnswer.the-variants.{Refused}
 
 -- the first of what is left
@@ -76,16 +76,16 @@ module _ (text : Bytes) where
     pub high-byte : any (leb 128) text ≡ true → readText text ≡ refused 3
     high-byte e = refuses-when (any (leb 128) text) 2 _ second-left e
 
-    pub readable : length text ≤ maxText → any (leb 128) text ≡ false → Readable text
+    pub readable : length text ≤ maxText → any (leb 128) text ≡ false → PlainText text
     readable h e = record { small = h; left = passes-when (any (leb 128) text) 3 _ second-left e }
 
 -- ---- tokens and sizes
 
-module _ {text : Bytes} (c : Readable text) where
+module _ {text : Bytes} (c : PlainText text) where
   pub bad-statement : (b : ℕ) → b ≡ firstBad (parsed text) → (b ≡ 0 → ⊥) → readText text ≡ refused b
   bad-statement b e f = refuses text b _ (c .left ∙ ap (λ (m : ℕ). m then declFault (declsOf text)) (sym e)) f
 
-  module _ {tokens : List ℕ} {n : ℕ} (m : Marked text tokens n) (h : n ≤ length tokens) (z : firstBad (parsed text) ≡ 0) where
+  module _ {tokens : List ℕ} {n : ℕ} (m : TokensMarked text tokens n) (h : n ≤ length tokens) (z : firstBad (parsed text) ≡ 0) where
     -- the tokens declare what the text declares
     same-decls : decls (stmtsFrom text tokens n 0) ≡ declsOf text
     unfolding declsOf

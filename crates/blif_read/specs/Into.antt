@@ -6,7 +6,6 @@ use Prim.Native.Nat.{ℕ, _*_}
 use lib.Dec.{leb}
 use Rattle.lists.specs.Lists.{if_then_else_, Bytes, zeros, over}
 use Rattle.signal.specs.Cell.{sigCell}
-use Rattle.network.specs.Net.{Net}
 use Rattle.network.specs.Cells.{gateWidth, maxGates, maxPins, maxOutputs, gateCells, pinCells, countsOf}
 use Rattle.blif_model.specs.Read.{Result, read, refused, readText}
 use Rattle.blif_read.specs.declared.ReadAnswer.{ReadAnswer}

@@ -1,30 +1,24 @@
 -- What the stages of the reader ask of each other: each goes on where no refusal before it took the text. Assumes nothing: these are
 -- definitions.
 use mathlib.Core.Path.{_≡_}
-use mathlib.Core.Bool.{Bool, true, false}
+use mathlib.Core.Bool.{true, false}
 use mathlib.Core.List.{List, [], _++_, map}
-use Prim.Native.Nat.{ℕ, _+_, _*_, _≤_}
+use Prim.Native.Nat.{ℕ, _*_, _≤_}
 use lib.ListN.{length, take}
 use Rattle.lists.specs.Lists.{if_then_else_, Bytes, all, known, sumOf}
-use Rattle.signal.specs.Signal.{Signal}
 use Rattle.signal.specs.Cell.{sigCell}
-use Rattle.network.specs.Net.{Net}
 use Rattle.network.specs.declared.Counts.{Counts}
 use Rattle.network.specs.Cells.{maxGates, maxPins, maxOutputs, gateWidth, lent, countsOf, Laid}
 use Rattle.blif_text.specs.Statements.{parsed, firstBad}
-use Rattle.blif_text.specs.Decls.{Decl, decls, ins, defs, defines}
+use Rattle.blif_text.specs.Decls.{decls, ins, defs, defines}
 use Rattle.blif_text.specs.Decls as names
 use Rattle.blif_text.specs.Places.{maxText, maxTokens}
 use Rattle.blif_text.specs.Walk.{stmtsFrom, StmtsAt}
 use Rattle.blif_text.specs.Blocks.{Blocks, defsAt}
-use Rattle.blif_model.specs.Lookup.{lookup}
-use Rattle.blif_model.specs.Names.{byte-names}
-use Rattle.blif_model.specs.Render.{modelOf}
-use Rattle.blif_model.specs.Read.{_then_, when, tooLarge, naming, undefined, coverFaults, declFault, declsOf, readFault, Result, read, refused, readText}
+use Rattle.blif_model.specs.Read.{_then_, when, tooLarge, naming, undefined, coverFaults, declFault, declsOf, readFault, Result, read, refused, look, readText}
 use Rattle.blif_model.specs.Working.{GatesIn, placed, placedCount}
-use Rattle.name_index.specs.Index.{entriesOf, Index}
-use Rattle.blif_decls.specs.Entries.{entries}
-use Rattle.blif_read.specs.Into.{Lengths, lengths, enough}
+use Rattle.blif_decls.specs.Tables.{Named}
+use Rattle.blif_read.specs.Into.{Lengths, enough}
 use Rattle.blif_read.specs.declared.ReadAnswer.{ReadAnswer}
 use Rattle.blif_read.specs.declared.ReadAnswer.the-variants.{Read, Refused}
 
@@ -56,7 +50,7 @@ pub record Enough (gs ps os wgs wps : List ℕ) : Type 0 where
   pub workPins : maxPins ≤ length wps
 
 -- the text has been taken by no refusal up to 3
-pub record Readable (text : Bytes) : Type 0 where
+pub record PlainText (text : Bytes) : Type 0 where
   -- "Text at most 32,768 bytes"
   pub small : length text ≤ maxText
   -- what is left of the refusals
@@ -77,28 +71,16 @@ pub record Sized (text tokens : List ℕ) (n : ℕ) : Type 0 where
 
 -- by no refusal up to 10, and no output is undefined; the names are in the index, and the outputs' signals in their cells
 pub record Resolving (text tokens : List ℕ) (n : ℕ) (index outs blocks : List ℕ) (i g o : ℕ) : Type 0 where
-  -- the inputs are counted
-  pub inputs : i ≡ length (ins (declsOf text))
-  -- the gates are counted
-  pub gates : g ≡ length (defs (declsOf text))
-  -- the outputs are counted
-  pub outputs : o ≡ length (names.outs (declsOf text))
-  -- the index is one of as many names
-  pub index-is : Index text index (i + g)
-  -- which are those defined, with their signals
-  pub entries-are : entriesOf text index (i + g) ≡ entries 0 0 (declsOf text)
-  -- the records place blocks
-  pub blocks-in : Blocks text tokens n blocks g
-  -- which are the latches and covers
-  pub blocks-are : defsAt text tokens n blocks g ≡ defs (declsOf text)
+  -- index and blocks are the text's
+  pub tables : Named (declsOf text) text tokens n index blocks i g o
   -- within the sizes
   pub sized : tooLarge (declsOf text) ≡ false
   -- no name is defined twice
-  pub named : naming false [] (declsOf text) ≡ 0
+  pub once : naming false [] (declsOf text) ≡ 0
   -- every output is defined
   pub outs-known : all (λ (x : Bytes). known x (ins (declsOf text) ++ map defines (defs (declsOf text)))) (names.outs (declsOf text)) ≡ true
   -- the outputs' signals
-  pub outs-are : take o outs ≡ map (λ (x : Bytes). sigCell (lookup byte-names (modelOf (declsOf text)) x)) (names.outs (declsOf text))
+  pub outs-are : take o outs ≡ map (λ (x : Bytes). sigCell (look (declsOf text) x)) (names.outs (declsOf text))
   -- what is left of the refusals
   pub left : readFault text ≡ (when (undefined (declsOf text)) 11 then coverFaults (defs (declsOf text)))
 
@@ -117,6 +99,6 @@ pub record Placing (text tokens : List ℕ) (n : ℕ) (blocks : List ℕ) (i g o
   -- the pins are counted
   pub used-is : used ≡ sumOf placedCount (defs (declsOf text))
   -- the gates
-  pub gates-in : GatesIn gates pinsIn used (map (placed (lookup byte-names (modelOf (declsOf text)))) (defs (declsOf text)))
+  pub gates-in : GatesIn gates pinsIn used (map (placed (look (declsOf text))) (defs (declsOf text)))
   -- the outputs
-  pub outs-are : take o outs ≡ map (λ (x : Bytes). sigCell (lookup byte-names (modelOf (declsOf text)) x)) (names.outs (declsOf text))
+  pub outs-are : take o outs ≡ map (λ (x : Bytes). sigCell (look (declsOf text) x)) (names.outs (declsOf text))

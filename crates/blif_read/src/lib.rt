@@ -18,26 +18,12 @@ use network::MAX_PINS;
 use sort::Sorted;
 use sort::topo_sort;
 ghost use mathlib.Core.Path.{_≡_};
-ghost use mathlib.Core.Bool.{false};
-ghost use mathlib.Core.List.{map};
-ghost use Prim.Native.Nat.{_+_, _*_, _≤_};
 ghost use lib.Dec.{leb};
-ghost use lib.ListN.{length, take, drop};
-ghost use Rattle.lists.specs.Lists.{any, over, zeros, sumOf};
-ghost use Rattle.network.specs.Cells.{gateWidth, maxGates, maxPins, maxOutputs};
-ghost use Rattle.blif_text.specs.Decls.{decls};
-ghost use Rattle.blif_text.specs.Places.{maxTokens, tokensOf};
-ghost use Rattle.blif_text.specs.Walk.{stmtsFrom, StmtsAt, Inside};
-ghost use Rattle.blif_text.specs.Blocks.{blockWidth, defsAt, Blocks};
-ghost use Rattle.name_index.specs.Search.{signalIn};
-ghost use Rattle.name_index.specs.Index.{indexCells, entriesOf, Index};
-ghost use Rattle.blif_model.specs.Read.{tooLarge, coverFaults, Result, refused, readText};
-ghost use Rattle.blif_model.specs.Working.{placedCount, WorkRoom};
-ghost use Rattle.blif_decls.specs.Tables.{DefinedBy};
-ghost use Rattle.blif_uses.specs.Resolve.{Resolved, PlacedBy};
-ghost use Rattle.blif_gates.specs.Covers.{Buildable, BuiltBy};
+ghost use lib.ListN.{length, take};
+ghost use Rattle.lists.specs.Lists.{any, over, zeros};
+ghost use Rattle.blif_model.specs.Read.{readText};
 ghost use Rattle.blif_read.specs.Into.{lengths, enough, outcome, readInto};
-ghost use Rattle.blif_read.specs.Stages.{answered, countsIn, Holds, Enough, Readable, Sized, Resolving, Placing};
+ghost use Rattle.blif_read.specs.Stages.{answered, countsIn, Holds, Enough, PlainText, Sized, Resolving, Placing};
 
 // The network's counts, or a refusal's number.
 pub enum ReadAnswer {
@@ -211,7 +197,7 @@ fn read_tokens(
     work_pins: &mut [u32],
 ) -> ReadAnswer
     requires { ⌜ Enough (now gates) (now pins) (now outputs) (now «work_gates») (now «work_pins») ⌝ }
-    requires { ⌜ Readable (now text) ⌝ }
+    requires { ⌜ PlainText (now text) ⌝ }
     ensures { λ r. ⌜ Holds (readText (now (text .entry))) r (now (gates .exit)) (now (pins .exit)) (now (outputs .exit)) ⌝ }
 {
     let n = mark_tokens(text, pins);

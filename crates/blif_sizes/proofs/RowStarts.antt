@@ -7,7 +7,7 @@ use native.Mathlib.Numerals.{add-one}
 use lib.ListN.{length, getD, length-map}
 use lib.Seq.{slice, slice-cons, slice-empty, length-slice}
 use Rattle.lists.specs.Lists.{Bytes}
-use Rattle.blif_text.specs.Statements.{Stmt, Parsed, ok, bad, modelOf, latchOf, firstBad, stmts}
+use Rattle.blif_text.specs.Statements.{Stmt, Parsed, ok, bad, modelStmt, latchStmt, firstBad, stmts}
 use Rattle.blif_text.specs.Rows.{rowStmt}
 use Rattle.blif_text.specs.Places.{tokenOf, tokensOf, grouped}
 use Rattle.blif_text.specs.Keywords.{keywordOf, said, RowTo}
@@ -35,7 +35,7 @@ Has (ok (Stmt.cube us)) k ts = us ≡ k ∷ ts
 Has (bad n) k ts = 0 < n
 
 keyword-has : (w : Keyword) (k : Bytes) (ts : List Bytes) → Has (byKeyword w k ts) k ts
-unfolding modelOf latchOf
+unfolding modelStmt latchStmt
 keyword-has key.Model k [] = omega arith
 keyword-has key.Model k (n ∷ ts) = tt
 keyword-has key.Inputs k ts = refl

@@ -14,9 +14,9 @@ use Rattle.blif_text.specs.Walk.{stmtsFrom, StmtsAt}
 use Rattle.blif_text.specs.declared.Run.{Run}
 use Rattle.blif_text.specs.declared.Statement.the-variants as place
 use Rattle.blif_text.proofs.RefusalLaws.{stmts-end}
-use Rattle.blif_model.specs.Read.{added, gateCount, pinCount}
+use Rattle.blif_model.specs.Read.{added, gateCount, pinCount, overSizes}
 use Rattle.blif_sizes.specs.Rows.{names, RowIs, LinesAt}
-use Rattle.blif_sizes.specs.Sizes.{passes, Totals, Counts}
+use Rattle.blif_sizes.specs.Sizes.{Totals, RowCounted}
 use Rattle.blif_sizes.specs.declared.Sizes.{Sizes}
 use Rattle.blif_sizes.proofs.RowStarts.{names-length, stmts-behind}
 
@@ -24,7 +24,7 @@ use Rattle.blif_sizes.proofs.RowStarts.{names-length, stmts-behind}
 
 module _ (w : Sizes) where
   abbrev past : Bool
-  past = passes (w .inputs) (w .outputs) (w .gates) (w .pins)
+  past = overSizes (w .inputs) (w .outputs) (w .gates) (w .pins)
 
   pub past-inputs : 256 < w .inputs → true ≡ past
   past-inputs h = rw (lt-ltb 256 (w .inputs) h)
@@ -78,13 +78,13 @@ totals-more d v w ds left a t =
 module _ {text tokens : List ℕ} {n : ℕ} (v : Sizes) where
   -- it declares something
   counts-decl : (w : Sizes) (d : Decl) → v .at < w .at → StmtsAt text tokens n (w .at) → Adds d v w
-      → decls (stmtsFrom text tokens n (v .at)) ≡ d ∷ decls (stmtsFrom text tokens n (w .at)) → Counts text tokens n v w
+      → decls (stmtsFrom text tokens n (v .at)) ≡ d ∷ decls (stmtsFrom text tokens n (w .at)) → RowCounted text tokens n v w
   counts-decl w d h r a e =
       record { low = h; rest = r; totals = λ ds t. totals-more d v w ds (decls (stmtsFrom text tokens n (w .at))) a (subst (Totals ds v) e t) }
 
   -- it declares nothing
   counts-none : (at : ℕ) → v .at < at → StmtsAt text tokens n at → decls (stmtsFrom text tokens n (v .at)) ≡ decls (stmtsFrom text tokens n at)
-      → Counts text tokens n v (record { at = at; inputs = v .inputs; outputs = v .outputs; gates = v .gates; pins = v .pins })
+      → RowCounted text tokens n v (record { at = at; inputs = v .inputs; outputs = v .outputs; gates = v .gates; pins = v .pins })
   counts-none at h r e =
       record {
         low = h;
@@ -96,7 +96,7 @@ module _ {text tokens : List ℕ} {n : ℕ} (v : Sizes) where
 
   module _ {r : ℕ} where
     pub count-inputs : {run : Run} → RowIs text tokens n (v .at) r (place.Inputs run)
-        → Counts text tokens n v (record { at = r; inputs = v .inputs + (r - v .at - 1); outputs = v .outputs; gates = v .gates; pins = v .pins })
+        → RowCounted text tokens n v (record { at = r; inputs = v .inputs + (r - v .at - 1); outputs = v .outputs; gates = v .gates; pins = v .pins })
     unfolding decls insOf outsOf defsOf
     count-inputs w =
         counts-decl _ (inputs (names text tokens (v .at) r)) (w .low) (w .rest)
@@ -104,7 +104,7 @@ module _ {text tokens : List ℕ} {n : ℕ} (v : Sizes) where
         (ap decls (w .starts))
 
     pub count-outputs : {run : Run} → RowIs text tokens n (v .at) r (place.Outputs run)
-        → Counts text tokens n v (record { at = r; inputs = v .inputs; outputs = v .outputs + (r - v .at - 1); gates = v .gates; pins = v .pins })
+        → RowCounted text tokens n v (record { at = r; inputs = v .inputs; outputs = v .outputs + (r - v .at - 1); gates = v .gates; pins = v .pins })
     unfolding decls insOf outsOf defsOf
     count-outputs w =
         counts-decl _ (outputs (names text tokens (v .at) r)) (w .low) (w .rest)
@@ -112,7 +112,7 @@ module _ {text tokens : List ℕ} {n : ℕ} (v : Sizes) where
         (ap decls (w .starts))
 
     pub count-latch : {first : ℕ} → RowIs text tokens n (v .at) r (place.Latch first)
-        → Counts text tokens n v (record { at = r; inputs = v .inputs; outputs = v .outputs; gates = v .gates + 1; pins = v .pins + 3 })
+        → RowCounted text tokens n v (record { at = r; inputs = v .inputs; outputs = v .outputs; gates = v .gates + 1; pins = v .pins + 3 })
     unfolding decls insOf outsOf defsOf gateCount pinCount
     count-latch w =
         counts-decl _ _ (w .low) (w .rest)
@@ -121,7 +121,7 @@ module _ {text tokens : List ℕ} {n : ℕ} (v : Sizes) where
 
     pub count-names : {run : Run} {k e g p : ℕ} → RowIs text tokens n (v .at) r (place.Names run) → LinesAt text tokens n r k e
         → g ≡ 1 + added k → p ≡ (k + 1) * (r - v .at - 1 - 1 + 2)
-        → Counts text tokens n v (record { at = e; inputs = v .inputs; outputs = v .outputs; gates = v .gates + g; pins = v .pins + p })
+        → RowCounted text tokens n v (record { at = e; inputs = v .inputs; outputs = v .outputs; gates = v .gates + g; pins = v .pins + p })
     unfolding decls insOf outsOf defsOf gateCount pinCount
     count-names {run} {k} {e} {g} {p} w l a b =
         let ns = names text tokens (v .at) r in
@@ -135,7 +135,7 @@ module _ {text tokens : List ℕ} {n : ℕ} (v : Sizes) where
 
     -- "`.exdc` stops naming and building"
     pub count-exdc : RowIs text tokens n (v .at) r place.Exdc
-        → Counts text tokens n v (record { at = n; inputs = v .inputs; outputs = v .outputs; gates = v .gates; pins = v .pins })
+        → RowCounted text tokens n v (record { at = n; inputs = v .inputs; outputs = v .outputs; gates = v .gates; pins = v .pins })
     unfolding decls
     count-exdc w =
         let b = stmts-behind (w .rest) in
@@ -143,7 +143,7 @@ module _ {text tokens : List ℕ} {n : ℕ} (v : Sizes) where
 
     -- it adds to no size
     pub count-model : RowIs text tokens n (v .at) r place.Model
-        → Counts text tokens n v (record { at = r; inputs = v .inputs; outputs = v .outputs; gates = v .gates; pins = v .pins })
+        → RowCounted text tokens n v (record { at = r; inputs = v .inputs; outputs = v .outputs; gates = v .gates; pins = v .pins })
     unfolding decls insOf outsOf defsOf
     count-model w =
         counts-decl _ model (w .low) (w .rest)
@@ -152,7 +152,7 @@ module _ {text tokens : List ℕ} {n : ℕ} (v : Sizes) where
 
     -- "statements after `.end` still count"
     pub count-end : RowIs text tokens n (v .at) r place.End
-        → Counts text tokens n v (record { at = r; inputs = v .inputs; outputs = v .outputs; gates = v .gates; pins = v .pins })
+        → RowCounted text tokens n v (record { at = r; inputs = v .inputs; outputs = v .outputs; gates = v .gates; pins = v .pins })
     unfolding decls insOf outsOf defsOf
     count-end w =
         counts-decl _ end (w .low) (w .rest)
@@ -161,7 +161,7 @@ module _ {text tokens : List ℕ} {n : ℕ} (v : Sizes) where
 
     -- "Cube lines count only directly after their `.names`"
     pub count-cube : {run : Run} → RowIs text tokens n (v .at) r (place.Cube run)
-        → Counts text tokens n v (record { at = r; inputs = v .inputs; outputs = v .outputs; gates = v .gates; pins = v .pins })
+        → RowCounted text tokens n v (record { at = r; inputs = v .inputs; outputs = v .outputs; gates = v .gates; pins = v .pins })
     unfolding decls
     count-cube w = counts-none r (w .low) (w .rest) (ap decls (w .starts))
 

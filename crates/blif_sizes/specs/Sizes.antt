@@ -1,32 +1,14 @@
 -- Sizes counted statement by statement (document 01: "Sizes are counted from the statements before the first `.exdc`"). Assumes nothing:
 -- these are definitions.
 use mathlib.Core.Path.{_≡_}
-use mathlib.Core.Bool.{Bool, _||_}
 use mathlib.Core.List.{List}
-use Prim.Native.Nat.{ℕ, _+_, _≤_, _<_}
-use lib.Dec.{ltb}
+use Prim.Native.Nat.{ℕ, _+_, _<_}
 use lib.ListN.{length}
 use Rattle.lists.specs.Lists.{sumOf}
-use Rattle.network.specs.Cells.{maxInputs, maxOutputs, maxGates, maxPins}
 use Rattle.blif_text.specs.Decls.{Decl, decls, ins, outs, defs}
 use Rattle.blif_text.specs.Walk.{stmtsFrom, StmtsAt}
 use Rattle.blif_model.specs.Read.{gateCount, pinCount}
 use Rattle.blif_sizes.specs.declared.Sizes.{Sizes}
-
--- a size is passed: "256 inputs; 256 outputs; 1,024 gates; 16,384 pins"
-abbrev pub passes : ℕ → ℕ → ℕ → ℕ → Bool
-passes i o g p = ltb maxInputs i || ltb maxOutputs o || ltb maxGates g || ltb maxPins p
-
--- each size so far is within its limit
-pub record Within (w : Sizes) : Type 0 where
-  -- "256 inputs"
-  pub inputs : w .inputs ≤ maxInputs
-  -- "256 outputs"
-  pub outputs : w .outputs ≤ maxOutputs
-  -- "1,024 gates"
-  pub gates : w .gates ≤ maxGates
-  -- "16,384 pins"
-  pub pins : w .pins ≤ maxPins
 
 -- the sizes so far, with those of the declarations that are left, are these declarations'
 pub record Totals (ds : List Decl) (w : Sizes) (left : List Decl) : Type 0 where
@@ -40,7 +22,7 @@ pub record Totals (ds : List Decl) (w : Sizes) (left : List Decl) : Type 0 where
   pub pins : sumOf pinCount (defs ds) ≡ w .pins + sumOf pinCount (defs left)
 
 -- a statement or more is counted: the sizes v became w, and the sizes of any declarations stay
-pub record Counts (text tokens : List ℕ) (n : ℕ) (v w : Sizes) : Type 0 where
+pub record RowCounted (text tokens : List ℕ) (n : ℕ) (v w : Sizes) : Type 0 where
   -- a row is passed
   pub low : v .at < w .at
   -- statements stand behind it

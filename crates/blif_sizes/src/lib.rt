@@ -7,14 +7,14 @@ use network::MAX_INPUTS;
 use network::MAX_OUTPUTS;
 use network::MAX_PINS;
 ghost use mathlib.Core.Path.{_≡_};
-ghost use mathlib.Core.Bool.{false};
 ghost use Prim.Native.Nat.{_+_, _-_, _*_, _≤_, _<_};
+ghost use Rattle.network.specs.Cells.{WithinSizes};
 ghost use Rattle.blif_text.specs.Decls.{decls};
 ghost use Rattle.blif_text.specs.Places.{maxTokens};
 ghost use Rattle.blif_text.specs.Walk.{stmtsFrom, StmtsAt};
-ghost use Rattle.blif_model.specs.Read.{added, tooLarge};
+ghost use Rattle.blif_model.specs.Read.{added, overSizes, tooLarge};
 ghost use Rattle.blif_sizes.specs.Rows.{RowIs, isCube, LinesAt};
-ghost use Rattle.blif_sizes.specs.Sizes.{passes, Within, Counts};
+ghost use Rattle.blif_sizes.specs.Sizes.{RowCounted};
 
 // A row of tokens: its statement, and where the next row starts.
 pub struct Row {
@@ -100,8 +100,8 @@ fn cover_pins(names: usize, lines: usize) -> usize
 
 // The sizes with one more statement, and a cover's lines.
 fn count_row(text: &[u8], tokens: &[u32], n: usize, w: Sizes) -> Sizes
-    requires { ⌜ StmtsAt (now text) (now tokens) n (w .at) × (w .at < n) × (n ≤ maxTokens) × Within w ⌝ }
-    ensures { λ r. ⌜ Counts (now (text .entry)) (now (tokens .entry)) n w r ⌝ }
+    requires { ⌜ StmtsAt (now text) (now tokens) n (w .at) × (w .at < n) × (n ≤ maxTokens) × WithinSizes (w .inputs) (w .outputs) (w .gates) (w .pins) ⌝ }
+    ensures { λ r. ⌜ RowCounted (now (text .entry)) (now (tokens .entry)) n w r ⌝ }
 {
     let at = w.at;
     let row = row_at(text, tokens, n, at);
@@ -134,7 +134,7 @@ fn count_row(text: &[u8], tokens: &[u32], n: usize, w: Sizes) -> Sizes
 
 // Whether one of the sizes is passed.
 fn is_past(w: Sizes) -> bool
-    ensures { λ r. ⌜ r ≡ passes (w .inputs) (w .outputs) (w .gates) (w .pins) ⌝ }
+    ensures { λ r. ⌜ r ≡ overSizes (w .inputs) (w .outputs) (w .gates) (w .pins) ⌝ }
 {
     if MAX_INPUTS < w.inputs {
         return true;

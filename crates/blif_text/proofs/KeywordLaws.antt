@@ -1,49 +1,76 @@
 -- The tests of a keyword, one after the other. Assumes nothing.
-use mathlib.Core.Path.{_≡_, refl, sym, _∙_}
-use mathlib.Core.List.{[], _∷_, headD}
+use mathlib.Core.Path.{_≡_, refl, sym, ap, _∙_}
+use mathlib.Core.Bool.{Bool, true, false}
+use mathlib.Core.List.{List, [], _∷_, _++_, headD}
+use Prim.Native.Nat.{ℕ, suc, _<_}
 use native.Mathlib.Omega.{arith}
 use lib.Dec.{eqb}
-use lib.ListN.{length, getD}
+use lib.ListN.{length, getD, take, drop, take-append-drop}
+use lib.Seq.{drop-cons}
 use borrow.Author.Tests.{eq-eqb, ne-eqb}
 use Rattle.lists.specs.Lists.{if_then_else_, Bytes, bytes, same}
 use Rattle.blif_text.specs.Keywords.{keywordOf}
 use Rattle.blif_text.specs.declared.Keyword.{Keyword}
 use Rattle.blif_text.specs.declared.Keyword.the-variants as key
 
--- ---- what is left after each test
+-- ---- the names, in the order in which they are tried
 
--- after all the names
-abbrev pub dotted : Bytes → Keyword
-dotted k = if eqb 46 (headD k 0) then key.Unsupported else key.Cube
+-- a name, and the keyword that it is
+pub record Named : Type 0 where
+  pub name : Bytes
+  pub keyword : Keyword
 
--- from `.exdc` on
-abbrev pub fromExdc : Bytes → Keyword
-fromExdc k = if same k (bytes ".exdc") then key.Exdc else dotted k
+abbrev pub named : Bytes → Keyword → Named
+named n x = record { name = n; keyword = x }
 
--- from `.end` on
-abbrev pub fromEnd : Bytes → Keyword
-fromEnd k = if same k (bytes ".end") then key.End else fromExdc k
+abbrev pub names : List Named
+names =
+    named (bytes ".model") key.Model
+    ∷ named (bytes ".inputs") key.Inputs
+    ∷ named (bytes ".outputs") key.Outputs
+    ∷ named (bytes ".latch") key.Latch
+    ∷ named (bytes ".names") key.Names
+    ∷ named (bytes ".end") key.End
+    ∷ named (bytes ".exdc") key.Exdc
+    ∷ []
 
--- from `.names` on
-abbrev pub fromNames : Bytes → Keyword
-fromNames k = if same k (bytes ".names") then key.Names else fromEnd k
+-- name j
+abbrev pub nameAt : ℕ → Named
+nameAt j = getD names j (named [] key.Cube)
 
--- from `.latch` on
-abbrev pub fromLatch : Bytes → Keyword
-fromLatch k = if same k (bytes ".latch") then key.Latch else fromNames k
+-- the keyword, where these names are left to try
+abbrev pub tests : List Named → Bytes → Keyword
+tests [] k = if eqb 46 (headD k 0) then key.Unsupported else key.Cube
+tests (n ∷ ns) k = if same k (n .name) then n .keyword else tests ns k
 
--- from `.outputs` on
-abbrev pub fromOutputs : Bytes → Keyword
-fromOutputs k = if same k (bytes ".outputs") then key.Outputs else fromLatch k
-
--- from `.inputs` on
-abbrev pub fromInputs : Bytes → Keyword
-fromInputs k = if same k (bytes ".inputs") then key.Inputs else fromOutputs k
-
--- the first test, then the others
-pub keyword-tests : (k : Bytes) → keywordOf k ≡ (if same k (bytes ".model") then key.Model else fromInputs k)
+-- the definition tries them all
+keyword-tests : (k : Bytes) → keywordOf k ≡ tests names k
 unfolding keywordOf
 keyword-tests k = refl
+
+-- ---- names tried
+
+-- the token is none of these names
+pub data NoneOf (k : Bytes) : List Named → Type 0 where
+  none : NoneOf k []
+  other : {n : Named} {ns : List Named} {b : Bool} → b ≡ same k (n .name) → b ≡ false → NoneOf k ns → NoneOf k (n ∷ ns)
+
+-- the others are left
+tests-left : {k : Bytes} (ns ms : List Named) → NoneOf k ns → tests (ns ++ ms) k ≡ tests ms k
+tests-left [] ms none = refl
+tests-left {k} (n ∷ ns) ms (other e f h) = ap (λ (b : Bool). if b then n .keyword else tests (ns ++ ms) k) (sym e ∙ f) ∙ tests-left ns ms h
+
+-- the token is name j
+pub is-name : {k : Bytes} {b : Bool} (j : ℕ) → j < 7 → NoneOf k (take j names) → b ≡ same k (nameAt j .name) → b ≡ true → nameAt j .keyword ≡ keywordOf k
+is-name {k} j l h e f =
+    sym
+    (keyword-tests k
+    ∙ ap (λ (ns : List Named). tests ns k) (sym (take-append-drop j names))
+    ∙ tests-left (take j names) (drop j names) h
+    ∙ ap (λ (ns : List Named). tests ns k) (drop-cons names j (named [] key.Cube) l)
+    ∙ ap (λ (b : Bool). if b then nameAt j .keyword else tests (drop (suc j) names) k) (sym e ∙ f))
+
+pub ruleset tried = (none, other)
 
 -- ---- the first byte
 
@@ -53,9 +80,14 @@ unfolding headD
 head-is [] = refl
 head-is (c ∷ k) = refl
 
--- a dot first, and none of the names
-pub dot-first : (k : Bytes) → getD k 0 0 ≡ 46 → dotted k ≡ key.Unsupported
-dot-first k h = rw (eq-eqb 46 (headD k 0) (sym (head-is k ∙ h)))
+-- a dot first, and none of the names, of which the last is told apart: a search for all seven takes too long
+pub dot-first : {k : Bytes} {b : Bool} → NoneOf k (take 6 names) → b ≡ same k (nameAt 6 .name) → b ≡ false → getD k 0 0 ≡ 46 → key.Unsupported ≡ keywordOf k
+dot-first {k} h e f d =
+    sym
+    (keyword-tests k
+    ∙ tests-left (take 6 names) (drop 6 names) h
+    ∙ tests-left (drop 6 names) [] (other e f none)
+    ∙ rw (eq-eqb 46 (headD k 0) (sym (head-is k ∙ d))))
 
 -- no dot first: no keyword
 pub no-dot-first : (k : Bytes) → (getD k 0 0 ≡ 46 → ⊥) → keywordOf k ≡ key.Cube

@@ -6,8 +6,10 @@ pub mod Loops
 pub mod WordLaws
 pub mod LineLaws
 pub mod RowLaws
+pub mod ScanBytes
 pub mod ScanLaws
 pub mod KeywordLaws
 pub mod StatementLaws
+pub mod ColumnLaws
 pub mod RowWalk
 pub mod RefusalLaws

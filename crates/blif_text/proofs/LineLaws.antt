@@ -8,11 +8,11 @@ use native.Mathlib.Numerals.{add-one}
 use lib.Dec.{eqb}
 use lib.ListN.{length, getD, take, drop, drop-of-length-le}
 use lib.Seq.{drop-cons, take-suc, take-take, drop-append-le, length-take-le, getD-take, getD-drop, slice, slice-empty, length-slice}
-use borrow.Author.Tests.{eq-eqb, ne-eqb}
+use borrow.Author.Tests.{eqb-true, eq-eqb, ne-eqb}
 use Rattle.lists.specs.Lists.{if_then_else_, Bytes, any}
 use Rattle.lists.proofs.Tests.{by-test, or-left, or-right}
 use Rattle.blif_text.specs.Lines.{lines, split, dropCR, cut, continues}
-use Rattle.blif_text.specs.Scan.{LineTo}
+use Rattle.blif_text.specs.Scan.{FirstTo}
 use Rattle.blif_text.proofs.Parts.{Without}
 use Rattle.blif_text.proofs.Scan.{without-slice, slice-drop, chop, lines-at, lines-end}
 use Rattle.blif_text.proofs.WordLaws.{drop-take}
@@ -45,30 +45,30 @@ pub lines-none : lines [] ≡ []
 unfolding lines split dropCR
 lines-none = refl
 
-module _ {t : Bytes} {at end : ℕ} (l : at < length t) (e : LineTo t at end) where
+module _ {t : Bytes} {at end : ℕ} (l : at < length t) (e : FirstTo (eqb 10) t at end) where
   clean : Without (eqb 10) (slice at end t)
-  clean = without-slice (eqb 10) t at end (e .high) (e .none)
+  clean = without-slice (eqb 10) t at end (e .passed .high) (e .passed .none)
 
   -- an LF ends it
   ended : end < length t → lines (drop at t) ≡ chop (slice at end t) ∷ lines (drop (end + 1) t)
   ended h =
       let q : drop at t ≡ slice at end t ++ 10 ∷ drop (end + 1) t =
-      slice-drop t at end (e .low) (e .high)
-      ∙ ap (λ (s : Bytes). slice at end t ++ s) (drop-cons t end 0 h ∙ rw (add-one) (ap (λ (c : ℕ). c ∷ drop (suc end) t) (e .stop h))) in
+      slice-drop t at end (e .passed .low) (e .passed .high)
+      ∙ ap (λ (s : Bytes). slice at end t ++ s) (drop-cons t end 0 h ∙ rw (add-one) (ap (λ (c : ℕ). c ∷ drop (suc end) t) (sym (eqb-true 10 (getD t end 0) (e .stop h))))) in
       ap lines q ∙ lines-at (slice at end t) (drop (end + 1) t) clean
 
   -- the text's end ends it
   pub last-line : length t ≤ end → LineAt t at end end
   last-line h =
       let q : drop at t ≡ slice at end t =
-      slice-drop t at end (e .low) (e .high) ∙ rw (drop-of-length-le t {i = end} h) (append-nil (slice at end t)) in
+      slice-drop t at end (e .passed .low) (e .passed .high) ∙ rw (drop-of-length-le t {i = end} h) (append-nil (slice at end t)) in
       let c : drop at t ≡ getD t at 0 ∷ drop (suc at) t = drop-cons t at 0 l in
       let s : lines (drop at t) ≡ drop at t ∷ [] =
       rw c (lines-end (getD t at 0) (drop (suc at) t) (subst (Without (eqb 10)) (sym q ∙ c) clean)) in
       record {
-        low = e .low;
+        low = e .passed .low;
         moves = omega arith;
-        high = e .high;
+        high = e .passed .high;
         is = s ∙ rw (drop-of-length-le t {i = end} h, lines-none) (ap (λ (x : Bytes). x ∷ []) q);
       }
 
@@ -76,7 +76,7 @@ module _ {t : Bytes} {at end : ℕ} (l : at < length t) (e : LineTo t at end) wh
   empty-line h q =
       let n : slice at end t ≡ [] = ap (λ (k : ℕ). slice at k t) q ∙ slice-empty at t in
       record {
-        low = e .low;
+        low = e .passed .low;
         moves = omega arith;
         high = omega arith;
         is = ended h ∙ ap (λ (x : Bytes). x ∷ lines (drop (end + 1) t)) (rw n (unfold chop in refl));
@@ -85,14 +85,14 @@ module _ {t : Bytes} {at end : ℕ} (l : at < length t) (e : LineTo t at end) wh
   module _ (h : end < length t) (d : end ≡ at → ⊥) where
     pub last-byte : slice at end t ≡ slice at (end - 1) t ++ getD t (end - 1) 0 ∷ []
     last-byte =
-        let q : end ≡ suc (end - 1) = omega (arith, e .low) in
-        ap (λ (k : ℕ). slice at k t) q ∙ slice-snoc t at (end - 1) (omega (arith, e .low)) (omega arith)
+        let q : end ≡ suc (end - 1) = omega (arith, e .passed .low) in
+        ap (λ (k : ℕ). slice at k t) q ∙ slice-snoc t at (end - 1) (omega (arith, e .passed .low)) (omega arith)
 
     pub cr-line : getD t (end - 1) 0 ≡ 13 → LineAt t at (end - 1) (end + 1)
     cr-line c =
         record {
-          low = omega (arith, e .low);
-          moves = omega (arith, e .low);
+          low = omega (arith, e .passed .low);
+          moves = omega (arith, e .passed .low);
           high = omega arith;
           is =
               ended h
@@ -103,8 +103,8 @@ module _ {t : Bytes} {at end : ℕ} (l : at < length t) (e : LineTo t at end) wh
     pub plain-line : (getD t (end - 1) 0 ≡ 13 → ⊥) → LineAt t at end (end + 1)
     plain-line c =
         record {
-          low = e .low;
-          moves = omega (arith, e .low);
+          low = e .passed .low;
+          moves = omega (arith, e .passed .low);
           high = omega arith;
           is =
               ended h

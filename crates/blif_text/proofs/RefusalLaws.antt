@@ -6,9 +6,9 @@ use native.Mathlib.Omega.{arith}
 use lib.ListN.{length, getD}
 use lib.Seq.{slice}
 use Rattle.lists.specs.Lists.{Bytes}
-use Rattle.blif_text.specs.Statements.{Stmt, Parsed, ok, bad, modelOf, latchOf, parsed, firstBad, stmts}
+use Rattle.blif_text.specs.Statements.{Parsed, ok, bad, modelStmt, latchStmt, parsed, firstBad, stmts}
 use Rattle.blif_text.specs.Rows.{rowStmt}
-use Rattle.blif_text.specs.Places.{tokenOf, tokensOf, Marked}
+use Rattle.blif_text.specs.Places.{tokenOf, tokensOf, TokensMarked}
 use Rattle.blif_text.specs.Keywords.{keywordOf, said, RowTo, refusal}
 use Rattle.blif_text.specs.Walk.{rowsFrom, stmtsFrom, RowsAt, StmtsAt}
 use Rattle.blif_text.specs.declared.Keyword.{Keyword}
@@ -28,7 +28,7 @@ number (bad n) = n
 
 -- the refusals are 4 and 5
 keyword-number : (w : Keyword) (k : Bytes) (ts : List Bytes) → 0 < number (byKeyword w k ts)
-unfolding modelOf latchOf
+unfolding modelStmt latchStmt
 keyword-number key.Model k [] = omega arith
 keyword-number key.Model k (n ∷ ts) = omega arith
 keyword-number key.Inputs k ts = omega arith
@@ -101,7 +101,7 @@ pub record Passing (text cells : List ℕ) (n at : ℕ) : Type 0 where
   pub left : firstBad (map rowStmt (rowsFrom text cells n at)) ≡ firstBad (parsed text)
 
 -- before the first row
-pub passing-start : {text cells : List ℕ} {n : ℕ} → Marked text cells n → n ≤ length cells → Passing text cells n 0
+pub passing-start : {text cells : List ℕ} {n : ℕ} → TokensMarked text cells n → n ≤ length cells → Passing text cells n 0
 passing-start {text} {cells} {n} m r = record { rows = rows-start m r; left = ap firstBad (ap (map rowStmt) (m .rows) ∙ sym (parsed-rows text)) }
 
 module _ {text cells : List ℕ} {n at : ℕ} (c : Passing text cells n at) where
@@ -130,11 +130,11 @@ module _ {text cells : List ℕ} {n at : ℕ} (c : Passing text cells n at) wher
 -- ---- the walk over statements that none refuses
 
 -- a text that 4 and 5 do not refuse
-pub stmts-start : {text cells : List ℕ} {n : ℕ} → Marked text cells n → n ≤ length cells → firstBad (parsed text) ≡ 0 → StmtsAt text cells n 0
+pub stmts-start : {text cells : List ℕ} {n : ℕ} → TokensMarked text cells n → n ≤ length cells → firstBad (parsed text) ≡ 0 → StmtsAt text cells n 0
 stmts-start {text} m r e = let c = passing-start m r in record { rows = c .rows; good = c .left ∙ e }
 
 -- all statements are the text's
-pub stmts-all : {text cells : List ℕ} {n : ℕ} → Marked text cells n → stmtsFrom text cells n 0 ≡ stmts (parsed text)
+pub stmts-all : {text cells : List ℕ} {n : ℕ} → TokensMarked text cells n → stmtsFrom text cells n 0 ≡ stmts (parsed text)
 stmts-all {text} m = ap stmts (ap (map rowStmt) (m .rows) ∙ sym (parsed-rows text))
 
 -- a refusal is not among good ones

@@ -6,11 +6,11 @@ use Prim.Native.Nat.{ℕ, _+_, _-_, _*_, _≤_, _<_}
 use native.Mathlib.Omega.{arith}
 use lib.ListN.{length, take, drop}
 use lib.Seq.{slice}
-use Rattle.lists.specs.Lists.{if_then_else_, Bytes}
-use Rattle.blif_text.specs.Lines.{lines, cut, continues, tokens}
+use Rattle.lists.specs.Lists.{Bytes}
+use Rattle.blif_text.specs.Lines.{lines, cut, continues, before, nonEmpty, tokens}
 use Rattle.blif_text.specs.Statements.{Parsed, stmtOf, parsedLine, parsed}
-use Rattle.blif_text.specs.Rows.{beforeRow, lineRows, fullRow, fullRows, textRows, rowStmt}
-use Rattle.blif_text.specs.Places.{isFirst, tokenOf, tokensOf, withToken, grouped, Marked}
+use Rattle.blif_text.specs.Rows.{lineRows, fullRows, textRows, rowStmt}
+use Rattle.blif_text.specs.Places.{isFirst, tokenOf, tokensOf, withToken, grouped, TokensMarked}
 use Rattle.blif_text.specs.Scan.{NoneFirst, Firsts, Placed, Scanned}
 use Rattle.blif_text.proofs.Scan.{rows-joined}
 use Rattle.blif_text.proofs.LineLaws.{LineAt}
@@ -18,7 +18,7 @@ use Rattle.blif_text.proofs.LineLaws.{LineAt}
 -- ---- a text's statements are those of its rows
 
 parsed-full : (rs : List (List Bytes)) → flatMap parsedLine rs ≡ map rowStmt (fullRows rs)
-unfolding parsedLine fullRows fullRow rowStmt flatMap
+unfolding parsedLine fullRows nonEmpty rowStmt flatMap
 parsed-full [] = refl
 parsed-full ([] ∷ rs) = parsed-full rs
 parsed-full ((k ∷ ts) ∷ rs) = ap (λ (l : List Parsed). stmtOf k ts ∷ l) (parsed-full rs)
@@ -29,13 +29,13 @@ parsed-rows s = ap (flatMap parsedLine) (rows-joined (lines s)) ∙ parsed-full 
 
 -- ---- rows before rows
 
-before-before : (ts us : List Bytes) (rs : List (List Bytes)) → beforeRow ts (beforeRow us rs) ≡ beforeRow (ts ++ us) rs
-unfolding beforeRow
+before-before : (ts us : List Bytes) (rs : List (List Bytes)) → before ts (before us rs) ≡ before (ts ++ us) rs
+unfolding before
 before-before ts us [] = refl
 before-before ts us (r ∷ rs) = ap (λ (x : List Bytes). x ∷ rs) (sym (append-assoc ts us r))
 
-full-nothing : (rs : List (List Bytes)) → fullRows (beforeRow [] rs) ≡ fullRows rs
-unfolding beforeRow fullRows fullRow
+full-nothing : (rs : List (List Bytes)) → fullRows (before [] rs) ≡ fullRows rs
+unfolding before fullRows nonEmpty
 full-nothing [] = refl
 full-nothing (r ∷ rs) = refl
 
@@ -44,7 +44,7 @@ oneRow : List Bytes → List (List Bytes)
 oneRow ts = fullRows (ts ∷ [])
 
 full-cons : (ts : List Bytes) (rs : List (List Bytes)) → fullRows (ts ∷ rs) ≡ oneRow ts ++ fullRows rs
-unfolding fullRows fullRow oneRow
+unfolding fullRows nonEmpty oneRow
 full-cons [] rs = refl
 full-cons (t ∷ ts) rs = refl
 
@@ -73,7 +73,7 @@ grouped-none text (c ∷ cs) n =
 
 -- the cells of one statement are one row
 grouped-row : (text : Bytes) (cs : List ℕ) → Firsts true cs → (grouped text cs .loose ≡ []) × (grouped text cs .rows ≡ oneRow (tokensOf text cs))
-unfolding grouped oneRow fullRows fullRow
+unfolding grouped oneRow fullRows nonEmpty
 grouped-row text [] f = (refl, refl)
 grouped-row text (c ∷ cs) f =
     let r = grouped-none text cs (f .1) in (
@@ -84,7 +84,7 @@ grouped-row text (c ∷ cs) f =
 
 -- ---- one line of the walk
 
-rows-goes : (l : Bytes) (ls : List Bytes) → continues l ≡ true → lineRows (l ∷ ls) ≡ beforeRow (tokens (take (length l - 1) l)) (lineRows ls)
+rows-goes : (l : Bytes) (ls : List Bytes) → continues l ≡ true → lineRows (l ∷ ls) ≡ before (tokens (take (length l - 1) l)) (lineRows ls)
 unfolding lineRows
 rows-goes l ls e = rw e
 
@@ -92,12 +92,13 @@ rows-ends : (l : Bytes) (ls : List Bytes) → continues l ≡ false → lineRows
 unfolding lineRows
 rows-ends l ls e = rw e
 
-rows-before : (ts us : List Bytes) (rs : List (List Bytes)) → beforeRow ts (us ∷ rs) ≡ (ts ++ us) ∷ rs
-unfolding beforeRow
+rows-before : (ts us : List Bytes) (rs : List (List Bytes)) → before ts (us ∷ rs) ≡ (ts ++ us) ∷ rs
+unfolding before
 rows-before ts us rs = refl
 
 -- a statement's cells are whole
 pub placed-closed : {text cells : List ℕ} {count : ℕ} {fresh : Bool} {closed pending : List ℕ} → Placed text cells count fresh closed pending → Placed text cells count true (closed ++ pending) []
+unfolding nonEmpty
 placed-closed {text} {closed = closed} {pending} p =
     let r = grouped-row text pending (p .firsts) in
     let g = grouped-append text closed pending (r .0) in
@@ -113,7 +114,7 @@ placed-closed {text} {closed = closed} {pending} p =
 
 -- the rows so far and those from a place on are the text's
 abbrev pub RestAt : Bytes → List ℕ → List ℕ → ℕ → Type 0
-RestAt text closed pending at = textRows text ≡ grouped text closed .rows ++ fullRows (beforeRow (tokensOf text pending) (lineRows (lines (drop at text))))
+RestAt text closed pending at = textRows text ≡ grouped text closed .rows ++ fullRows (before (tokensOf text pending) (lineRows (lines (drop at text))))
 
 -- a line starts at a place
 pub scan-line : {text cells : List ℕ} {at count : ℕ} {fresh : Bool} {closed pending : List ℕ} → length text ≤ 32768 → at ≤ length text → 2 * count ≤ at + 1 → (at < length text → 2 * count ≤ at)
@@ -128,7 +129,7 @@ scan-line {text} {cells} {at} {count} {fresh} {closed} {pending} s h f g p r =
       fewer = λ l e. g l;
       line = λ k a b. absurd (let z : ⊥ = omega arith in z);
       plain = λ k a b. absurd (let z : ⊥ = omega arith in z);
-      calm = λ k a b e n t. let z : ⊥ = omega arith in z;
+      no-continuation = λ k a b e n t. let z : ⊥ = omega arith in z;
       closed = closed;
       pending = pending;
       added = [];
@@ -146,19 +147,19 @@ module _ {text : Bytes} {at stop next : ℕ} (ln : LineAt text at stop next) (pe
 
   -- the statement goes on
   pub rows-on : continues theLine ≡ true → tokensOf text added ≡ tokens (take (length theLine - 1) theLine)
-      → beforeRow (tokensOf text pending) (lineRows (lines (drop at text))) ≡ beforeRow (tokensOf text (pending ++ added)) (lineRows (lines (drop next text)))
+      → before (tokensOf text pending) (lineRows (lines (drop at text))) ≡ before (tokensOf text (pending ++ added)) (lineRows (lines (drop next text)))
   rows-on c q =
-      ap (λ (x : List Bytes). beforeRow (tokensOf text pending) (lineRows x)) (ln .is)
-      ∙ ap (beforeRow (tokensOf text pending)) (rows-goes theLine (lines (drop next text)) c)
+      ap (λ (x : List Bytes). before (tokensOf text pending) (lineRows x)) (ln .is)
+      ∙ ap (before (tokensOf text pending)) (rows-goes theLine (lines (drop next text)) c)
       ∙ before-before (tokensOf text pending) (tokens (take (length theLine - 1) theLine)) (lineRows (lines (drop next text)))
-      ∙ ap (λ (x : List Bytes). beforeRow x (lineRows (lines (drop next text)))) (sym (pending-tokens q))
+      ∙ ap (λ (x : List Bytes). before x (lineRows (lines (drop next text)))) (sym (pending-tokens q))
 
   -- the statement ends
   pub rows-over : continues theLine ≡ false → tokensOf text added ≡ tokens (cut theLine)
-      → beforeRow (tokensOf text pending) (lineRows (lines (drop at text))) ≡ tokensOf text (pending ++ added) ∷ lineRows (lines (drop next text))
+      → before (tokensOf text pending) (lineRows (lines (drop at text))) ≡ tokensOf text (pending ++ added) ∷ lineRows (lines (drop next text))
   rows-over c q =
-      ap (λ (x : List Bytes). beforeRow (tokensOf text pending) (lineRows x)) (ln .is)
-      ∙ ap (beforeRow (tokensOf text pending)) (rows-ends theLine (lines (drop next text)) c)
+      ap (λ (x : List Bytes). before (tokensOf text pending) (lineRows x)) (ln .is)
+      ∙ ap (before (tokensOf text pending)) (rows-ends theLine (lines (drop next text)) c)
       ∙ rows-before (tokensOf text pending) (tokens (cut theLine)) (lineRows (lines (drop next text)))
       ∙ ap (λ (x : List Bytes). x ∷ lineRows (lines (drop next text))) (sym (pending-tokens q))
 
@@ -177,8 +178,8 @@ module _ {text : Bytes} {at stop next : ℕ} (ln : LineAt text at stop next) (pe
         (ap fullRows (rows-over c q)
         ∙ full-cons (tokensOf text (pending ++ added)) (lineRows (lines (drop next text)))
         ∙ ap₂ (λ (x y : List (List Bytes)). x ++ y) (sym (r .1)) (sym (full-nothing (lineRows (lines (drop next text))))))
-        ∙ sym (append-assoc (grouped text closed .rows) (grouped text (pending ++ added) .rows) (fullRows (beforeRow [] (lineRows (lines (drop next text))))))
-        ∙ ap (λ (x : List (List Bytes)). x ++ fullRows (beforeRow [] (lineRows (lines (drop next text))))) (sym (g .1)))
+        ∙ sym (append-assoc (grouped text closed .rows) (grouped text (pending ++ added) .rows) (fullRows (before [] (lineRows (lines (drop next text))))))
+        ∙ ap (λ (x : List (List Bytes)). x ++ fullRows (before [] (lineRows (lines (drop next text))))) (sym (g .1)))
 
 -- ---- the whole scan
 
@@ -187,7 +188,7 @@ unfolding lineRows
 rows-none = refl
 
 pub scan-start : {text cells : List ℕ} → length text ≤ 32768 → 16384 ≤ length cells → Scanned text cells 0 0 true
-unfolding grouped textRows
+unfolding grouped textRows nonEmpty
 scan-start {text} {cells} h k =
     scan-line {closed = []} {pending = []} h (omega arith) (omega arith) (λ l. omega arith)
     (record { room = k; so-far = refl; counted = refl; none-loose = refl; firsts = tt; fresh-is = refl; inside = λ i l. absurd (omega arith) })
@@ -195,7 +196,7 @@ scan-start {text} {cells} h k =
 
 -- nothing is left
 pub placed-done : {text cells : List ℕ} {count : ℕ} {fresh : Bool} {closed pending : List ℕ} → count ≤ 16384 → Placed text cells count fresh closed pending
-    → textRows text ≡ grouped text closed .rows ++ fullRows (tokensOf text pending ∷ []) → Marked text cells count
+    → textRows text ≡ grouped text closed .rows ++ fullRows (tokensOf text pending ∷ []) → TokensMarked text cells count
 placed-done {text} {closed = closed} {pending} h p e =
     let r = grouped-row text pending (p .firsts) in
     let g = grouped-append text closed pending (r .0) in

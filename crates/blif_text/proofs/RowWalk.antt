@@ -9,10 +9,10 @@ use lib.Seq.{slice, slice-empty, slice-cons, take-add, drop-drop}
 use Rattle.lists.specs.Lists.{Bytes}
 use Rattle.lists.proofs.Tests.{by-test, by-order}
 use Rattle.blif_text.specs.Rows.{textRows}
-use Rattle.blif_text.specs.Places.{isFirst, tokenOf, tokensOf, withToken, grouped, Marked}
+use Rattle.blif_text.specs.Places.{isFirst, tokenOf, tokensOf, withToken, grouped, TokensMarked}
 use Rattle.blif_text.specs.Scan.{NoneFirst}
 use Rattle.blif_text.specs.Keywords.{RowTo}
-use Rattle.blif_text.specs.Walk.{rowsFrom, RowsAt}
+use Rattle.blif_text.specs.Walk.{rowsFrom, Inside, RowsAt}
 use Rattle.blif_text.proofs.WordLaws.{drop-take}
 use Rattle.blif_text.proofs.RowLaws.{grouped-append, grouped-none}
 
@@ -38,6 +38,10 @@ none-slice (suc m) k r cells e h f =
       f k (omega arith) (omega arith),
       none-slice m (suc k) r cells (omega arith) h (λ j a b. f j (omega arith) b),
     )
+
+-- fewer cells are places within the text too
+pub inside-less : {text cells : List ℕ} {n end : ℕ} → end ≤ n → Inside text cells n → Inside text cells end
+inside-less l p = record { room = omega (arith, p .room); inside = λ i h. p .inside i (omega arith) }
 
 -- a cell that nothing is loose before starts a row
 first-of : (text : Bytes) (c : ℕ) (cs : List ℕ) → grouped text (c ∷ cs) .loose ≡ [] → isFirst c ≡ true
@@ -72,11 +76,11 @@ rows-cons text c cs ys e n l =
 -- ---- one row after the other
 
 -- before the first row
-pub rows-start : {text cells : List ℕ} {n : ℕ} → Marked text cells n → n ≤ length cells → RowsAt text cells n 0
+pub rows-start : {text cells : List ℕ} {n : ℕ} → TokensMarked text cells n → n ≤ length cells → RowsAt text cells n 0
 rows-start m r = record { high = omega arith; places = record { room = r; inside = m .inside }; none-loose = m .none-loose }
 
 -- all rows are the text's
-pub rows-all : {text cells : List ℕ} {n : ℕ} → Marked text cells n → rowsFrom text cells n 0 ≡ textRows text
+pub rows-all : {text cells : List ℕ} {n : ℕ} → TokensMarked text cells n → rowsFrom text cells n 0 ≡ textRows text
 rows-all m = m .rows
 
 module _ {text cells : List ℕ} {n at : ℕ} (c : RowsAt text cells n at) where

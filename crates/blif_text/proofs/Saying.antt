@@ -11,7 +11,7 @@ use Rattle.lists.specs.Lists.{Bytes, bytes, same, all, any}
 use Rattle.lists.proofs.Tests.{and-left, and-right, and-false}
 use Rattle.lists.proofs.Every.{Every, every-nil, every-cons, every-append, every-of, every-test, every-no, any-append}
 use Rattle.blif_text.specs.Lines.{cut, continues, joined, isBlank, nonEmpty, tokens}
-use Rattle.blif_text.specs.Statements.{Stmt, Parsed, ok, stmtOf, latchOf, parsedLine, parsed, stmts, firstBad}
+use Rattle.blif_text.specs.Statements.{Stmt, Parsed, ok, stmtOf, latchStmt, parsedLine, parsed, stmts, firstBad}
 use Rattle.blif_text.proofs.Splitting.{ended, spread, lines-each, Word, tokens-spread}
 
 -- ---- bytes
@@ -145,7 +145,7 @@ unfolding stmtOf same
 stmt-outputs ns = refl
 
 pub stmt-latch : (d q : Bytes) (ts : List Bytes) → stmtOf (bytes ".latch") (d ∷ q ∷ ts) ≡ ok (Stmt.latch d q)
-unfolding stmtOf same latchOf
+unfolding stmtOf same latchStmt
 stmt-latch d q ts = refl
 
 -- ---- statements that are all good

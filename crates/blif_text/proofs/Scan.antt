@@ -12,7 +12,7 @@ use lib.Seq.{drop-cons, drop-append-le, length-take-le, slice, slice-cons}
 use Rattle.lists.specs.Lists.{if_then_else_, Bytes, any, filter}
 use Rattle.lists.proofs.Tests.{or-left, or-right, by-order, by-test, and-false}
 use Rattle.blif_text.specs.Lines.{consFirst, split, dropCR, lines, cut, continues, before, joined, isBlank, nonEmpty, tokens}
-use Rattle.blif_text.specs.Rows.{beforeRow, lineRows}
+use Rattle.blif_text.specs.Rows.{lineRows}
 use Rattle.blif_text.proofs.Parts.{Without, split-end, split-last}
 
 -- ---- tokens from a place on
@@ -141,8 +141,8 @@ joined-added (l ∷ ls) = by-test (continues l) (λ h. rw h (before-added _ (joi
 blank-first : (w : Bytes) → tokens (32 ∷ w) ≡ tokens w
 blank-first w = tokens-blank 32 w (unfold isBlank in refl)
 
-row-before : (w : Bytes) (us : List Bytes) → Added us → map tokens (before (32 ∷ w) us) ≡ beforeRow (tokens w) (map tokens us)
-unfolding before beforeRow
+row-before : (w : Bytes) (us : List Bytes) → Added us → map tokens (before (32 ∷ w) us) ≡ before (tokens w) (map tokens us)
+unfolding before
 row-before w [] a = rw (blank-first w)
 row-before w (u ∷ us) a =
     ap (λ (ts : List Bytes). ts ∷ map tokens us)
@@ -153,7 +153,7 @@ unfolding joined lineRows
 rows-joined [] = refl
 rows-joined (l ∷ ls) =
     by-test (continues l)
-    (λ h. rw h (row-before (take (length l - 1) l) (joined ls) (joined-added ls) ∙ ap (beforeRow (tokens (take (length l - 1) l))) (rows-joined ls)))
+    (λ h. rw h (row-before (take (length l - 1) l) (joined ls) (joined-added ls) ∙ ap (before (tokens (take (length l - 1) l))) (rows-joined ls)))
     (λ h. rw (h, blank-first (cut l), rows-joined ls))
 
 -- ---- lines from a place on

@@ -1,116 +1,26 @@
 -- The steps of the scan: blanks, a line's end, a comment, a word, and a word whose backslash ends the line. Assumes nothing.
 use mathlib.Core.Path.{_≡_, refl, sym, ap, ap₂, _∙_, subst}
-use mathlib.Core.Bool.{Bool, true, false, _||_, true≢false}
+use mathlib.Core.Bool.{Bool, true, false, true≢false}
 use mathlib.Core.List.{List, [], _∷_, _++_, append-assoc, append-nil, map-append}
 use mathlib.Core.Logic.{⊎-elim}
 use Prim.Native.Nat.{ℕ, zero, suc, _+_, _-_, _*_, _≤_, _<_}
 use native.Mathlib.Omega.{arith}
-use lib.Dec.{eqb, leb}
+use lib.Dec.{eqb}
 use lib.ListN.{length, getD, take, drop, set, drop-of-length-le}
-use lib.Seq.{take-take, length-take-le, getD-take, slice, slice-empty, slice-cons, length-slice}
-use borrow.Author.Tests.{eqb-true, eqb-false, eq-eqb, ne-eqb, lt-leb}
+use lib.Seq.{length-take-le, getD-take, slice, slice-cons, length-slice}
+use borrow.Author.Tests.{eqb-true, eqb-false, eq-eqb, ne-eqb}
 use Rattle.lists.specs.Lists.{Bytes}
-use Rattle.lists.proofs.Tests.{by-order, by-test, or-left, or-right, and-false}
-use Rattle.blif_text.specs.Lines.{lines, cut, continues, isBlank, tokens}
-use Rattle.blif_text.specs.Rows.{beforeRow, lineRows, fullRows}
-use Rattle.blif_text.specs.Places.{tokenCell, tokenOf, tokensOf, grouped, Marked}
-use Rattle.blif_text.specs.Scan.{endsWord, WordTo, SpacesTo, LineTo, LineAfter, StopTo, at-end, at-lf, at-cr, StopOf, Placed, Scanned, WordPut}
+use Rattle.lists.proofs.Tests.{by-order, by-test}
+use Rattle.blif_text.specs.Lines.{lines, cut, continues, before, isBlank, tokens}
+use Rattle.blif_text.specs.Rows.{lineRows, fullRows}
+use Rattle.blif_text.specs.Places.{tokenCell, tokenOf, tokensOf, grouped, TokensMarked}
+use Rattle.blif_text.specs.Scan.{endsWord, NoneTo, FirstTo, SpacesTo, LineAfter, StopTo, at-end, at-lf, at-cr, Placed, Scanned, WordPut}
 use Rattle.blif_text.proofs.Parts.{Without}
-use Rattle.blif_text.proofs.Scan.{tokens-none, tokens-skip, tokens-at, tokens-parted, without-slice, slice-drop}
-use Rattle.blif_text.proofs.Loops.{or-none}
+use Rattle.blif_text.proofs.Scan.{tokens-none, tokens-skip, tokens-parted, without-slice}
 use Rattle.blif_text.proofs.WordLaws.{cell-start, cell-length, word-is, placed-more}
 use Rattle.blif_text.proofs.LineLaws.{LineAt, lines-none, last-line, empty-line, cr-line, plain-line, last-byte, cut-plain, cut-behind, comment-ends, continues-none, continues-last, front-is}
 use Rattle.blif_text.proofs.RowLaws.{rows-none, rows-over, line-goes, line-ends, placed-done}
-
--- ---- parts of the text
-
--- a part is the part up to a place, and the part from it
-slice-parts : (t : Bytes) (a m e : ℕ) → a ≤ m → m ≤ e → e ≤ length t → slice a e t ≡ slice a m t ++ slice m e t
-slice-parts t a m e h k l =
-    slice-drop (take e t) a m h (rw (length-take-le e t l) k)
-    ∙ ap (λ (x : Bytes). drop a x ++ slice m e t) (take-take m e t k)
-
--- a word at i, up to e
-word-tokens : (t : Bytes) (i e z : ℕ) → i < e → e ≤ z → z ≤ length t → ((k : ℕ) → i ≤ k → k < e → isBlank (getD t k 0) ≡ false) → (e < z → isBlank (getD t e 0) ≡ true)
-    → tokens (slice i z t) ≡ slice i e t ∷ tokens (slice e z t)
-word-tokens t i e z h k l f g =
-    let n : length (take z t) ≡ z = length-take-le z t l in
-    tokens-at (take z t) i e h (omega arith)
-    (λ j a b. ap isBlank (getD-take z t j 0 (omega arith)) ∙ f j a b)
-    (λ m. let o : e < z = omega arith in ap isBlank (getD-take z t e 0 o) ∙ g o)
-    ∙ ap (λ (x : Bytes). drop i x ∷ tokens (slice e z t)) (take-take e z t k)
-
-no-tokens : (t : Bytes) (i : ℕ) → tokens (slice i i t) ≡ []
-no-tokens t i = ap tokens (slice-empty i t) ∙ tokens-none
-
--- ---- bytes
-
-word-blank : (c : ℕ) → endsWord c ≡ false → isBlank c ≡ false
-unfolding endsWord
-word-blank c e = or-left (isBlank c) (eqb 35 c) e
-
-word-plain : (c : ℕ) → endsWord c ≡ false → eqb 35 c ≡ false
-unfolding endsWord
-word-plain c e = or-right (isBlank c) (eqb 35 c) e
-
-blank-of : (c : ℕ) → endsWord c ≡ true → eqb 35 c ≡ false → isBlank c ≡ true
-unfolding endsWord
-blank-of c e f = sym (or-none (isBlank c)) ∙ ap (λ (b : Bool). isBlank c || b) (sym f) ∙ e
-
-pub high-word : (c : ℕ) → 35 < c → false ≡ endsWord c
-unfolding endsWord isBlank
-high-word c h = sym (simp (lt-leb c 13 (omega arith), and-false (leb 9 c), ne-eqb 32 c (λ q. let z : ⊥ = omega arith in z), ne-eqb 35 c (λ q. let z : ⊥ = omega arith in z)))
-
-pub space-ends : (c : ℕ) → c ≡ 32 → true ≡ endsWord c
-space-ends c e = sym (ap endsWord e ∙ (unfold endsWord isBlank in refl))
-
-pub lf-ends : (c : ℕ) → c ≡ 10 → true ≡ endsWord c
-lf-ends c e = sym (ap endsWord e ∙ (unfold endsWord isBlank in refl))
-
-pub hash-ends : (c : ℕ) → c ≡ 35 → true ≡ endsWord c
-hash-ends c e = sym (ap endsWord e ∙ (unfold endsWord isBlank in refl))
-
-pub blank-ends : (c : ℕ) → (c ≡ 35 → ⊥) → isBlank c ≡ endsWord c
-unfolding endsWord
-blank-ends c f = sym (ap (λ (b : Bool). isBlank c || b) (ne-eqb 35 c (λ q. f (sym q))) ∙ or-none (isBlank c))
-
-is-not : (c n : ℕ) → isBlank n ≡ true → isBlank c ≡ false → c ≡ n → ⊥
-is-not c n t f q = true≢false (sym t ∙ ap isBlank (sym q) ∙ f)
-
-lf-blank : isBlank 10 ≡ true
-unfolding isBlank
-lf-blank = refl
-
-cr-blank : isBlank 13 ≡ true
-unfolding isBlank
-cr-blank = refl
-
-backslash-word : isBlank 92 ≡ false
-unfolding isBlank
-backslash-word = refl
-
--- no line stops in a word
-no-stop : (t : Bytes) (k next : ℕ) → k < length t → isBlank (getD t k 0) ≡ false → StopTo t k next → ⊥
-no-stop t k next h f (at-end l q) = let z : ⊥ = omega arith in z
-no-stop t k next h f (at-lf l e q) = is-not (getD t k 0) 10 lf-blank f e
-no-stop t k next h f (at-cr l e d q) = is-not (getD t k 0) 13 cr-blank f e
-
--- no line stops at a place: what the code finds
-pub none-stops : {t : Bytes} {k : ℕ} → k < length t → (getD t k 0 ≡ 10 → ⊥) → (k + 1 < length t → getD t k 0 ≡ 13 → getD t (k + 1) 0 ≡ 10 → ⊥) → StopOf t k 0
-none-stops {t} {k} h f g = record { none = λ z. no; some = λ l. absurd (let z : ⊥ = omega arith in z) }
-  where
-    no : (next : ℕ) → StopTo t k next → ⊥
-    no next (at-end l q) = let z : ⊥ = omega arith in z
-    no next (at-lf l e q) = f e
-    no next (at-cr l e d q) = g l e d
-
-pub one-stops : {t : Bytes} {k r : ℕ} → 0 < r → StopTo t k r → StopOf t k r
-one-stops h s = record { none = λ z. absurd (let y : ⊥ = omega arith in y); some = λ l. s }
-
-stop-le : (t : Bytes) (k next : ℕ) → StopTo t k next → k ≤ next
-stop-le t k next (at-end l q) = omega arith
-stop-le t k next (at-lf l e q) = omega arith
-stop-le t k next (at-cr l e d q) = omega arith
+use Rattle.blif_text.proofs.ScanBytes.{slice-parts, word-tokens, no-tokens, word-blank, word-plain, blank-of, space-ends, is-not, lf-blank, cr-blank, backslash-word, no-stop, stop-le}
 
 module _ {text cells : List ℕ} {i count : ℕ} {fresh : Bool} (c : Scanned text cells i count fresh) where
   -- the line's tokens up to here
@@ -135,7 +45,7 @@ module _ {text cells : List ℕ} {i count : ℕ} {fresh : Bool} (c : Scanned tex
       ∙ by-test (eqb 92 (getD text (stop - 1) 0))
       (λ e.
       let q : stop ≡ stop - 1 + 1 = omega arith in
-      absurd (c .calm (stop - 1) (omega arith) (omega arith) (sym (eqb-true 92 (getD text (stop - 1) 0) e)) next (subst (λ (j : ℕ). StopTo text j next) q s)))
+      absurd (c .no-continuation (stop - 1) (omega arith) (omega arith) (sym (eqb-true 92 (getD text (stop - 1) 0) e)) next (subst (λ (j : ℕ). StopTo text j next) q s)))
       (λ e. e))
 
   over : (stop next : ℕ) → LineAt text (c .at) stop next → stop ≤ i → StopTo text stop next → tokens (slice (c .at) stop text) ≡ tokensOf text (c .added) → 2 * count ≤ next
@@ -144,13 +54,17 @@ module _ {text cells : List ℕ} {i count : ℕ} {fresh : Bool} (c : Scanned tex
       line-ends ln (c .pending) (c .added) (c .rest) (c .small) (c .placed) (omega arith) (λ h. f) (stays stop next (ln .low) b s)
       (sym q ∙ ap tokens (sym (cut-plain (slice (c .at) stop text) (plain-to stop b))))
 
+  -- the line so far
+  so-far : NoneTo (eqb 10) text (c .at) i
+  so-far = record { low = c .low; high = c .high; none = c .line }
+
   module _ (h : i < length text) where
     starts : c .at < length text
     starts = omega (arith, c .low)
 
     pub scan-lf : getD text i 0 ≡ 10 → Scanned text cells (i + 1) count true
     scan-lf e =
-        let to : LineTo text (c .at) i = record { low = c .low; high = c .high; none = c .line; stop = λ l. e } in
+        let to : FirstTo (eqb 10) text (c .at) i = record { passed = so-far; stop = λ l. eq-eqb 10 (getD text i 0) (sym e) } in
         by-order i (c .at)
         (λ o. over i (i + 1) (empty-line starts to h (omega (arith, c .low))) (omega arith) (at-lf h e refl) here (c .few))
         (λ o.
@@ -185,17 +99,20 @@ module _ {text cells : List ℕ} {i count : ℕ} {fresh : Bool} (c : Scanned tex
         behind =
             by-order (a .end) i
             (λ o.
-            let q : i ≡ a .end = omega (arith, a .to .low) in
-            let z : 35 ≡ 10 = sym e ∙ subst (λ (j : ℕ). getD text j 0 ≡ 10) (sym q) (a .to .stop (omega arith)) in
+            let q : i ≡ a .end = omega (arith, a .to .passed .low) in
+            let z : 35 ≡ 10 = sym e ∙ subst (λ (j : ℕ). getD text j 0 ≡ 10) (sym q) (sym (eqb-true 10 (getD text (a .end) 0) (a .to .stop (omega arith)))) in
             absurd (let y : ⊥ = omega arith in y))
             (λ o. o)
 
-        whole : LineTo text (c .at) (a .end)
+        whole : FirstTo (eqb 10) text (c .at) (a .end)
         whole =
             record {
-              low = omega (arith, c .low, behind);
-              high = a .to .high;
-              none = λ k x y. by-order i k (λ o. a .to .none k o y) (λ o. c .line k x o);
+              passed =
+                  record {
+                    low = omega (arith, c .low, behind);
+                    high = a .to .passed .high;
+                    none = λ k x y. by-order i k (λ o. a .to .passed .none k o y) (λ o. c .line k x o);
+                  };
               stop = a .to .stop;
             }
 
@@ -217,10 +134,10 @@ module _ {text cells : List ℕ} {i count : ℕ} {fresh : Bool} (c : Scanned tex
             (λ o. o) in
             comment-line (a .end - 1) (a .end + 1) (cr-line starts whole (s .0) d cr) far (omega arith) (omega arith))
             (λ t.
-            comment-line (a .end) (a .end + 1) (plain-line starts whole (s .0) d (λ z. eqb-false 13 (getD text (a .end - 1) 0) t (sym z))) behind (a .to .high) (omega (arith, behind))) in
+            comment-line (a .end) (a .end + 1) (plain-line starts whole (s .0) d (λ z. eqb-false 13 (getD text (a .end - 1) 0) t (sym z))) behind (a .to .passed .high) (omega (arith, behind))) in
             subst (λ (j : ℕ). Scanned text cells j count true) (sym (s .1)) g)
             (λ (s : (length text ≤ a .end) × (next ≡ a .end)).
-            subst (λ (j : ℕ). Scanned text cells j count true) (sym (s .1)) (comment-line (a .end) (a .end) (last-line starts whole (s .0)) behind (a .to .high) behind))
+            subst (λ (j : ℕ). Scanned text cells j count true) (sym (s .1)) (comment-line (a .end) (a .end) (last-line starts whole (s .0)) behind (a .to .passed .high) behind))
             (a .is)
 
         pub comment-moves : i < next
@@ -243,12 +160,12 @@ module _ {text cells : List ℕ} {i count : ℕ} {fresh : Bool} (c : Scanned tex
           fewer = λ l q. c .few;
           line = λ k a m. by-order i k (λ z. let q : i ≡ k = omega arith in subst (λ (j : ℕ). eqb 10 (getD text j 0) ≡ false) q n) (λ z. c .line k a z);
           plain = λ k a m. by-order i k (λ z. let q : i ≡ k = omega arith in subst (λ (j : ℕ). eqb 35 (getD text j 0) ≡ false) q o) (λ z. c .plain k a z);
-          calm = λ k a m s.
+          no-continuation = λ k a m s.
               by-order i k
               (λ z.
               let q : i ≡ k = omega arith in
               absurd (true≢false (sym b ∙ ap isBlank (subst (λ (j : ℕ). getD text j 0 ≡ 92) (sym q) s) ∙ backslash-word)))
-              (λ z. c .calm k a z s);
+              (λ z. c .no-continuation k a z s);
           closed = c .closed;
           pending = c .pending;
           added = c .added;
@@ -263,9 +180,9 @@ module _ {text cells : List ℕ} {i count : ℕ} {fresh : Bool} (c : Scanned tex
 
     -- ---- a word
 
-    module _ (f : endsWord (getD text i 0) ≡ false) {e : ℕ} (w : WordTo text (i + 1) e) where
+    module _ (f : endsWord (getD text i 0) ≡ false) {e : ℕ} (w : FirstTo endsWord text (i + 1) e) where
       word-byte : (k : ℕ) → i ≤ k → k < e → endsWord (getD text k 0) ≡ false
-      word-byte k a b = by-order (i + 1) k (λ o. w .word k o b) (λ o. let q : i ≡ k = omega arith in subst (λ (j : ℕ). endsWord (getD text j 0) ≡ false) q f)
+      word-byte k a b = by-order (i + 1) k (λ o. w .passed .none k o b) (λ o. let q : i ≡ k = omega arith in subst (λ (j : ℕ). endsWord (getD text j 0) ≡ false) q f)
 
       no-line : (k : ℕ) → c .at ≤ k → k < e → eqb 10 (getD text k 0) ≡ false
       no-line k a b =
@@ -280,7 +197,7 @@ module _ {text cells : List ℕ} {i count : ℕ} {fresh : Bool} (c : Scanned tex
       word-room = omega (arith, c .fewer h f, c .small, c .placed .room)
 
       pub word-place : (i < 32768) × (e ≤ 32768)
-      word-place = (omega (arith, c .small), omega (arith, w .high, c .small))
+      word-place = (omega (arith, c .small), omega (arith, w .passed .high, c .small))
 
       -- the word from i to z in a cell
       module _ {z : ℕ} (m : i < z) (l : z ≤ e) where
@@ -295,7 +212,7 @@ module _ {text cells : List ℕ} {i count : ℕ} {fresh : Bool} (c : Scanned tex
         put : Placed text (set cells count theCell) (count + 1) false (c .closed) (c .pending ++ (c .added ++ theCell ∷ []))
         put =
             subst (λ (x : List ℕ). Placed text (set cells count theCell) (count + 1) false (c .closed) x) (append-assoc (c .pending) (c .added) (theCell ∷ []))
-            (placed-more (c .placed) word-room (word-place .0) (omega (arith, word-place)) (omega (arith, w .high)) refl)
+            (placed-more (c .placed) word-room (word-place .0) (omega (arith, word-place)) (omega (arith, w .passed .high)) refl)
 
         -- the line's tokens up to y, with this one
         more : (y : ℕ) → z ≤ y → y ≤ length text → ((k : ℕ) → z ≤ k → k < y → eqb 35 (getD text k 0) ≡ false) → (z < y → isBlank (getD text z 0) ≡ true)
@@ -309,17 +226,17 @@ module _ {text cells : List ℕ} {i count : ℕ} {fresh : Bool} (c : Scanned tex
 
       pub scan-word : (getD text (e - 1) 0 ≡ 92 → (next : ℕ) → StopTo text e next → ⊥) → Scanned text (set cells count (tokenCell fresh i (e - i))) e (count + 1) false
       scan-word n =
-          let m : i < e = omega (arith, w .low) in
+          let m : i < e = omega (arith, w .passed .low) in
           record {
             small = c .small;
             at = c .at;
             low = omega (arith, c .low);
-            high = w .high;
+            high = w .passed .high;
             few = omega (arith, c .fewer h f);
             fewer = λ l q. absurd (true≢false (sym (w .stop l) ∙ q));
             line = no-line;
             plain = no-comment;
-            calm = λ k a b s next t.
+            no-continuation = λ k a b s next t.
                 by-order e (k + 1)
                 (λ o.
                 let q : k + 1 ≡ e = omega arith in
@@ -327,8 +244,8 @@ module _ {text cells : List ℕ} {i count : ℕ} {fresh : Bool} (c : Scanned tex
                 n (subst (λ (j : ℕ). getD text j 0 ≡ 92) p s) next (subst (λ (j : ℕ). StopTo text j next) q t))
                 (λ o.
                 by-order i k
-                (λ u. no-stop text (k + 1) next (omega (arith, w .high)) (word-blank (getD text (k + 1) 0) (word-byte (k + 1) (omega arith) o)) t)
-                (λ u. c .calm k a u s next t));
+                (λ u. no-stop text (k + 1) next (omega (arith, w .passed .high)) (word-blank (getD text (k + 1) 0) (word-byte (k + 1) (omega arith) o)) t)
+                (λ u. c .no-continuation k a u s next t));
             closed = c .closed;
             pending = c .pending;
             added = c .added ++ tokenCell fresh i (e - i) ∷ [];
@@ -340,17 +257,21 @@ module _ {text cells : List ℕ} {i count : ℕ} {fresh : Bool} (c : Scanned tex
       -- ---- a backslash that ends the line
 
       module _ {next : ℕ} (s : getD text (e - 1) 0 ≡ 92) (t : StopTo text e next) where
-        to-lf : (r : ℕ) → e ≤ r → r ≤ length text → ((k : ℕ) → e ≤ k → k < r → eqb 10 (getD text k 0) ≡ false) → (r < length text → getD text r 0 ≡ 10) → LineTo text (c .at) r
-        to-lf r a b p q = record { low = omega (arith, c .low, w .low); high = b; none = λ k u v. by-order e k (λ o. p k o v) (λ o. no-line k u o); stop = q }
+        to-lf : (r : ℕ) → e ≤ r → r ≤ length text → ((k : ℕ) → e ≤ k → k < r → eqb 10 (getD text k 0) ≡ false) → (r < length text → getD text r 0 ≡ 10) → FirstTo (eqb 10) text (c .at) r
+        to-lf r a b p q =
+            record {
+              passed = record { low = omega (arith, c .low, w .passed .low); high = b; none = λ k u v. by-order e k (λ o. p k o v) (λ o. no-line k u o) };
+              stop = λ l. eq-eqb 10 (getD text r 0) (sym (q l));
+            }
 
         going : (next : ℕ) → StopTo text e next → LineAt text (c .at) e next
         going next (at-end l q) =
             subst (λ (j : ℕ). LineAt text (c .at) e j) (sym q)
-            (last-line starts (to-lf e (omega arith) (w .high) (λ k a b. absurd (let z : ⊥ = omega arith in z)) (λ o. absurd (let z : ⊥ = omega arith in z))) l)
+            (last-line starts (to-lf e (omega arith) (w .passed .high) (λ k a b. absurd (let z : ⊥ = omega arith in z)) (λ o. absurd (let z : ⊥ = omega arith in z))) l)
         going next (at-lf l d q) =
             subst (λ (j : ℕ). LineAt text (c .at) e j) (sym q)
-            (plain-line starts (to-lf e (omega arith) (w .high) (λ k a b. absurd (let z : ⊥ = omega arith in z)) (λ o. d)) l
-            (λ z. let y : ⊥ = omega (arith, c .low, w .low) in y)
+            (plain-line starts (to-lf e (omega arith) (w .passed .high) (λ k a b. absurd (let z : ⊥ = omega arith in z)) (λ o. d)) l
+            (λ z. let y : ⊥ = omega (arith, c .low, w .passed .low) in y)
             (λ z. let y : 92 ≡ 13 = sym s ∙ z in let x : ⊥ = omega arith in x))
         going next (at-cr l d g q) =
             let n : e + 1 - 1 ≡ e = omega arith in
@@ -362,7 +283,7 @@ module _ {text cells : List ℕ} {i count : ℕ} {fresh : Bool} (c : Scanned tex
             (λ k a b. let p : e ≡ k = omega arith in subst (λ (j : ℕ). eqb 10 (getD text j 0) ≡ false) p (ne-eqb 10 (getD text e 0) (λ z. let y : 10 ≡ 13 = z ∙ d in let x : ⊥ = omega arith in x)))
             (λ x. g))
             l
-            (λ z. let y : ⊥ = omega (arith, c .low, w .low) in y)
+            (λ z. let y : ⊥ = omega (arith, c .low, w .passed .low) in y)
             (subst (λ (j : ℕ). getD text j 0 ≡ 13) (sym n) d)))
 
         far : e ≤ next
@@ -370,39 +291,39 @@ module _ {text cells : List ℕ} {i count : ℕ} {fresh : Bool} (c : Scanned tex
 
         goes : continues (slice (c .at) e text) ≡ true
         goes =
-            continues-last text (c .at) e (omega (arith, c .low, w .low)) (w .high) (without-slice (eqb 35) text (c .at) e (w .high) no-comment)
+            continues-last text (c .at) e (omega (arith, c .low, w .passed .low)) (w .passed .high) (without-slice (eqb 35) text (c .at) e (w .passed .high) no-comment)
             ∙ eq-eqb 92 (getD text (e - 1) 0) (sym s)
 
         front : tokens (take (length (slice (c .at) e text) - 1) (slice (c .at) e text)) ≡ tokens (slice (c .at) (e - 1) text)
-        front = ap tokens (front-is text (c .at) e (omega (arith, c .low, w .low)) (w .high))
+        front = ap tokens (front-is text (c .at) e (omega (arith, c .low, w .passed .low)) (w .passed .high))
 
         -- it stands alone
         pub scan-alone : e ≡ i + 1 → Scanned text cells next count fresh
         scan-alone q =
             let p : e - 1 ≡ i = omega arith in
-            line-goes (going next t) (c .pending) (c .added) (c .rest) (c .small) (c .placed) (omega (arith, c .fewer h f, w .low, far)) (λ o. omega (arith, c .fewer h f, w .low, far)) goes
+            line-goes (going next t) (c .pending) (c .added) (c .rest) (c .small) (c .placed) (omega (arith, c .fewer h f, w .passed .low, far)) (λ o. omega (arith, c .fewer h f, w .passed .low, far)) goes
             (sym (front ∙ ap (λ (j : ℕ). tokens (slice (c .at) j text)) p ∙ here))
 
         -- it ends a word
         pub scan-goes : (e ≡ i + 1 → ⊥) → Scanned text (set cells count (tokenCell fresh i (e - 1 - i))) next (count + 1) false
         scan-goes d =
-            let m : i < e - 1 = by-order e (i + 1) (λ o. absurd (d (omega (arith, w .low)))) (λ o. omega arith) in
+            let m : i < e - 1 = by-order e (i + 1) (λ o. absurd (d (omega (arith, w .passed .low)))) (λ o. omega arith) in
             line-goes (going next t) (c .pending) (c .added ++ tokenCell fresh i (e - 1 - i) ∷ []) (c .rest) (c .small) (put m (omega arith)) (omega (arith, c .fewer h f, far)) (λ o. omega (arith, c .fewer h f, far)) goes
             (sym (front
-            ∙ more m (omega arith) (e - 1) (omega arith) (omega (arith, w .high)) (λ k a b. absurd (let z : ⊥ = omega arith in z)) (λ o. absurd (let z : ⊥ = omega arith in z))
+            ∙ more m (omega arith) (e - 1) (omega arith) (omega (arith, w .passed .high)) (λ k a b. absurd (let z : ⊥ = omega arith in z)) (λ o. absurd (let z : ⊥ = omega arith in z))
             ∙ ap (λ (x : List Bytes). tokensOf text (c .added ++ tokenCell fresh i (e - 1 - i) ∷ []) ++ x) (no-tokens text (e - 1))
             ∙ append-nil (tokensOf text (c .added ++ tokenCell fresh i (e - 1 - i) ∷ []))))
 
         pub goes-moves : i < next
-        goes-moves = omega (arith, w .low, far)
+        goes-moves = omega (arith, w .passed .low, far)
 
   -- ---- the text's end
 
-  before-none : (ts : List Bytes) → beforeRow ts [] ≡ ts ∷ []
-  unfolding beforeRow
+  before-none : (ts : List Bytes) → before ts [] ≡ ts ∷ []
+  unfolding before
   before-none ts = refl
 
-  pub scan-done : length text ≤ i → Marked text cells count
+  pub scan-done : length text ≤ i → TokensMarked text cells count
   scan-done h =
       let few : count ≤ 16384 = omega (arith, c .few, c .high, c .small) in
       let q : i ≡ length text = omega (arith, c .high) in
@@ -414,9 +335,9 @@ module _ {text cells : List ℕ} {i count : ℕ} {fresh : Bool} (c : Scanned tex
       sym (map-append (tokenOf text) (c .pending) (c .added) ∙ ap (λ (x : List Bytes). tokensOf text (c .pending) ++ x) none ∙ append-nil (tokensOf text (c .pending))) in
       let z : lineRows (lines (drop (c .at) text)) ≡ [] = ap lineRows (ap lines (drop-of-length-le text {i = c .at} o) ∙ lines-none) ∙ rows-none in
       placed-done few (c .placed)
-      (c .rest ∙ ap (λ (x : List (List Bytes)). grouped text (c .closed) .rows ++ fullRows x) (ap₂ beforeRow all z ∙ before-none (tokensOf text (c .pending ++ c .added)))))
+      (c .rest ∙ ap (λ (x : List (List Bytes)). grouped text (c .closed) .rows ++ fullRows x) (ap₂ before all z ∙ before-none (tokensOf text (c .pending ++ c .added)))))
       (λ o.
-      let to : LineTo text (c .at) i = record { low = c .low; high = c .high; none = c .line; stop = λ l. absurd (let z : ⊥ = omega arith in z) } in
+      let to : FirstTo (eqb 10) text (c .at) i = record { passed = so-far; stop = λ l. absurd (let z : ⊥ = omega arith in z) } in
       let ln : LineAt text (c .at) i i = last-line o to h in
       let z : lineRows (lines (drop i text)) ≡ [] = ap lineRows (ap lines (drop-of-length-le text {i = i} h) ∙ lines-none) ∙ rows-none in
       placed-done few (c .placed)

@@ -1,8 +1,7 @@
 -- Lines and tokens come back from a text that ends each line and stands a blank before each word. Assumes nothing.
 use mathlib.Core.Path.{_≡_, refl, ap, _∙_}
-use mathlib.Core.Bool.{Bool, true, false, false≢true}
+use mathlib.Core.Bool.{true, false≢true}
 use mathlib.Core.List.{List, [], _∷_, _++_, flatMap, headD, append-assoc, append-nil}
-use Prim.Native.Nat.{ℕ}
 use lib.Dec.{eqb}
 use Rattle.lists.specs.Lists.{Bytes, any, filter}
 use Rattle.lists.proofs.Tests.{or-left, or-right}

@@ -9,7 +9,7 @@ use lib.Dec.{eqb}
 use lib.ListN.{length, getD, take, drop, drop-of-length-le}
 use lib.Seq.{slice, slice-cons, length-take-le}
 use Rattle.lists.specs.Lists.{if_then_else_, Bytes, bytes, same}
-use Rattle.blif_text.specs.Statements.{Parsed, ok, bad, modelOf, latchOf, stmtOf}
+use Rattle.blif_text.specs.Statements.{Parsed, ok, bad, modelStmt, latchStmt, stmtOf}
 use Rattle.blif_text.specs.Statements as stmt
 use Rattle.blif_text.specs.Rows.{rowStmt}
 use Rattle.blif_text.specs.Places.{tokenOf, tokensOf}
@@ -24,10 +24,10 @@ use Rattle.blif_text.proofs.WordLaws.{drop-take}
 
 -- the statement of a first token with this keyword, and the others
 abbrev pub byKeyword : Keyword → Bytes → List Bytes → Parsed
-byKeyword key.Model k ts = modelOf ts
+byKeyword key.Model k ts = modelStmt ts
 byKeyword key.Inputs k ts = ok (stmt.Stmt.inputs ts)
 byKeyword key.Outputs k ts = ok (stmt.Stmt.outputs ts)
-byKeyword key.Latch k ts = latchOf ts
+byKeyword key.Latch k ts = latchStmt ts
 byKeyword key.Names k ts = ok (stmt.Stmt.names ts)
 byKeyword key.End k ts = ok stmt.Stmt.end
 byKeyword key.Exdc k ts = ok stmt.Stmt.exdc
@@ -49,10 +49,10 @@ stmt-by-keyword k ts =
     (eqb 46 (headD k 0))
   where
     go : (a b c d e f g h : Bool)
-        → (if a then modelOf ts
+        → (if a then modelStmt ts
         else if b then ok (stmt.Stmt.inputs ts)
         else if c then ok (stmt.Stmt.outputs ts)
-        else if d then latchOf ts
+        else if d then latchStmt ts
         else if e then ok (stmt.Stmt.names ts)
         else if f then ok stmt.Stmt.end
         else if g then ok stmt.Stmt.exdc
@@ -86,28 +86,28 @@ unfolding rowStmt
 row-is k ts = refl
 
 -- `.model` without a name
-model-none : modelOf [] ≡ bad 4
-unfolding modelOf
+model-none : modelStmt [] ≡ bad 4
+unfolding modelStmt
 model-none = refl
 
 -- and with one
-model-some : (n : Bytes) (ts : List Bytes) → modelOf (n ∷ ts) ≡ ok stmt.Stmt.model
-unfolding modelOf
+model-some : (n : Bytes) (ts : List Bytes) → modelStmt (n ∷ ts) ≡ ok stmt.Stmt.model
+unfolding modelStmt
 model-some n ts = refl
 
 -- `.latch` without a name
-latch-none : latchOf [] ≡ bad 4
-unfolding latchOf
+latch-none : latchStmt [] ≡ bad 4
+unfolding latchStmt
 latch-none = refl
 
 -- with one
-latch-one : (d : Bytes) → latchOf (d ∷ []) ≡ bad 4
-unfolding latchOf
+latch-one : (d : Bytes) → latchStmt (d ∷ []) ≡ bad 4
+unfolding latchStmt
 latch-one d = refl
 
 -- with two or more
-latch-two : (d q : Bytes) (ts : List Bytes) → latchOf (d ∷ q ∷ ts) ≡ ok (stmt.Stmt.latch d q)
-unfolding latchOf
+latch-two : (d q : Bytes) (ts : List Bytes) → latchStmt (d ∷ q ∷ ts) ≡ ok (stmt.Stmt.latch d q)
+unfolding latchStmt
 latch-two d q ts = refl
 
 -- ---- the cells of a row
@@ -190,18 +190,18 @@ module _ {keyword : Keyword} {at end : ℕ} (h : at < end) where
   -- `.model` with a name
   pub said-model : keyword ≡ key.Model → 1 ≤ end - at - 1 → StatementOf keyword at end place.Model
   said-model q m text cells r e =
-      sym (says text cells r e q ∙ ap modelOf (tokens-cons text cells (at + 1) end (omega arith) r)
+      sym (says text cells r e q ∙ ap modelStmt (tokens-cons text cells (at + 1) end (omega arith) r)
       ∙ model-some (tokenOf text (getD cells (at + 1) 0)) (tokensOf text (slice (at + 1 + 1) end cells)))
 
   -- `.model` without one is refused
   pub said-no-model : keyword ≡ key.Model → end - at - 1 < 1 → StatementOf keyword at end (place.Refused 4)
-  said-no-model q m text cells r e = sym (says text cells r e q ∙ ap modelOf (tokens-none text cells (at + 1) end (omega arith) r) ∙ model-none)
+  said-no-model q m text cells r e = sym (says text cells r e q ∙ ap modelStmt (tokens-none text cells (at + 1) end (omega arith) r) ∙ model-none)
 
   -- `.latch` with two names
   pub said-latch : keyword ≡ key.Latch → 2 ≤ end - at - 1 → StatementOf keyword at end (place.Latch (at + 1))
   said-latch q m text cells r e =
       sym (says text cells r e q
-      ∙ ap latchOf
+      ∙ ap latchStmt
       (tokens-cons text cells (at + 1) end (omega arith) r
       ∙ ap (λ (ts : List Bytes). tokenOf text (getD cells (at + 1) 0) ∷ ts) (tokens-cons text cells (at + 1 + 1) end (omega arith) r))
       ∙ latch-two (tokenOf text (getD cells (at + 1) 0)) (tokenOf text (getD cells (at + 1 + 1) 0)) (tokensOf text (slice (at + 1 + 1 + 1) end cells)))
@@ -210,10 +210,10 @@ module _ {keyword : Keyword} {at end : ℕ} (h : at < end) where
   pub said-no-latch : keyword ≡ key.Latch → end - at - 1 < 2 → StatementOf keyword at end (place.Refused 4)
   said-no-latch q m text cells r e =
       by-order end (at + 1)
-      (λ l. sym (says text cells r e q ∙ ap latchOf (tokens-none text cells (at + 1) end l r) ∙ latch-none))
+      (λ l. sym (says text cells r e q ∙ ap latchStmt (tokens-none text cells (at + 1) end l r) ∙ latch-none))
       (λ l.
       sym (says text cells r e q
-      ∙ ap latchOf
+      ∙ ap latchStmt
       (tokens-cons text cells (at + 1) end l r
       ∙ ap (λ (ts : List Bytes). tokenOf text (getD cells (at + 1) 0) ∷ ts) (tokens-none text cells (at + 1 + 1) end (omega arith) r))
       ∙ latch-one (tokenOf text (getD cells (at + 1) 0))))

@@ -1,6 +1,6 @@
 -- The cell of a place in the text, and one cell more behind those so far. Assumes nothing.
 use mathlib.Core.Path.{_≡_, refl, sym, ap, ap₂, _∙_, subst}
-use mathlib.Core.Bool.{Bool, true, false}
+use mathlib.Core.Bool.{Bool, true, false, not}
 use mathlib.Core.List.{List, [], _∷_, _++_, append-assoc}
 use Prim.Native.Nat.{ℕ, zero, suc, _+_, _-_, _*_, _^_, _≤_, _<_}
 use native.Mathlib.Omega.{arith}
@@ -11,7 +11,8 @@ use borrow.Author.Tests.{le-leb, lt-leb}
 use Rattle.lists.specs.Lists.{Bytes}
 use Rattle.lists.proofs.Tests.{by-order}
 use Rattle.blif_text.specs.Places.{tokenCell, isFirst, tokenStart, tokenLength, tokenOf}
-use Rattle.blif_text.specs.Scan.{NoneFirst, Firsts, noCells, Placed}
+use Rattle.blif_text.specs.Lines.{nonEmpty}
+use Rattle.blif_text.specs.Scan.{NoneFirst, Firsts, Placed}
 
 -- ---- the cell of a place
 
@@ -51,13 +52,15 @@ none-snoc : (cs : List ℕ) (c : ℕ) → NoneFirst cs → isFirst c ≡ false �
 none-snoc [] c n e = (e, tt)
 none-snoc (d ∷ cs) c n e = (n .0, none-snoc cs c (n .1) e)
 
-firsts-snoc : (cs : List ℕ) (c : ℕ) → Firsts true cs → isFirst c ≡ noCells cs → Firsts true (cs ++ c ∷ [])
+firsts-snoc : (cs : List ℕ) (c : ℕ) → Firsts true cs → isFirst c ≡ not (nonEmpty cs) → Firsts true (cs ++ c ∷ [])
+unfolding nonEmpty
 firsts-snoc [] c n e = (e, tt)
 firsts-snoc (d ∷ cs) c n e = (n .0, none-snoc cs c (n .1) e)
 
-no-cells : (cs : List ℕ) (c : ℕ) → noCells (cs ++ c ∷ []) ≡ false
-no-cells [] c = refl
-no-cells (d ∷ cs) c = refl
+some-cell : (cs : List ℕ) (c : ℕ) → not (nonEmpty (cs ++ c ∷ [])) ≡ false
+unfolding nonEmpty
+some-cell [] c = refl
+some-cell (d ∷ cs) c = refl
 
 -- ---- one cell more
 
@@ -67,14 +70,14 @@ module _ {text cells : List ℕ} {count : ℕ} {fresh : Bool} {closed pending : 
   placed-more {x} {s} {l} h hs hl z q =
       let start : tokenStart x ≡ s = ap tokenStart q ∙ cell-start s l hs hl fresh in
       let len : tokenLength x ≡ l = ap tokenLength q ∙ cell-length s l hs hl fresh in
-      let one : isFirst x ≡ noCells pending = ap isFirst q ∙ cell-first s l hs hl fresh ∙ p .fresh-is in
+      let one : isFirst x ≡ not (nonEmpty pending) = ap isFirst q ∙ cell-first s l hs hl fresh ∙ p .fresh-is in
       record {
         room = subst (λ (k : ℕ). 16384 ≤ k) (sym (length-set cells count x)) (p .room);
         so-far = rw add-one (take-suc-set cells count x h ∙ ap (λ (r : List ℕ). r ++ x ∷ []) (p .so-far) ∙ append-assoc closed pending (x ∷ []));
         counted = omega (arith, p .counted, length-append closed pending, length-append closed (pending ++ x ∷ []), length-append pending (x ∷ []));
         none-loose = p .none-loose;
         firsts = firsts-snoc pending x (p .firsts) one;
-        fresh-is = sym (no-cells pending x);
+        fresh-is = sym (some-cell pending x);
         inside = λ k m.
             by-order count k
             (λ o.

@@ -2,7 +2,7 @@
 -- Assumes nothing: these are definitions.
 use mathlib.Core.Bool.{Bool}
 use mathlib.Core.List.{List, [], _∷_, flatMap}
-use Prim.Native.Nat.{ℕ, _-_}
+use Prim.Native.Nat.{_-_}
 use lib.ListN.{length, getD, take}
 use Rattle.lists.specs.Lists.{Bytes, same}
 use Rattle.blif_text.specs.Statements.{Stmt}
@@ -92,9 +92,9 @@ defines (latch d q) = q
 defines (cover ns ls) = coverOut ns
 
 -- the names that a gate uses
-unfoldable pub uses : Def → List Bytes
-uses (latch d q) = d ∷ []
-uses (cover ns ls) = coverIns ns
+unfoldable pub usedNames : Def → List Bytes
+usedNames (latch d q) = d ∷ []
+usedNames (cover ns ls) = coverIns ns
 
 -- a cube line's columns: the first of two tokens, or none
 unfoldable pub columns : List Bytes → Bytes

@@ -36,8 +36,8 @@ cut (c ∷ s) = if eqb 35 c then [] else c ∷ cut s
 unfoldable pub continues : Bytes → Bool
 continues l = not (any (eqb 35) l) && eqb 92 (getD l (length l - 1) 0)
 
--- pending text before what follows; "at the end of the file too"
-unfoldable pub before : Bytes → List Bytes → List Bytes
+-- what is pending before what follows: "A line .. continues, at the end of the file too"
+unfoldable pub before : {A : Type 0} → List A → List (List A) → List (List A)
 before t [] = t ∷ []
 before t (u ∷ us) = (t ++ u) ∷ us
 
@@ -52,8 +52,8 @@ joined (l ∷ ls) = if continues l then before (32 ∷ take (length l - 1) l) (j
 unfoldable pub isBlank : ℕ → Bool
 isBlank c = leb 9 c && leb c 13 || eqb 32 c
 
--- whether there is a byte
-unfoldable pub nonEmpty : Bytes → Bool
+-- whether there is an element
+unfoldable pub nonEmpty : {A : Type 0} → List A → Bool
 nonEmpty [] = false
 nonEmpty (c ∷ s) = true
 

@@ -1,13 +1,12 @@
 -- Tokens as places in the caller's text, a cell for each: document 01, "A name is a part of the caller's text, held by its place".
 -- Assumes nothing: these are definitions.
 use mathlib.Core.Path.{_≡_}
-use mathlib.Core.Bool.{Bool, true, false, _&&_, cond}
-use mathlib.Core.List.{List, [], _∷_, _++_, map}
+use mathlib.Core.Bool.{Bool, true, false, cond}
+use mathlib.Core.List.{List, [], _∷_, map}
 use Prim.Native.Nat.{ℕ, _+_, _*_, _/_, _%_, _^_, _≤_, _<_}
 use lib.Dec.{leb}
 use lib.ListN.{length, getD, take, drop}
 use Rattle.lists.specs.Lists.{Bytes}
-use Rattle.blif_text.specs.Lines.{tokens}
 use Rattle.blif_text.specs.Rows.{textRows}
 
 -- "Text at most 32,768 bytes"
@@ -33,6 +32,10 @@ tokenStart c = c / 2 ^ 16 % 2 ^ 15
 -- how long it is
 abbrev pub tokenLength : ℕ → ℕ
 tokenLength c = c % 2 ^ 16
+
+-- the token of a cell is within the text
+abbrev pub InText : Bytes → ℕ → Type 0
+InText text c = tokenStart c + tokenLength c ≤ length text
 
 -- the token of a cell
 unfoldable pub tokenOf : Bytes → ℕ → Bytes
@@ -60,7 +63,7 @@ grouped text [] = record { loose = []; rows = [] }
 grouped text (c ∷ cs) = withToken (isFirst c) (tokenOf text c) (grouped text cs)
 
 -- the first r cells hold the text's tokens by their places, row by row
-pub record Marked (text cells : List ℕ) (r : ℕ) : Type 0 where
+pub record TokensMarked (text cells : List ℕ) (r : ℕ) : Type 0 where
   -- no more than fit
   pub few : r ≤ maxTokens
   -- the rows are the text's
@@ -68,4 +71,4 @@ pub record Marked (text cells : List ℕ) (r : ℕ) : Type 0 where
   -- every token stands in a row
   pub none-loose : grouped text (take r cells) .loose ≡ []
   -- and within the text
-  pub inside : (i : ℕ) → i < r → tokenStart (getD cells i 0) + tokenLength (getD cells i 0) ≤ length text
+  pub inside : (i : ℕ) → i < r → InText text (getD cells i 0)

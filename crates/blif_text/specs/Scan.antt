@@ -1,6 +1,6 @@
 -- What the functions that scan a text promise to each other: records over places in the text. Assumes nothing: these are definitions.
 use mathlib.Core.Path.{_≡_}
-use mathlib.Core.Bool.{Bool, true, false, _||_}
+use mathlib.Core.Bool.{Bool, true, false, not, _||_}
 use mathlib.Core.List.{List, [], _∷_, _++_}
 use mathlib.Core.Logic.{_⊎_}
 use Prim.Native.Nat.{ℕ, _+_, _-_, _*_, _≤_, _<_}
@@ -8,24 +8,29 @@ use lib.Dec.{eqb}
 use lib.ListN.{length, getD, take, drop, set}
 use lib.Seq.{slice}
 use Rattle.lists.specs.Lists.{Bytes}
-use Rattle.blif_text.specs.Lines.{lines, isBlank, tokens}
-use Rattle.blif_text.specs.Rows.{beforeRow, lineRows, fullRows, textRows}
-use Rattle.blif_text.specs.Places.{maxText, maxTokens, tokenCell, isFirst, tokenStart, tokenLength, tokensOf, grouped}
+use Rattle.blif_text.specs.Lines.{before, lines, isBlank, nonEmpty, tokens}
+use Rattle.blif_text.specs.Rows.{lineRows, fullRows, textRows}
+use Rattle.blif_text.specs.Places.{maxText, maxTokens, tokenCell, isFirst, InText, tokensOf, grouped}
 
 -- what ends a word: "Blanks are 9 to 13 and 32", and "`#` cuts the line"
 unfoldable pub endsWord : ℕ → Bool
 endsWord c = isBlank c || eqb 35 c
 
--- from at to r stands no byte that ends a word, and at r one
-pub record WordTo (t : Bytes) (at r : ℕ) : Type 0 where
+-- from at to r no byte passes the test
+pub record NoneTo (p : ℕ → Bool) (t : Bytes) (at r : ℕ) : Type 0 where
   -- not before the start
   pub low : at ≤ r
   -- within the text
   pub high : r ≤ length t
   -- none between
-  pub word : (k : ℕ) → at ≤ k → k < r → endsWord (getD t k 0) ≡ false
-  -- the stop is one
-  pub stop : r < length t → endsWord (getD t r 0) ≡ true
+  pub none : (k : ℕ) → at ≤ k → k < r → p (getD t k 0) ≡ false
+
+-- the first byte from at on that passes the test stands at r, or the text ends there
+pub record FirstTo (p : ℕ → Bool) (t : Bytes) (at r : ℕ) : Type 0 where
+  -- none before it
+  pub passed : NoneTo p t at r
+  -- it does
+  pub stop : r < length t → p (getD t r 0) ≡ true
 
 -- from at to r stand spaces
 pub record SpacesTo (t : Bytes) (at r : ℕ) : Type 0 where
@@ -36,32 +41,12 @@ pub record SpacesTo (t : Bytes) (at r : ℕ) : Type 0 where
   -- nothing else between
   pub spaces : (k : ℕ) → at ≤ k → k < r → getD t k 0 ≡ 32
 
--- from at to r stands no LF
-pub record NoLine (t : Bytes) (at r : ℕ) : Type 0 where
-  -- not before the start
-  pub low : at ≤ r
-  -- within the text
-  pub high : r ≤ length t
-  -- no LF between
-  pub none : (k : ℕ) → at ≤ k → k < r → eqb 10 (getD t k 0) ≡ false
-
--- from at to r stands no LF, and at r one
-pub record LineTo (t : Bytes) (at r : ℕ) : Type 0 where
-  -- not before the start
-  pub low : at ≤ r
-  -- within the text
-  pub high : r ≤ length t
-  -- no LF between
-  pub none : (k : ℕ) → at ≤ k → k < r → eqb 10 (getD t k 0) ≡ false
-  -- the stop is an LF
-  pub stop : r < length t → getD t r 0 ≡ 10
-
 -- the first line from at on ends before next
 pub record LineAfter (t : Bytes) (at next : ℕ) : Type 0 where
   -- where it ends
   pub end : ℕ
   -- at the first LF
-  pub to : LineTo t at end
+  pub to : FirstTo (eqb 10) t at end
   -- which is passed, where the text does not end there
   pub is : ((end < length t) × (next ≡ end + 1)) ⊎ ((length t ≤ end) × (next ≡ end))
 
@@ -91,11 +76,6 @@ abbrev pub Firsts : Bool → List ℕ → Type 0
 Firsts first [] = Unit {0}
 Firsts first (c ∷ cs) = (isFirst c ≡ first) × NoneFirst cs
 
--- whether there is no cell
-abbrev pub noCells : List ℕ → Bool
-noCells [] = true
-noCells (c ∷ cs) = false
-
 -- the first count cells hold the tokens of whole statements, then those of the statement that goes on; fresh says that the next
 -- token is a statement's first
 pub record Placed (text cells : List ℕ) (count : ℕ) (fresh : Bool) (closed pending : List ℕ) : Type 0 where
@@ -110,9 +90,9 @@ pub record Placed (text cells : List ℕ) (count : ℕ) (fresh : Bool) (closed p
   -- the open statement's first token is marked, and no other
   pub firsts : Firsts true pending
   -- whether it has one
-  pub fresh-is : fresh ≡ noCells pending
+  pub fresh-is : fresh ≡ not (nonEmpty pending)
   -- each token within the text
-  pub inside : (k : ℕ) → k < count → tokenStart (getD cells k 0) + tokenLength (getD cells k 0) ≤ length text
+  pub inside : (k : ℕ) → k < count → InText text (getD cells k 0)
 
 -- the scan has come to place i, with count tokens marked
 pub record Scanned (text cells : List ℕ) (i count : ℕ) (fresh : Bool) : Type 0 where
@@ -133,7 +113,7 @@ pub record Scanned (text cells : List ℕ) (i count : ℕ) (fresh : Bool) : Type
   -- "`#` cuts the line": no comment has started
   pub plain : (k : ℕ) → at ≤ k → k < i → eqb 35 (getD text k 0) ≡ false
   -- "A line without `#` that ends in a backslash loses it and continues": no backslash so far ends the line
-  pub calm : (k : ℕ) → at ≤ k → k < i → getD text k 0 ≡ 92 → (next : ℕ) → StopTo text (k + 1) next → ⊥
+  pub no-continuation : (k : ℕ) → at ≤ k → k < i → getD text k 0 ≡ 92 → (next : ℕ) → StopTo text (k + 1) next → ⊥
   -- the cells of whole statements
   pub closed : List ℕ
   -- the cells of the statement that goes on, from the lines before
@@ -143,7 +123,7 @@ pub record Scanned (text cells : List ℕ) (i count : ℕ) (fresh : Bool) : Type
   -- all cells
   pub placed : Placed text cells count fresh closed (pending ++ added)
   -- the rows so far and those from this line on are the text's
-  pub rest : textRows text ≡ grouped text closed .rows ++ fullRows (beforeRow (tokensOf text pending) (lineRows (lines (drop at text))))
+  pub rest : textRows text ≡ grouped text closed .rows ++ fullRows (before (tokensOf text pending) (lineRows (lines (drop at text))))
   -- the line's tokens up to any place before a comment are the cells and those from i on
   pub are : (e : ℕ) → i ≤ e → e ≤ length text → ((k : ℕ) → i ≤ k → k < e → eqb 35 (getD text k 0) ≡ false) → tokens (slice at e text) ≡ tokensOf text added ++ tokens (slice i e text)
 

@@ -18,24 +18,24 @@ pub data Parsed : Type 0 where
   bad : ℕ → Parsed
 
 -- "4 when `.model` lacks a name or `.latch` has fewer than two"; "Extra tokens .. are ignored"
-unfoldable pub modelOf : List Bytes → Parsed
-modelOf [] = bad 4
-modelOf (n ∷ ts) = ok model
+unfoldable pub modelStmt : List Bytes → Parsed
+modelStmt [] = bad 4
+modelStmt (n ∷ ts) = ok model
 
 -- the input and the output of a latch; "later tokens are never looked up"
-unfoldable pub latchOf : List Bytes → Parsed
-latchOf [] = bad 4
-latchOf (d ∷ []) = bad 4
-latchOf (d ∷ q ∷ ts) = ok (latch d q)
+unfoldable pub latchStmt : List Bytes → Parsed
+latchStmt [] = bad 4
+latchStmt (d ∷ []) = bad 4
+latchStmt (d ∷ q ∷ ts) = ok (latch d q)
 
 -- the statement of a first token and the others: "Keywords are compared byte for byte"; "another first token with a leading dot
 -- is unsupported; any other statement is a cube line"
 unfoldable pub stmtOf : Bytes → List Bytes → Parsed
 stmtOf k ts =
-    if same k (bytes ".model") then modelOf ts
+    if same k (bytes ".model") then modelStmt ts
     else if same k (bytes ".inputs") then ok (inputs ts)
     else if same k (bytes ".outputs") then ok (outputs ts)
-    else if same k (bytes ".latch") then latchOf ts
+    else if same k (bytes ".latch") then latchStmt ts
     else if same k (bytes ".names") then ok (names ts)
     else if same k (bytes ".end") then ok end
     else if same k (bytes ".exdc") then ok exdc

@@ -1,13 +1,13 @@
 -- The walk over marked tokens, row by row and statement by statement. Assumes nothing: these are definitions.
 use mathlib.Core.Path.{_≡_}
 use mathlib.Core.List.{List, [], map}
-use Prim.Native.Nat.{ℕ, _+_, _≤_, _<_}
+use Prim.Native.Nat.{ℕ, _≤_, _<_}
 use lib.ListN.{length, getD}
 use lib.Seq.{slice}
 use Rattle.lists.specs.Lists.{Bytes}
 use Rattle.blif_text.specs.Statements.{Stmt, firstBad, stmts}
 use Rattle.blif_text.specs.Rows.{rowStmt}
-use Rattle.blif_text.specs.Places.{tokenStart, tokenLength, grouped}
+use Rattle.blif_text.specs.Places.{InText, grouped}
 
 -- the rows from cell at on, of n cells in use
 abbrev pub rowsFrom : Bytes → List ℕ → ℕ → ℕ → List (List Bytes)
@@ -22,7 +22,7 @@ pub record Inside (text cells : List ℕ) (n : ℕ) : Type 0 where
   -- the cells in use are among those there are
   pub room : n ≤ length cells
   -- each token is within the text
-  pub inside : (i : ℕ) → i < n → tokenStart (getD cells i 0) + tokenLength (getD cells i 0) ≤ length text
+  pub inside : (i : ℕ) → i < n → InText text (getD cells i 0)
 
 -- a row starts at cell at, or the cells in use end there
 pub record RowsAt (text cells : List ℕ) (n at : ℕ) : Type 0 where

@@ -5,16 +5,18 @@ ghost use mathlib.Core.Bool.{false};
 ghost use lib.Dec.{eqb};
 ghost use mathlib.Core.List.{[], _∷_};
 ghost use Prim.Native.Nat.{_+_, _*_, _≤_, _<_};
-ghost use lib.ListN.{length, getD, take, drop};
+ghost use lib.ListN.{length, getD};
 ghost use lib.Seq.{slice};
 ghost use Rattle.lists.specs.Lists.{any, overAt};
 ghost use Rattle.blif_text.specs.Lines.{isBlank};
-ghost use Rattle.blif_text.specs.Places.{maxText, maxTokens, tokenCell, isFirst, tokenStart, tokenLength, tokenOf, tokensOf, Marked};
+ghost use Rattle.blif_text.specs.Places.{maxText, maxTokens, tokenCell, isFirst, tokenStart, tokenLength, InText, tokenOf, tokensOf, TokensMarked};
 ghost use Rattle.blif_text.specs.Keywords.{keywordOf, said, RowTo, StatementOf, refusal};
 ghost use Rattle.blif_text.specs.Statements.{parsed, firstBad};
+ghost use Rattle.blif_text.specs.Decls.{columns};
 ghost use Rattle.blif_text.specs.Rows.{rowStmt};
+ghost use Rattle.blif_text.specs.Walk.{Inside};
 ghost use Rattle.blif_text.specs.Blocks.{blockWidth, firstName, nameCount, lineCount};
-ghost use Rattle.blif_text.specs.Scan.{endsWord, WordTo, SpacesTo, NoLine, LineTo, LineAfter, StopOf, WordPut, Scanned};
+ghost use Rattle.blif_text.specs.Scan.{endsWord, NoneTo, FirstTo, SpacesTo, LineAfter, StopOf, WordPut, Scanned};
 
 pub const MAX_TEXT: usize = 32768;
 
@@ -105,7 +107,7 @@ fn ends_word(c: u8) -> bool
 // The place of the first byte from at on that ends a word, or the text's length.
 fn word_end(text: &[u8], at: usize) -> usize
     requires { ⌜ at ≤ length (now text) ⌝ }
-    ensures { λ r. ⌜ WordTo (now (text .entry)) at r ⌝ }
+    ensures { λ r. ⌜ FirstTo endsWord (now (text .entry)) at r ⌝ }
 {
     let mut i = at;
     while i < text.len() {
@@ -148,7 +150,7 @@ fn has_line_end(block: &[u8]) -> bool
 // The place behind the blocks of 32 bytes from at on that have no LF.
 fn skip_blocks(text: &[u8], at: usize) -> usize
     requires { ⌜ at ≤ length (now text) ⌝ }
-    ensures { λ r. ⌜ NoLine (now (text .entry)) at r ⌝ }
+    ensures { λ r. ⌜ NoneTo (eqb 10) (now (text .entry)) at r ⌝ }
 {
     let mut i = at;
     while text.len() - i >= 32 {
@@ -164,7 +166,7 @@ fn skip_blocks(text: &[u8], at: usize) -> usize
 // The place of the first LF from at on, or the text's length.
 fn line_end(text: &[u8], at: usize) -> usize
     requires { ⌜ at ≤ length (now text) ⌝ }
-    ensures { λ r. ⌜ LineTo (now (text .entry)) at r ⌝ }
+    ensures { λ r. ⌜ FirstTo (eqb 10) (now (text .entry)) at r ⌝ }
 {
     let mut i = skip_blocks(text, at);
     while i < text.len() {
@@ -320,7 +322,7 @@ fn mark_step(text: &[u8], cells: &mut [u32], w: Marks) -> Marks
 // Marks every token of the text, a cell for each, row by row; answers how many there are.
 pub fn mark_tokens(text: &[u8], cells: &mut [u32]) -> usize
     requires { ⌜ (length (now text) ≤ maxText) × (maxTokens ≤ length (now cells)) ⌝ }
-    ensures { λ r. ⌜ Marked (now (text .entry)) (now (cells .exit)) r ⌝ }
+    ensures { λ r. ⌜ TokensMarked (now (text .entry)) (now (cells .exit)) r ⌝ }
 {
     let mut w = Marks {
         at: 0,
@@ -335,7 +337,7 @@ pub fn mark_tokens(text: &[u8], cells: &mut [u32]) -> usize
 
 // The token of a cell, as a part of the text.
 pub fn token(text: &[u8], cell: u32) -> &[u8]
-    requires { ⌜ tokenStart cell + tokenLength cell ≤ length (now text) ⌝ }
+    requires { ⌜ InText (now text) cell ⌝ }
     ensures { λ r. ⌜ now r ≡ tokenOf (now (text .entry)) cell ⌝ }
 {
     let start = token_start(cell);
@@ -392,6 +394,17 @@ pub fn row_end(cells: &[u32], at: usize, n: usize) -> usize
     i
 }
 
+// The columns of the cube line from a row's first token to its end: none of a line with one token, else its first token.
+pub fn line_columns<'a, 'b>(text: &'a [u8], tokens: &'b [u32], row: usize, end: usize) -> &'a [u8]
+    requires { ⌜ (row < end) × Inside (now text) (now tokens) end ⌝ }
+    ensures { λ r. ⌜ now r ≡ columns (tokensOf (now (text .entry)) (slice row end (now (tokens .entry)))) ⌝ }
+{
+    if end - row < 2 {
+        return &text[..0];
+    }
+    token(text, tokens[row])
+}
+
 // The statement of the row from at to end, whose first token has this keyword.
 fn statement_of(keyword: Keyword, at: usize, end: usize) -> Statement
     requires { ⌜ at < end ⌝ }
@@ -430,7 +443,7 @@ fn statement_of(keyword: Keyword, at: usize, end: usize) -> Statement
 // The statement of the row of token cells from at to end.
 pub fn statement_at(text: &[u8], cells: &[u32], at: usize, end: usize) -> Statement
     requires { ⌜ (at < end) × (end ≤ length (now cells)) ⌝ }
-    requires { ⌜ tokenStart (getD (now cells) at 0) + tokenLength (getD (now cells) at 0) ≤ length (now text) ⌝ }
+    requires { ⌜ InText (now text) (getD (now cells) at 0) ⌝ }
     ensures { λ r. ⌜ said (now (text .entry)) (now (cells .entry)) r ≡ rowStmt (tokensOf (now (text .entry)) (slice at end (now (cells .entry)))) ⌝ }
 {
     let first = cells[at];
@@ -450,7 +463,7 @@ fn refusal_of(s: Statement) -> u32
 
 // The first refusal of 4 and 5 among the statements of marked tokens, or zero.
 pub fn first_bad(text: &[u8], cells: &[u32], n: usize) -> u32
-    requires { ⌜ Marked (now text) (now cells) n × (n ≤ length (now cells)) ⌝ }
+    requires { ⌜ TokensMarked (now text) (now cells) n × (n ≤ length (now cells)) ⌝ }
     ensures { λ r. ⌜ r ≡ firstBad (parsed (now (text .entry))) ⌝ }
 {
     let mut at = 0;

@@ -8,10 +8,12 @@ use lib.ListN.{length, getD, take, drop, set, length-take, length-drop, length-m
 use lib.Seq.{slice, drop-cons, getD-take, getD-drop}
 use Rattle.lists.specs.Lists.{Bytes, all, overAt}
 use Rattle.lists.proofs.OverAt.{overAt-nil, over-first, over-append, part-laid}
+use Rattle.gates.specs.Gate.{AndN}
+use Rattle.gates.specs.Forms.{formNumber, flopNumber}
 use Rattle.network.specs.Cells.{gateWidth}
 use Rattle.blif_text.specs.Places.{tokenOf, tokensOf}
 use Rattle.blif_text.specs.Walk.{rowsFrom, Inside}
-use Rattle.blif_text.specs.Decls.{Def, latch, cover, coverIns, uses}
+use Rattle.blif_text.specs.Decls.{Def, latch, cover, coverIns, usedNames}
 use Rattle.blif_text.specs.Blocks.{firstName, nameCount, lineCount, defFrom, defAt, Blocks}
 use Rattle.blif_model.specs.Working.{placedCount}
 use Rattle.blif_uses.specs.Resolve.{isFound, Resolved}
@@ -102,8 +104,8 @@ module _ (sig : Bytes → ℕ) {names₀ names : List Bytes} (at : ℕ) (pinsIn 
 
 pub cover-placed : {sig : Bytes → ℕ} {names₀ names : List Bytes} {j at count : ℕ} {q gates pinsIn gates′ : List ℕ} {r : Bool}
     → Resolved (map sig names₀) (take (length pinsIn - at) (drop at pinsIn)) q r → names₀ ≡ names → length names ≡ count → r ≡ true
-    → GateRoom gates pinsIn j at count → gates′ ≡ overAt (j * gateWidth) (7 ∷ at ∷ count ∷ []) gates
-    → GatePlaced sig 7 names (map sig names) j at gates pinsIn gates′ (take at pinsIn ++ (q ++ drop (length pinsIn - at) (drop at pinsIn)))
+    → GateRoom gates pinsIn j at count → gates′ ≡ overAt (j * gateWidth) (formNumber AndN ∷ at ∷ count ∷ []) gates
+    → GatePlaced sig (formNumber AndN) names (map sig names) j at gates pinsIn gates′ (take at pinsIn ++ (q ++ drop (length pinsIn - at) (drop at pinsIn)))
     (record { found = true; pins = at + count })
 cover-placed {sig} {names = names} {j} {at} {count} {gates = gates} {pinsIn} w n l t m g =
     let u : at ≤ length pinsIn = omega (arith, m .few, m .cells .pinRoom) in
@@ -111,14 +113,14 @@ cover-placed {sig} {names = names} {j} {at} {count} {gates = gates} {pinsIn} w n
     record {
       found = all-found sig at pinsIn w n t u;
       end = λ v. ap (λ (k : ℕ). at + k) e;
-      records = λ v. g ∙ ap (λ (k : ℕ). overAt (j * gateWidth) (7 ∷ at ∷ k ∷ []) gates) e;
+      records = λ v. g ∙ ap (λ (k : ℕ). overAt (j * gateWidth) (formNumber AndN ∷ at ∷ k ∷ []) gates) e;
       runs = λ v. names-laid sig at pinsIn w n t u;
     }
 
 pub latch-placed : {sig : Bytes → ℕ} {names₀ : List Bytes} {x : Bytes} {j at : ℕ} {q gates pinsIn gates′ : List ℕ} {r : Bool}
     → Resolved (map sig names₀) (take (length pinsIn - at) (drop at pinsIn)) q r → names₀ ≡ x ∷ [] → r ≡ true → GateRoom gates pinsIn j at 3
-    → gates′ ≡ overAt (j * gateWidth) (14 ∷ at ∷ 3 ∷ []) gates
-    → GatePlaced sig 14 (x ∷ []) (sig x ∷ 1 ∷ 0 ∷ []) j at gates pinsIn gates′
+    → gates′ ≡ overAt (j * gateWidth) (flopNumber ∷ at ∷ 3 ∷ []) gates
+    → GatePlaced sig flopNumber (x ∷ []) (sig x ∷ 1 ∷ 0 ∷ []) j at gates pinsIn gates′
     (set (set (take at pinsIn ++ (q ++ drop (length pinsIn - at) (drop at pinsIn))) (at + 1) 1) (at + 2) 0)
     (record { found = true; pins = at + 3 })
 latch-placed {sig} {x = x} {at = at} {pinsIn = pinsIn} w n t m g =
@@ -194,15 +196,15 @@ module _ {text tokens : List ℕ} {n : ℕ} {blocks : List ℕ} {f c : ℕ} (j :
         rw e at m
 
     module _ {sig : Bytes → ℕ} {gates′ pinsIn′ : List ℕ} {r : Placed} where
-      pub latch-def : c ≡ 0 → GatePlaced sig 14 (tokenOf text (getD tokens f 0) ∷ []) (sig (tokenOf text (getD tokens f 0)) ∷ 1 ∷ 0 ∷ []) j at gates pinsIn gates′ pinsIn′ r
+      pub latch-def : c ≡ 0 → GatePlaced sig flopNumber (tokenOf text (getD tokens f 0) ∷ []) (sig (tokenOf text (getD tokens f 0)) ∷ 1 ∷ 0 ∷ []) j at gates pinsIn gates′ pinsIn′ r
           → DefPlaced sig (defAt text tokens n blocks j) j at gates pinsIn gates′ pinsIn′ r
-      unfolding uses
+      unfolding usedNames
       latch-def z p = subst (λ (d : Def). DefPlaced sig d j at gates pinsIn gates′ pinsIn′ r) (sym (latch-is z)) p
 
       pub cover-def : (c ≡ 0 → ⊥)
-          → GatePlaced sig 7 (tokensOf text (take (c - 1) (drop f tokens))) (map sig (tokensOf text (take (c - 1) (drop f tokens)))) j at gates pinsIn gates′ pinsIn′ r
+          → GatePlaced sig (formNumber AndN) (tokensOf text (take (c - 1) (drop f tokens))) (map sig (tokensOf text (take (c - 1) (drop f tokens)))) j at gates pinsIn gates′ pinsIn′ r
           → DefPlaced sig (defAt text tokens n blocks j) j at gates pinsIn gates′ pinsIn′ r
-      unfolding uses
+      unfolding usedNames
       cover-def z p =
           subst (λ (d : Def). DefPlaced sig d j at gates pinsIn gates′ pinsIn′ r) (sym (cover-is z))
-          (subst (λ (ns : List Bytes). GatePlaced sig 7 ns (map sig ns) j at gates pinsIn gates′ pinsIn′ r) (sym (ins-are z)) p)
+          (subst (λ (ns : List Bytes). GatePlaced sig (formNumber AndN) ns (map sig ns) j at gates pinsIn gates′ pinsIn′ r) (sym (ins-are z)) p)

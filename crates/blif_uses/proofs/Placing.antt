@@ -19,7 +19,7 @@ use Rattle.signal.specs.Cell.{sigCell}
 use Rattle.gates.specs.Gate.{Gate, pins}
 use Rattle.gates.specs.Forms.{formCell}
 use Rattle.network.specs.Cells.{gateWidth, maxGates, maxPins}
-use Rattle.blif_text.specs.Decls.{Def, latch, cover, coverIns, uses}
+use Rattle.blif_text.specs.Decls.{Def, latch, cover, coverIns, usedNames}
 use Rattle.blif_text.specs.Blocks.{Blocks}
 use Rattle.blif_model.specs.Working.{GateIn, placed, placedCount, WorkRoom}
 use Rattle.blif_model.proofs.WorkingLaws.{record-kept, run-kept, used-more, gate-written}
@@ -37,9 +37,9 @@ found-cells sig look s (x ∷ ns) f =
     let b : Bool = all isFound (map sig ns) in
     ap₂ (λ (a : ℕ) (l : List ℕ). a ∷ l) (s x (and-left (isFound (sig x)) b f)) (found-cells sig look s ns (and-right (isFound (sig x)) b f))
 
-run-is : (sig : Bytes → ℕ) (look : Bytes → Signal) → Signals sig look → (d : Def) → all isFound (map sig (uses d)) ≡ true
+run-is : (sig : Bytes → ℕ) (look : Bytes → Signal) → Signals sig look → (d : Def) → all isFound (map sig (usedNames d)) ≡ true
     → placedRun sig d ≡ map sigCell (pins (placed look d))
-unfolding uses
+unfolding usedNames
 run-is sig look s (latch d q) f = ap (λ (a : ℕ). a ∷ 1 ∷ 0 ∷ []) (s d (and-left (isFound (sig d)) true f))
 run-is sig look s (cover ns ls) f = found-cells sig look s (coverIns ns) f
 
@@ -90,11 +90,11 @@ all-append p (x ∷ a) b = go (p x) (all-append p a b)
 
 -- whether the names are found that these definitions use
 abbrev allFound : (Bytes → ℕ) → List Def → Bool
-allFound sig ds = all isFound (map sig (flatMap uses ds))
+allFound sig ds = all isFound (map sig (flatMap usedNames ds))
 
-found-cons : (sig : Bytes → ℕ) (d : Def) (ds : List Def) → allFound sig (d ∷ ds) ≡ (all isFound (map sig (uses d)) && allFound sig ds)
+found-cons : (sig : Bytes → ℕ) (d : Def) (ds : List Def) → allFound sig (d ∷ ds) ≡ (all isFound (map sig (usedNames d)) && allFound sig ds)
 unfolding flatMap
-found-cons sig d ds = ap (all isFound) (map-append sig (uses d) (flatMap uses ds)) ∙ all-append isFound (map sig (uses d)) (map sig (flatMap uses ds))
+found-cons sig d ds = ap (all isFound) (map-append sig (usedNames d) (flatMap usedNames ds)) ∙ all-append isFound (map sig (usedNames d)) (map sig (flatMap usedNames ds))
 
 found-nil : (sig : Bytes → ℕ) → allFound sig [] ≡ true
 unfolding flatMap
@@ -139,7 +139,7 @@ module _ {sig : Bytes → ℕ} {def : ℕ → Def} {g : ℕ} {gates₀ pinsIn₀
       }
 
   -- whether this definition's names and the others' are found
-  now-found : j < g → (all isFound (map sig (uses (def j))) && allFound sig (from def g (j + 1))) ≡ allFound sig (map def (range 0 g))
+  now-found : j < g → (all isFound (map sig (usedNames (def j))) && allFound sig (from def g (j + 1))) ≡ allFound sig (map def (range 0 g))
   now-found h = sym (ap (allFound sig) (from-cons def g j h) ∙ found-cons sig (def j) (from def g (j + 1))) ∙ c .found
 
   module _ {gates′ pinsIn′ : List ℕ} {r : Placed} (h : j < g) (p : DefPlaced sig (def j) j at gates pinsIn gates′ pinsIn′ r) where

@@ -5,11 +5,10 @@ use mathlib.Core.Bool.{Bool, true, not}
 use mathlib.Core.List.{List, map, flatMap}
 use Prim.Native.Nat.{ℕ}
 use lib.Dec.{eqb}
-use lib.ListN.{length}
 use Rattle.lists.specs.Lists.{Bytes, all, over, sumOf}
 use Rattle.signal.specs.Signal.{Signal}
 use Rattle.signal.specs.Cell.{sigCell}
-use Rattle.blif_text.specs.Decls.{Def, uses}
+use Rattle.blif_text.specs.Decls.{Def, usedNames}
 use Rattle.blif_model.specs.Working.{GatesIn, placed, placedCount}
 use Rattle.blif_uses.specs.declared.Placed.{Placed}
 
@@ -31,7 +30,7 @@ Signals sig look = (x : Bytes) → isFound (sig x) ≡ true → sig x ≡ sigCel
 -- the gates of definitions were placed in the working cells, or a name was not found
 pub record PlacedBy (sig : Bytes → ℕ) (ds : List Def) (gates pinsIn : List ℕ) (r : Placed) : Type 0 where
   -- "11 when .. latch input or cover input is undefined"
-  pub found : r .found ≡ all isFound (map sig (flatMap uses ds))
+  pub found : r .found ≡ all isFound (map sig (flatMap usedNames ds))
   -- the pins are counted
   pub pins : r .found ≡ true → r .pins ≡ sumOf placedCount ds
   -- the gates stand in the cells

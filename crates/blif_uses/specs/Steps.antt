@@ -5,9 +5,11 @@ use mathlib.Core.List.{List, [], _∷_, map}
 use Prim.Native.Nat.{ℕ, _+_, _*_, _≤_, _<_}
 use lib.ListN.{length, getD}
 use Rattle.lists.specs.Lists.{Bytes, all, overAt}
+use Rattle.gates.specs.Gate.{AndN}
+use Rattle.gates.specs.Forms.{formNumber, flopNumber}
 use Rattle.network.specs.Cells.{gateWidth, maxGates, maxPins}
-use Rattle.blif_text.specs.Places.{tokenStart, tokenLength}
-use Rattle.blif_text.specs.Decls.{Def, latch, cover, coverIns, uses}
+use Rattle.blif_text.specs.Places.{InText}
+use Rattle.blif_text.specs.Decls.{Def, latch, cover, coverIns, usedNames}
 use Rattle.blif_model.specs.Working.{WorkRoom}
 use Rattle.blif_uses.specs.Resolve.{isFound}
 use Rattle.blif_uses.specs.declared.Placed.{Placed}
@@ -17,7 +19,7 @@ pub record NamesAt (text tokens : List ℕ) (first count : ℕ) : Type 0 where
   -- the cells are there
   pub room : first + count ≤ length tokens
   -- each is a place within the text
-  pub inside : (i : ℕ) → i < count → tokenStart (getD tokens (first + i) 0) + tokenLength (getD tokens (first + i) 0) ≤ length text
+  pub inside : (i : ℕ) → i < count → InText text (getD tokens (first + i) 0)
 
 -- there is room for gate j's record, and for its pins from cell at on
 pub record GateRoom (gates pinsIn : List ℕ) (j at count : ℕ) : Type 0 where
@@ -39,10 +41,10 @@ pub record GatePlaced (sig : Bytes → ℕ) (form : ℕ) (names : List Bytes) (r
   -- the run
   pub runs : r .found ≡ true → pinsIn′ ≡ overAt at run pinsIn
 
--- the form number of the gate first placed for a definition: 14 is Dff, 7 is Nary And
+-- the form number of the gate first placed for a definition: a Dff, or a Nary And
 abbrev pub placedForm : Def → ℕ
-placedForm (latch d q) = 14
-placedForm (cover ns ls) = 7
+placedForm (latch d q) = flopNumber
+placedForm (cover ns ls) = formNumber AndN
 
 -- the cells of its pins: a latch's enable is one, its reset zero
 abbrev pub placedRun : (Bytes → ℕ) → Def → List ℕ
@@ -51,4 +53,4 @@ placedRun sig (cover ns ls) = map sig (coverIns ns)
 
 -- the gate of a definition was placed
 abbrev pub DefPlaced : (Bytes → ℕ) → Def → ℕ → ℕ → List ℕ → List ℕ → List ℕ → List ℕ → Placed → Type 0
-DefPlaced sig d j at gates pinsIn gates′ pinsIn′ r = GatePlaced sig (placedForm d) (uses d) (placedRun sig d) j at gates pinsIn gates′ pinsIn′ r
+DefPlaced sig d j at gates pinsIn gates′ pinsIn′ r = GatePlaced sig (placedForm d) (usedNames d) (placedRun sig d) j at gates pinsIn gates′ pinsIn′ r

@@ -3,9 +3,8 @@ use blif_text::block_at;
 use blif_text::token;
 use name_index::find_signal;
 use network::put_record;
-ghost use mathlib.Core.Path.{_≡_};
 ghost use mathlib.Core.List.{[], _∷_, map};
-ghost use Prim.Native.Nat.{_+_, _≤_, _<_};
+ghost use Prim.Native.Nat.{_+_, _≤_};
 ghost use lib.ListN.{length, getD, take, drop};
 ghost use Rattle.lists.specs.Lists.{sumOf};
 ghost use Rattle.network.specs.Cells.{maxGates, maxPins};
@@ -16,6 +15,8 @@ ghost use Rattle.name_index.specs.Search.{signalIn};
 ghost use Rattle.name_index.specs.Index.{entriesOf, Index};
 ghost use Rattle.blif_model.specs.Working.{placedCount, WorkRoom};
 ghost use Rattle.blif_uses.specs.Resolve.{Resolved, PlacedBy};
+ghost use Rattle.gates.specs.Gate.{AndN};
+ghost use Rattle.gates.specs.Forms.{formNumber, flopNumber};
 ghost use Rattle.blif_uses.specs.Steps.{NamesAt, GateRoom, GatePlaced, DefPlaced};
 
 // The form numbers of Dff and of Nary And.
@@ -72,7 +73,7 @@ fn place_latch(
 ) -> Placed
     requires { ⌜ Index (now text) (now index) k × NamesAt (now text) (now tokens) first 1 ⌝ }
     requires { ⌜ GateRoom (now gates) (now pins) j at 3 ⌝ }
-    ensures { λ r. ⌜ GatePlaced (signalIn (entriesOf (now (text .entry)) (now (index .entry)) k)) 14 (tokenOf (now (text .entry)) (getD (now (tokens .entry)) first 0) ∷ []) (signalIn (entriesOf (now (text .entry)) (now (index .entry)) k) (tokenOf (now (text .entry)) (getD (now (tokens .entry)) first 0)) ∷ 1 ∷ 0 ∷ []) j at (now (gates .entry)) (now (pins .entry)) (now (gates .exit)) (now (pins .exit)) r ⌝ }
+    ensures { λ r. ⌜ GatePlaced (signalIn (entriesOf (now (text .entry)) (now (index .entry)) k)) flopNumber (tokenOf (now (text .entry)) (getD (now (tokens .entry)) first 0) ∷ []) (signalIn (entriesOf (now (text .entry)) (now (index .entry)) k) (tokenOf (now (text .entry)) (getD (now (tokens .entry)) first 0)) ∷ 1 ∷ 0 ∷ []) j at (now (gates .entry)) (now (pins .entry)) (now (gates .exit)) (now (pins .exit)) r ⌝ }
 {
     let end = first + 1;
     if !resolve_names(text, index, k, &tokens[first..end], &mut pins[at..]) {
@@ -105,7 +106,7 @@ fn place_cover(
 ) -> Placed
     requires { ⌜ Index (now text) (now index) k × NamesAt (now text) (now tokens) first count ⌝ }
     requires { ⌜ GateRoom (now gates) (now pins) j at count ⌝ }
-    ensures { λ r. ⌜ GatePlaced (signalIn (entriesOf (now (text .entry)) (now (index .entry)) k)) 7 (tokensOf (now (text .entry)) (take count (drop first (now (tokens .entry))))) (map (signalIn (entriesOf (now (text .entry)) (now (index .entry)) k)) (tokensOf (now (text .entry)) (take count (drop first (now (tokens .entry)))))) j at (now (gates .entry)) (now (pins .entry)) (now (gates .exit)) (now (pins .exit)) r ⌝ }
+    ensures { λ r. ⌜ GatePlaced (signalIn (entriesOf (now (text .entry)) (now (index .entry)) k)) (formNumber AndN) (tokensOf (now (text .entry)) (take count (drop first (now (tokens .entry))))) (map (signalIn (entriesOf (now (text .entry)) (now (index .entry)) k)) (tokensOf (now (text .entry)) (take count (drop first (now (tokens .entry)))))) j at (now (gates .entry)) (now (pins .entry)) (now (gates .exit)) (now (pins .exit)) r ⌝ }
 {
     let end = first + count;
     if !resolve_names(text, index, k, &tokens[first..end], &mut pins[at..]) {

@@ -1,20 +1,18 @@
 -- Runs of pins, the cover and the latch of each kind of gate, and gates that are not too wide. Assumes nothing.
 use mathlib.Core.Path.{_≡_, refl, sym, _∙_, ap}
-use mathlib.Core.Bool.{false, _&&_}
+use mathlib.Core.Bool.{false}
 use mathlib.Core.List.{List, [], _∷_, map, flatMap, append-nil}
 use Prim.Native.Nat.{ℕ, _+_, _-_, _≤_, min}
 use native.Mathlib.Omega.{arith}
-use lib.Dec.{ltb}
 use lib.ListN.{length, take, drop, length-drop, length-map, drop-of-length-le}
 use lib.Seq.{take-all, take-nil}
-use borrow.Author.Tests.{ltb-false}
 use Rattle.lists.specs.Lists.{Bytes}
 use Rattle.lists.proofs.Tests.{by-order}
 use Rattle.signal.specs.Signal.{Signal}
 use Rattle.signal.specs.Cell.{sigOf}
 use Rattle.signal.specs.declared.Signal as signal
 use Rattle.gates.specs.Gate.{Form, Comb}
-use Rattle.gates.specs.Forms.{binaryForm, ternaryForm, naryForm}
+use Rattle.gates.specs.Forms.{formNumber, binaryForm, ternaryForm, naryForm}
 use Rattle.gates.specs.Decode.{runOf, gateIn}
 use Rattle.gates.specs.declared.PinRun.{PinRun}
 use Rattle.gates.specs.declared.BinaryType.{BinaryType}
@@ -27,10 +25,9 @@ use Rattle.gates.specs.declared.Gate as code
 use Rattle.gates.specs.declared.Gate.the-variants as G
 use Rattle.blif_model.specs.Blif.{Block}
 use Rattle.blif_model.specs.Names.{nameBytes}
-use Rattle.blif_model.specs.Write.{formBlock, bufBlock, combBlock}
+use Rattle.blif_model.specs.Write.{formBlock, bufBlock, combBlock, tooWide, wide}
 use Rattle.blif_model.specs.Render.{line, blockLines}
 use Rattle.blif_cubes.specs.Lines.{Narrow}
-use Rattle.blif_write.specs.Into.{exclusive, wide}
 use Rattle.blif_put.specs.Blocks.{blockText, storedText}
 use Rattle.blif_write.specs.Parts.{blocksText, coverText, latchText}
 
@@ -63,20 +60,11 @@ run-slice {s} {e} run ps h k =
 
 -- ---- gates that are not too wide
 
-narrow-length : (t : NaryType) (n : ℕ) → (exclusive (naryForm t) && ltb 12 n) ≡ false → Narrow t n
-narrow-length N.And n e = tt
-narrow-length N.Or n e = tt
-narrow-length N.Nand n e = tt
-narrow-length N.Nor n e = tt
-narrow-length N.Xor n e = ltb-false 12 n e
-narrow-length N.Xnor n e = ltb-false 12 n e
-
 pub narrow-run : {x : code.Gate} {t : NaryType} {run : PinRun} (ps cells : List ℕ) → x ≡ G.Nary t run → cells ≡ runOf run ps
     → wide (gateIn x ps) ≡ false → Narrow t (length cells)
 narrow-run {x} {t} {run} ps cells e h w =
     let q : length (map sigOf (runOf run ps)) ≡ length cells = length-map (runOf run ps) sigOf ∙ ap length (sym h) in
-    narrow-length t (length cells)
-    (ap (λ (i : ℕ). exclusive (naryForm t) && ltb 12 i) (sym q) ∙ ap (λ (z : code.Gate). wide (gateIn z ps)) (sym e) ∙ w)
+    ap (tooWide (formNumber (naryForm t))) (sym q) ∙ ap (λ (z : code.Gate). wide (gateIn z ps)) (sym e) ∙ w
 
 -- ---- a gate's cover
 

@@ -6,25 +6,24 @@ use Prim.Native.Nat.{ℕ, zero, suc, _-_, _^_, _≤_, _<_, min}
 use native.Mathlib.Nat.{sub-zero}
 use native.Mathlib.Omega.{arith}
 use lib.Dec.{ltb}
-use lib.ListN.{length, getD, take, drop, length-append, length-drop, length-replicate, length-map}
+use lib.ListN.{length, getD, take, drop, length-append, length-drop, length-replicate}
 use lib.Seq.{take-append-le, length-take-le}
 use borrow.Author.Tests.{lt-ltb, le-ltb}
-use Rattle.lists.specs.Lists.{if_then_else_, Bytes, bytes, zeros, any, over, range}
+use Rattle.lists.specs.Lists.{if_then_else_, Bytes, bytes, zeros, any, over}
 use Rattle.lists.proofs.Over.{length-over, over-is, take-over}
-use Rattle.lists.proofs.Range.{length-range}
 use Rattle.lists.proofs.Tests.{by-order}
 use Rattle.network.specs.Net.{Net}
-use Rattle.network.specs.Cells.{Lent, isNetwork, netOf, gateAt, orBuf}
+use Rattle.network.specs.Cells.{Lent, isNetwork, netOf}
 use Rattle.network.proofs.Lent.{network-readable, network-sizes}
 use Rattle.blif_text.specs.Places.{maxText}
 use Rattle.blif_model.specs.Names.{nameBytes}
-use Rattle.blif_model.specs.Write.{latchBlocks, combBlocks, inverterBlock, inverters}
-use Rattle.blif_model.specs.Render.{line, allLines, textOf}
+use Rattle.blif_model.specs.Write.{latchBlocks, combBlocks, inverterBlock, inverters, wide}
+use Rattle.blif_model.specs.Render.{line, allLines, headLines, textOf}
 use Rattle.blif_names.specs.Text.{Wrote}
 use Rattle.blif_names.proofs.Laws.{part-back, part-is}
-use Rattle.blif_write.specs.Into.{outcome, refusedText, writtenText, wide, tooLong, writeInto}
+use Rattle.blif_write.specs.Into.{outcome, refusedText, writtenText, tooLong, writeInto}
 use Rattle.blif_write.specs.declared.WriteAnswer.the-variants.{Written}
-use Rattle.blif_write.specs.Parts.{latchesText, coversText, headLines, headText, held, Readable, netIn, invertersText, Writable}
+use Rattle.blif_write.specs.Parts.{latchesText, coversText, inputNames, headText, Readable, invertersText, Writable}
 use Rattle.blif_put.proofs.Texts.{lines-append}
 
 -- ---- the whole text
@@ -46,25 +45,18 @@ whole-text net =
     ∙ ap (λ (t : Bytes). h ++ (flatMap line ls ++ (bytes "\n" ++ (flatMap line cs ++ t)))) (sym (lines-append is ts))
     ∙ ap (λ (t : Bytes). h ++ (flatMap line ls ++ (bytes "\n" ++ t))) (sym (lines-append cs (is ++ ts)))
     ∙ ap (λ (t : Bytes). h ++ t) (sym (lines-append ls ([] ∷ (cs ++ (is ++ ts)))))
-    ∙ sym (lines-append (headLines (net .inputs) (net .outputs)) (ls ++ ([] ∷ (cs ++ (is ++ ts)))))
-
-pub held-length : (cells ps : List ℕ) (n : ℕ) → length (held cells ps 0 n) ≡ n
-held-length cells ps n = length-map (range 0 n) (λ (i : ℕ). orBuf (gateAt cells ps i)) ∙ length-range 0 n
+    ∙ sym (lines-append (headLines (inputNames 0 (net .inputs)) (map nameBytes (net .outputs))) (ls ++ ([] ∷ (cs ++ (is ++ ts)))))
 
 -- ---- what refusal 20 leaves
 
 pub network-read : (l : Lent) → ((i : ℕ) → getD (l .pinsLent) i 0 < 2 ^ 32) → ((i : ℕ) → getD (l .outsLent) i 0 < 2 ^ 32) → isNetwork l ≡ true
     → Readable (l .cells) (l .pinsLent) (l .counts .gates)
-network-read l p o e = record { few = network-sizes l e .few-gates; read = network-readable l (record { pinWords = p; outWords = o }) e }
-
--- the gates of the network, as the code reads them
-pub held-gates : (l : Lent) → held (l .cells) (l .pinsLent) 0 (l .counts .gates) ≡ netOf l .gates
-unfolding netOf
-held-gates l = refl
-
-pub net-is : (l : Lent) → netIn (l .counts .inputs) (l .cells) (l .pinsLent) (l .counts .gates) (take (l .counts .outputs) (l .outsLent)) ≡ netOf l
-unfolding netOf
-net-is l = refl
+network-read l p o e =
+    let few = network-sizes l e .few .gates in
+    record {
+      few = few;
+      read = λ g h. let x = network-readable l (record { pinWords = p; outWords = o }) e g h in record { low = omega (arith, few); gate = x .0; is = x .1 };
+    }
 
 -- ---- the answers
 
@@ -145,19 +137,17 @@ module _ (t o q : Bytes) (room end : ℕ) (r : room ≡ min (length o) maxText) 
         ∙ ap₂ (λ (a b : Bytes). a ++ b) text-kept (e ∙ ap zeros k ∙ sym (drop-zeros (length t) (length o)))
         ∙ sym (over-is t (zeros (length o)) (omega (arith, end-is, r, length-replicate {A = ℕ} (length o) 0)))
 
--- the text of the network that the code reads
-abbrev textIn : Lent → Bytes
-textIn l = textOf (netIn (l .counts .inputs) (l .cells) (l .pinsLent) (l .counts .gates) (take (l .counts .outputs) (l .outsLent)))
-
-module _ (l : Lent) (o : Bytes) {q : Bytes} {room end : ℕ} (w : Writable l) (r : room ≡ min (length o) maxText) (v : Wrote (textIn l) (take room o) q end) where
+-- the same, where the text is the network's
+module _ (l : Lent) (o : Bytes) {q : Bytes} {room end : ℕ} (w : Writable l) (r : room ≡ min (length o) maxText)
+    (v : Wrote (textOf (netOf l)) (take room o) q end) where
   pub ends-long : room < end → refusedText 22 (length (q ++ drop room o)) ≡ writeInto l (length o)
   ends-long h =
-      ap (refusedText 22) (after-length (textIn l) o q room end r v)
-      ∙ answers-long l (length o) w (ap (λ (net : Net). tooLong (textOf net) (length o)) (sym (net-is l)) ∙ wrote-long (textIn l) o q room end r v h)
+      let t : Bytes = textOf (netOf l) in
+      ap (refusedText 22) (after-length t o q room end r v) ∙ answers-long l (length o) w (wrote-long t o q room end r v h)
 
   pub ends-written : {z : Bytes} → end ≤ room → z ≡ zeros (length (take (length (q ++ drop room o) - end) (drop end (q ++ drop room o))))
       → outcome (Written end) (take end (q ++ drop room o) ++ (z ++ drop (length (q ++ drop room o) - end) (drop end (q ++ drop room o)))) ≡ writeInto l (length o)
   ends-written h e =
-      ap₂ (λ (n : ℕ) (p : Bytes). outcome (Written n) p) (end-is (textIn l) o q room end r v h) (zeros-behind (textIn l) o q room end r v h e)
-      ∙ ap (λ (net : Net). writtenText (textOf net) (length o)) (net-is l)
-      ∙ answers-written l (length o) w (ap (λ (net : Net). tooLong (textOf net) (length o)) (sym (net-is l)) ∙ wrote-short (textIn l) o q room end r v h)
+      let t : Bytes = textOf (netOf l) in
+      ap₂ (λ (n : ℕ) (p : Bytes). outcome (Written n) p) (end-is t o q room end r v h) (zeros-behind t o q room end r v h e)
+      ∙ answers-written l (length o) w (wrote-short t o q room end r v h)

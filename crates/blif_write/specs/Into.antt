@@ -1,14 +1,13 @@
 -- What `write_blif` answers and leaves in the output slice (document 01, "Writing refuses, in order"). Assumes nothing: these are
 -- definitions.
-use mathlib.Core.Bool.{Bool, true, false, not, _&&_, _||_}
-use mathlib.Core.List.{List}
+use mathlib.Core.Bool.{Bool, not, _||_}
 use Prim.Native.Nat.{ℕ}
 use lib.Dec.{ltb}
 use lib.ListN.{length}
 use Rattle.lists.specs.Lists.{if_then_else_, Bytes, zeros, any, over}
-use Rattle.gates.specs.Gate.{Form, And2, Xor2, And3, Xor3, Maj3, Mux3, AndN, OrN, NandN, NorN, XorN, XnorN, Buf, Gate, Comb, Dff}
 use Rattle.network.specs.Cells.{Lent, netOf, isNetwork}
 use Rattle.blif_text.specs.Places.{maxText}
+use Rattle.blif_model.specs.Write.{wide}
 use Rattle.blif_model.specs.Render.{textOf}
 use Rattle.blif_write.specs.declared.WriteAnswer.{WriteAnswer}
 use Rattle.blif_write.specs.declared.WriteAnswer.the-variants.{Written, Refused}
@@ -31,27 +30,6 @@ refusedText number n = outcome (Refused number) (zeros n)
 -- "Success gives the length and zero bytes after it"
 abbrev pub writtenText : Bytes → ℕ → Outcome
 writtenText t n = outcome (Written (length t)) (over t (zeros n))
-
--- "an Xor or Xnor of the Nary form"
-abbrev pub exclusive : Form → Bool
-exclusive And2 = false
-exclusive Xor2 = false
-exclusive And3 = false
-exclusive Xor3 = false
-exclusive Maj3 = false
-exclusive Mux3 = false
-exclusive AndN = false
-exclusive OrN = false
-exclusive NandN = false
-exclusive NorN = false
-exclusive XorN = true
-exclusive XnorN = true
-exclusive Buf = false
-
--- "21 when an Xor or Xnor of the Nary form has over 12 inputs"
-abbrev pub wide : Gate → Bool
-wide (Comb f ps) = exclusive f && ltb 12 (length ps)
-wide (Dff s) = false
 
 -- "22 when the text is longer than the output slice or than 32,768 bytes"
 abbrev pub tooLong : Bytes → ℕ → Bool

@@ -10,21 +10,21 @@ use gates::PinRun;
 use network::Counts;
 use signal::Signal;
 ghost use mathlib.Core.Path.{_≡_};
-ghost use mathlib.Core.Bool.{true, false};
+ghost use mathlib.Core.Bool.{false};
 ghost use mathlib.Core.List.{[], _++_, map};
 ghost use Prim.Native.Nat.{_+_, _≤_, _<_, min};
 ghost use lib.ListN.{length};
 ghost use Rattle.lists.specs.Lists.{any};
 ghost use Rattle.signal.specs.Cell.{sigOf};
 ghost use Rattle.gates.specs.Decode.{gateIn};
-ghost use Rattle.network.specs.Cells.{maxGates, maxInputs, gateAt, orBuf, lent};
+ghost use Rattle.network.specs.Cells.{maxGates, maxInputs, gateAt, orBuf, cellGates, cellNet, lent};
 ghost use Rattle.blif_text.specs.Places.{maxText};
-ghost use Rattle.blif_model.specs.Write.{named};
+ghost use Rattle.blif_model.specs.Write.{named, tooWide, wide};
 ghost use Rattle.blif_model.specs.Render.{spaced, textOf};
 ghost use Rattle.blif_names.specs.Text.{Wrote, Appended};
-ghost use Rattle.blif_write.specs.Into.{outcome, refusedText, writeInto, wide};
-ghost use Rattle.blif_write.specs.Parts.{wideNumber, latchText, coverText, latchesText, coversText, inputNames, headText, held, HeldAt, Readable, netIn, invertersText, Writable};
-ghost use Rattle.blif_inverters.specs.Marks.{Marked, namedIn};
+ghost use Rattle.blif_write.specs.Into.{outcome, refusedText, writeInto};
+ghost use Rattle.blif_write.specs.Parts.{latchText, coverText, latchesText, coversText, inputNames, headText, HeldAt, Readable, invertersText, Writable};
+ghost use Rattle.blif_inverters.specs.Marks.{SignalsMarked, namedIn};
 
 // Form numbers of gates that are looked at before they are read.
 const NARY_XOR: u32 = 11;
@@ -125,7 +125,7 @@ fn cover_at(out: &mut [u8], gates: &[u32], pins: &[u32], g: usize) -> usize
 // Writes the latches of n gates.
 fn append_latches(out: &mut [u8], at: usize, gates: &[u32], pins: &[u32], n: usize) -> usize
     requires { ⌜ Readable (now gates) (now pins) n ⌝ }
-    ensures { λ r. ⌜ Appended (latchesText 0 (held (now (gates .entry)) (now (pins .entry)) 0 n)) (now (out .entry)) at (now (out .exit)) r ⌝ }
+    ensures { λ r. ⌜ Appended (latchesText 0 (cellGates (now (gates .entry)) (now (pins .entry)) 0 n)) (now (out .entry)) at (now (out .exit)) r ⌝ }
 {
     if at > out.len() {
         return out.len() + 1;
@@ -144,8 +144,8 @@ fn append_latches(out: &mut [u8], at: usize, gates: &[u32], pins: &[u32], n: usi
 
 // Writes the covers of n gates.
 fn append_covers(out: &mut [u8], at: usize, gates: &[u32], pins: &[u32], n: usize) -> usize
-    requires { ⌜ Readable (now gates) (now pins) n × (any wide (held (now gates) (now pins) 0 n) ≡ false) ⌝ }
-    ensures { λ r. ⌜ Appended (coversText 0 (held (now (gates .entry)) (now (pins .entry)) 0 n)) (now (out .entry)) at (now (out .exit)) r ⌝ }
+    requires { ⌜ Readable (now gates) (now pins) n × (any wide (cellGates (now gates) (now pins) 0 n) ≡ false) ⌝ }
+    ensures { λ r. ⌜ Appended (coversText 0 (cellGates (now (gates .entry)) (now (pins .entry)) 0 n)) (now (out .entry)) at (now (out .exit)) r ⌝ }
 {
     if at > out.len() {
         return out.len() + 1;
@@ -199,7 +199,7 @@ fn write_head(out: &mut [u8], inputs: usize, outputs: &[u32]) -> usize
 
 // Whether a gate of this form number with so many pins has too many to be written.
 fn is_wide(form: u32, count: usize) -> bool
-    ensures { λ r. ⌜ r ≡ wideNumber form count ⌝ }
+    ensures { λ r. ⌜ r ≡ tooWide form count ⌝ }
 {
     if count <= 12 {
         return false;
@@ -213,7 +213,7 @@ fn is_wide(form: u32, count: usize) -> bool
 // Whether one of n gates has too many inputs to be written.
 fn any_wide(gates: &[u32], pins: &[u32], n: usize) -> bool
     requires { ⌜ Readable (now gates) (now pins) n ⌝ }
-    ensures { λ r. ⌜ r ≡ any wide (held (now (gates .entry)) (now (pins .entry)) 0 n) ⌝ }
+    ensures { λ r. ⌜ r ≡ any wide (cellGates (now (gates .entry)) (now (pins .entry)) 0 n) ⌝ }
 {
     let mut g = 0;
     while g < n {
@@ -228,7 +228,7 @@ fn any_wide(gates: &[u32], pins: &[u32], n: usize) -> bool
 // Marks the inputs of gate g, unless it is a Buf, which handles the inversion itself.
 fn mark_gate(gate_marks: &mut [u8], input_marks: &mut [u8], gates: &[u32], pins: &[u32], g: usize)
     requires { ⌜ HeldAt (now gates) (now pins) g ⌝ }
-    ensures { λ _. ⌜ Marked (named (orBuf (gateAt (now (gates .entry)) (now (pins .entry)) g))) (now («gate_marks» .entry)) (now («input_marks» .entry)) (now («gate_marks» .exit)) (now («input_marks» .exit)) ⌝ }
+    ensures { λ _. ⌜ SignalsMarked (named (orBuf (gateAt (now (gates .entry)) (now (pins .entry)) g))) (now («gate_marks» .entry)) (now («input_marks» .entry)) (now («gate_marks» .exit)) (now («input_marks» .exit)) ⌝ }
 {
     if network::form_at(gates, g) == BUF {
         return;
@@ -248,7 +248,7 @@ fn get_inverted_signals(
     outputs: &[u32],
 )
     requires { ⌜ Readable (now gates) (now pins) n ⌝ }
-    ensures { λ _. ⌜ Marked (map sigOf (now (outputs .entry)) ++ namedIn (held (now (gates .entry)) (now (pins .entry)) 0 n)) (now («gate_marks» .entry)) (now («input_marks» .entry)) (now («gate_marks» .exit)) (now («input_marks» .exit)) ⌝ }
+    ensures { λ _. ⌜ SignalsMarked (map sigOf (now (outputs .entry)) ++ namedIn (cellGates (now (gates .entry)) (now (pins .entry)) 0 n)) (now («gate_marks» .entry)) (now («input_marks» .entry)) (now («gate_marks» .exit)) (now («input_marks» .exit)) ⌝ }
 {
     mark_signals(gate_marks, input_marks, outputs);
     let mut g = 0;
@@ -269,7 +269,7 @@ fn append_inverters(
     outputs: &[u32],
 ) -> usize
     requires { ⌜ Readable (now gates) (now pins) n × (inputs ≤ maxInputs) ⌝ }
-    ensures { λ r. ⌜ Appended (invertersText (netIn inputs (now (gates .entry)) (now (pins .entry)) n (now (outputs .entry)))) (now (out .entry)) at (now (out .exit)) r ⌝ }
+    ensures { λ r. ⌜ Appended (invertersText (cellNet inputs (now (gates .entry)) (now (pins .entry)) n (now (outputs .entry)))) (now (out .entry)) at (now (out .exit)) r ⌝ }
 {
     let mut gate_marks = [0u8; 1024];
     let mut input_marks = [0u8; 256];
@@ -287,8 +287,8 @@ fn write_text(
     n: usize,
     outputs: &[u32],
 ) -> usize
-    requires { ⌜ Readable (now gates) (now pins) n × (inputs ≤ maxInputs) × (any wide (held (now gates) (now pins) 0 n) ≡ false) ⌝ }
-    ensures { λ r. ⌜ Wrote (textOf (netIn inputs (now (gates .entry)) (now (pins .entry)) n (now (outputs .entry)))) (now (out .entry)) (now (out .exit)) r ⌝ }
+    requires { ⌜ Readable (now gates) (now pins) n × (inputs ≤ maxInputs) × (any wide (cellGates (now gates) (now pins) 0 n) ≡ false) ⌝ }
+    ensures { λ r. ⌜ Wrote (textOf (cellNet inputs (now (gates .entry)) (now (pins .entry)) n (now (outputs .entry)))) (now (out .entry)) (now (out .exit)) r ⌝ }
 {
     let mut at = write_head(out, inputs, outputs);
     at = append_latches(out, at, gates, pins, n);

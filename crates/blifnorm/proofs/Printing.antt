@@ -1,19 +1,17 @@
 -- What is printed, from what the reader and the writer answer. Assumes nothing.
 use mathlib.Core.Path.{_≡_, refl, sym, ap, _∙_, subst}
-use mathlib.Core.Bool.{Bool, true, false, true≢false, false≢true, _||_}
+use mathlib.Core.Bool.{Bool, true, false, true≢false, false≢true}
 use mathlib.Core.List.{List, [], _∷_, _++_, append-assoc}
-use Prim.Native.Nat.{ℕ, _≤_}
+use Prim.Native.Nat.{ℕ}
 use native.Mathlib.Omega.{arith}
-use lib.Dec.{ltb}
 use lib.ListN.{length, length-replicate}
-use borrow.Author.Tests.{lt-ltb}
 use Rattle.lists.specs.Lists.{if_then_else_, Bytes, bytes, zeros, any, over}
 use Rattle.lists.proofs.Over.{take-over}
-use Rattle.lists.proofs.Tests.{by-test, by-order}
+use Rattle.lists.proofs.Tests.{by-test}
 use Rattle.network.specs.Cells.{Lent, lent, isNetwork, netOf}
 use Rattle.network.specs.declared.Counts.{Counts}
-use Rattle.blif_text.specs.Places.{maxText}
 use Rattle.blif_model.specs.Names.{decimal}
+use Rattle.blif_model.specs.Write.{wide}
 use Rattle.blif_model.specs.Render.{textOf}
 use Rattle.blif_names.specs.Text.{Wrote}
 use Rattle.blif_names.proofs.Numbers.{decimal-then}
@@ -21,9 +19,10 @@ use Rattle.blif_read.specs.Into.{Lengths, readInto}
 use Rattle.blif_read.specs.Into as reading
 use Rattle.blif_read.specs.declared.ReadAnswer.{ReadAnswer}
 use Rattle.blif_read.specs.declared.ReadAnswer.the-variants as read
-use Rattle.blif_write.specs.Into.{Outcome, outcome, refusedText, writtenText, wide, tooLong, writeInto}
+use Rattle.blif_write.specs.Into.{Outcome, outcome, refusedText, writtenText, tooLong, writeInto}
 use Rattle.blif_write.specs.declared.WriteAnswer.{WriteAnswer}
 use Rattle.blif_write.specs.declared.WriteAnswer.the-variants.{Written, Refused}
+use Rattle.blif_write.proofs.Answers.{in-slice, Ways, refuses, writes, writer-ways}
 use Rattle.blifnorm.specs.Norm.{refusedLine, writtenFrom, normInto, printed}
 
 -- ---- the reader's answer, then the writer's
@@ -45,27 +44,7 @@ module _ (text : Bytes) (ls : Lengths) (n : ℕ) {gs ps os wgs wps : List ℕ} {
 pub line-is : (k : ℕ) → (bytes "refused=" ++ decimal k []) ++ (10 ∷ []) ≡ refusedLine k
 line-is k = append-assoc (bytes "refused=") (decimal k []) (10 ∷ []) ∙ ap (λ (s : Bytes). bytes "refused=" ++ s) (decimal-then k (10 ∷ []))
 
--- ---- the two ways in which the output slice is left
-
-pub data Ways (n : ℕ) (o : Outcome) : Type 0 where
-  refuses : (k : ℕ) → o ≡ refusedText k n → Ways n o
-  writes : (t : Bytes) → length t ≤ n → o ≡ writtenText t n → Ways n o
-
--- a text that is not too long is within the slice
-within : (t : Bytes) (n : ℕ) → tooLong t n ≡ false → length t ≤ n
-within t n e = by-order (length t) n (λ h. h) (λ h. absurd (true≢false (sym (ap (λ (b : Bool). b || ltb maxText (length t)) (lt-ltb n (length t) h)) ∙ e)))
-
-writer-ways : (l : Lent) (n : ℕ) → Ways n (writeInto l n)
-unfolding writeInto
-writer-ways l n =
-    by-test (isNetwork l)
-    (λ e.
-    by-test (any wide (netOf l .gates)) (λ w. refuses 21 (rw (e, w)))
-    (λ w.
-    let end : Bool → Outcome = λ b. if b then refusedText 22 n else writtenText (textOf (netOf l)) n in
-    let p : writeInto l n ≡ end (tooLong (textOf (netOf l)) n) = rw (e, w) in
-    by-test (tooLong (textOf (netOf l)) n) (λ q. refuses 22 (p ∙ ap end q)) (λ q. writes (textOf (netOf l)) (within (textOf (netOf l)) n q) (p ∙ ap end q))))
-    (λ e. refuses 20 (rw e))
+-- ---- what the writer answers
 
 -- a network without a gate that is too wide is answered by its text, or by 22
 pub network-text : (l : Lent) (n : ℕ) → isNetwork l ≡ true → any wide (netOf l .gates) ≡ false
@@ -79,7 +58,7 @@ network-text l n e w =
     let r = length-replicate {A = ℕ} n 0 in
     by-test (tooLong t n)
     (λ q. ap printed (p ∙ ap end q) ∙ ap line (sym q))
-    (λ q. let h = within t n q in ap printed (p ∙ ap end q) ∙ take-over t (zeros n) (omega (arith, h, r)) ∙ ap line (sym q))
+    (λ q. let h = in-slice t n q in ap printed (p ∙ ap end q) ∙ take-over t (zeros n) (omega (arith, h, r)) ∙ ap line (sym q))
 
 from-ways : (a : ReadAnswer) (o : reading.Outcome) (n : ℕ) → Ways n (writtenFrom a o n)
 from-ways (read.Refused k) o n = refuses k refl
@@ -99,7 +78,7 @@ textLength (Refused k) = 0
 text-laid : (n m : ℕ) (x : Outcome) (b : Bytes) → Ways n x → outcome (Written m) b ≡ x → Wrote (printed x) (zeros n) b m
 unfolding isText textLength
 text-laid n m x b (refuses k e) h = absurd (true≢false (ap (λ (o : Outcome). isText (o .answer)) (h ∙ e)))
-text-laid n m x b (writes t l e) h =
+text-laid n m x b (writes t l short e) h =
     let r = length-replicate {A = ℕ} n 0 in
     let p : printed x ≡ t = ap printed e ∙ take-over t (zeros n) (omega (arith, r)) in
     let eb : b ≡ over t (zeros n) = ap (λ (o : Outcome). o .out) (h ∙ e) in
@@ -114,7 +93,7 @@ line-laid n k x b p r (refuses j e) h w =
     let eb : b ≡ zeros n = ap (λ (o : Outcome). o .out) (h ∙ e) in
     let ex : refusedLine k ≡ printed x = ap printed h in
     subst (λ (s : Bytes). Wrote s (zeros n) p r) ex (subst (λ (s : Bytes). Wrote (refusedLine k) s p r) eb w)
-line-laid n k x b p r (writes t l e) h w = absurd (false≢true (ap (λ (o : Outcome). isText (o .answer)) (h ∙ e)))
+line-laid n k x b p r (writes t l short e) h w = absurd (false≢true (ap (λ (o : Outcome). isText (o .answer)) (h ∙ e)))
 
 module _ (text : Bytes) (ls : Lengths) (n : ℕ) {b : Bytes} {a : WriteAnswer} (h : outcome a b ≡ normInto text ls n) where
   ways : Ways n (normInto text ls n)

@@ -1,14 +1,15 @@
 -- The forms of a network that is read: none of its gates is an Xor or Xnor of the Nary form, so none is refused with 21. Assumes nothing.
 use mathlib.Core.Path.{_≡_, refl, ap, _∙_, subst}
 use mathlib.Core.Bool.{Bool, true, false, cond, _&&_}
-use mathlib.Core.List.{List, [], _∷_, _++_, map}
+use mathlib.Core.List.{List, [], _∷_, map}
 use Prim.Native.Nat.{ℕ, zero, suc, _+_}
 use lib.Dec.{ltb}
 use lib.ListN.{length, getD}
 use Rattle.lists.specs.Lists.{Bytes, any}
 use Rattle.lists.proofs.Every.{Every, every-nil, every-cons, every-append, every-map, every-no}
 use Rattle.signal.specs.Signal.{Signal}
-use Rattle.gates.specs.Gate.{OrN, AndN, Buf, Gate, Comb, Dff}
+use Rattle.gates.specs.Gate.{OrN, AndN, Buf, Gate, Comb, Dff, pins}
+use Rattle.gates.specs.Forms.{formNumber, formCell}
 use Rattle.network.specs.Net.{Net}
 use Rattle.network.specs.Renumber.{remapGate, placeOf, gateOr, permuted}
 use Rattle.sort_order.proofs.Sorting.{sorted-order}
@@ -16,16 +17,14 @@ use Rattle.blif_text.specs.Decls.{Decl, defs}
 use Rattle.blif_model.specs.Blif.{Line, Block, Latch, Cover}
 use Rattle.blif_model.specs.Build.{literals, literalGate, lineGate, coverGate, lineGates, blockGate, moreGates, mains, extras}
 use Rattle.blif_model.specs.Render.{blockOf}
-use Rattle.blif_model.specs.Read.{declsOf, read, builtFrom, readText}
-use Rattle.blif_model.specs.Built.{look}
+use Rattle.blif_model.specs.Write.{exclusive, maxExclusive, wide}
+use Rattle.blif_model.specs.Read.{declsOf, read, look, builtFrom, readText}
 use Rattle.blif_model.proofs.Passed.{passed-valid}
 use Rattle.blif_model.proofs.Accepted.{passed-read}
-use Rattle.blif_write.specs.Into.{exclusive, wide}
 
 -- an Xor or Xnor of the Nary form, with any number of inputs
 abbrev pub exclusiveGate : Gate → Bool
-exclusiveGate (Comb f ps) = exclusive f
-exclusiveGate (Dff s) = false
+exclusiveGate x = exclusive (formCell x)
 
 -- none of these is one
 abbrev pub NoExclusive : List Gate → Type 0
@@ -44,7 +43,7 @@ literal-other false (l ∷ k ∷ ls) = refl
 line-other : (ss : List Signal) (l : Line) → exclusiveGate (lineGate ss l) ≡ false
 line-other ss l = literal-other (l .out) (literals (l .cols) ss)
 
-joined-other : (b : Bool) → exclusive (cond b OrN AndN) ≡ false
+joined-other : (b : Bool) → exclusive (formNumber (cond b OrN AndN)) ≡ false
 joined-other true = refl
 joined-other false = refl
 
@@ -107,8 +106,7 @@ read-no-exclusive s new e =
     subst (λ (x : Net). NoExclusive (x .gates)) (o .2) (permuted-other (o .0) (builtFrom ds) (built-other ds))
 
 not-wide : (x : Gate) → exclusiveGate x ≡ false → wide x ≡ false
-not-wide (Comb f ps) h = ap (λ (b : Bool). b && ltb 12 (length ps)) h
-not-wide (Dff s) h = refl
+not-wide x h = ap (λ (b : Bool). b && ltb maxExclusive (length (pins x))) h
 
 -- so that none is too wide to be written
 pub read-not-wide : (s : Bytes) (new : Net) → readText s ≡ read new → any wide (new .gates) ≡ false

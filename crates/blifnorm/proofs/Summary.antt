@@ -7,11 +7,12 @@ use Rattle.lists.specs.Lists.{if_then_else_, Bytes, zeros, any, over}
 use Rattle.signal.specs.Cell.{sigCell}
 use Rattle.network.specs.Net.{Net}
 use Rattle.network.specs.Cells.{gateCells, pinCells, Lent, lent, countsOf, netOf, isNetwork}
+use Rattle.blif_model.specs.Write.{wide}
 use Rattle.blif_model.specs.Render.{textOf}
 use Rattle.blif_model.specs.Read.{Result, read, refused, readText}
 use Rattle.blif_read.specs.Into.{Lengths, enough, Outcome, filled, readInto}
 use Rattle.blif_read.proofs.CellsRead.{read-layout, read-decodes}
-use Rattle.blif_write.specs.Into.{wide, tooLong, writeInto}
+use Rattle.blif_write.specs.Into.{tooLong, writeInto}
 use Rattle.blifnorm.specs.Norm.{refusedLine, writtenFrom, normInto, printed}
 use Rattle.blifnorm.proofs.Printing.{network-text}
 use Rattle.blifnorm.proofs.ReadForms.{read-not-wide}

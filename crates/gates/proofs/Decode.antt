@@ -58,6 +58,26 @@ three-pins (a ∷ ps) e = ap (λ (l : List Signal). sigOf a ∷ l) (rest ps (let
     rest : (l : List ℕ) → length l ≡ 2 → map sigOf l ≡ sigOf (getD l 0 0) ∷ sigOf (getD l 1 0) ∷ []
     rest l h = two-pins l (eq-eqb (length l) 2 h)
 
+-- a kind that cannot have so many pins is no gate
+module _ (ps : List ℕ) where
+  none-comb : (f : data-gate.Form) → canHave f (length ps) ≡ false → none ≡ combFrom f (map sigOf ps)
+  none-comb f h = rw (length-map ps sigOf, h)
+
+  none-flop : (l : List Signal) → eqb (length l) 3 ≡ false → none ≡ flopFrom l
+  none-flop [] h = refl
+  none-flop (a ∷ []) h = refl
+  none-flop (a ∷ b ∷ []) h = refl
+  none-flop (a ∷ b ∷ c ∷ []) h = absurd (true≢false h)
+  none-flop (a ∷ b ∷ c ∷ d ∷ l) h = refl
+
+  pub none-kind : (k : Kind) → kindTakes k (length ps) ≡ false → none ≡ gateOfKind k (map sigOf ps)
+  none-kind (K.Binary t) h = none-comb (binaryForm t) h
+  none-kind (K.Ternary t) h = none-comb (ternaryForm t) h
+  none-kind (K.Nary t) h = none-comb (naryForm t) h
+  none-kind K.Buf h = none-comb Buf h
+  none-kind K.Dff h = none-flop (map sigOf ps) (rw (length-map ps sigOf) h)
+  none-kind K.Unknown h = refl
+
 -- the run of pins from cell i on is ps
 abbrev pub RunAt : List ℕ → ℕ → List ℕ → Type 0
 RunAt pins i ps = take (length ps) (drop i pins) ≡ ps
@@ -75,31 +95,13 @@ module _ (pins : List ℕ) (i : ℕ) (ps : List ℕ) (run : RunAt pins i ps) whe
   kind-in K.Dff h = sym (ap flopFrom (three-pins ps h))
   kind-in K.Unknown h = refl
 
-  none-comb : (f : data-gate.Form) → canHave f (length ps) ≡ false → none ≡ combFrom f (map sigOf ps)
-  none-comb f h = rw (length-map ps sigOf, h)
-
-  none-flop : (l : List Signal) → eqb (length l) 3 ≡ false → none ≡ flopFrom l
-  none-flop [] h = refl
-  none-flop (a ∷ []) h = refl
-  none-flop (a ∷ b ∷ []) h = refl
-  none-flop (a ∷ b ∷ c ∷ []) h = absurd (true≢false h)
-  none-flop (a ∷ b ∷ c ∷ d ∷ l) h = refl
-
-  kind-none : (k : Kind) → kindTakes k (length ps) ≡ false → none ≡ gateOfKind k (map sigOf ps)
-  kind-none (K.Binary t) h = none-comb (binaryForm t) h
-  kind-none (K.Ternary t) h = none-comb (ternaryForm t) h
-  kind-none (K.Nary t) h = none-comb (naryForm t) h
-  kind-none K.Buf h = none-comb Buf h
-  kind-none K.Dff h = none-flop (map sigOf ps) (rw (length-map ps sigOf) h)
-  kind-none K.Unknown h = refl
-
   -- what `with_pins` decodes at a form number is the gate of the number and the pins
   pub decode-is : (n : ℕ) → decodedIn (withPins (kindOf n) i ps) pins ≡ gateFrom n (map sigOf ps)
   unfolding gateFrom
   decode-is n =
       by-test (kindTakes (kindOf n) (length ps))
       (λ t. ap (λ (d : Decoded). decodedIn d pins) (sym (with-some (kindOf n) i ps t)) ∙ kind-in (kindOf n) t)
-      (λ t. ap (λ (d : Decoded). decodedIn d pins) (sym (with-none (kindOf n) i ps t)) ∙ kind-none (kindOf n) t)
+      (λ t. ap (λ (d : Decoded). decodedIn d pins) (sym (with-none (kindOf n) i ps t)) ∙ none-kind ps (kindOf n) t)
 
 -- ---- combinational or not
 

@@ -33,10 +33,14 @@ formNumber XorN = 11
 formNumber XnorN = 12
 formNumber Buf = 13
 
+-- the number of Dff, the last
+abbrev pub flopNumber : ℕ
+flopNumber = 14
+
 -- the number that a gate's form has in lent cells
 abbrev pub formCell : Gate → ℕ
 formCell (Comb f ps) = formNumber f
-formCell (Dff s) = 14
+formCell (Dff s) = flopNumber
 
 -- the pin counts that a form can have: two for Binary, three for Ternary, any for Nary ("Nary may have no inputs"), one for Buf
 abbrev pub canHave : Form → ℕ → Bool
@@ -97,8 +101,8 @@ abbrev pub kindNumber : Kind → ℕ
 kindNumber (K.Binary t) = formNumber (binaryForm t)
 kindNumber (K.Ternary t) = formNumber (ternaryForm t)
 kindNumber (K.Nary t) = formNumber (naryForm t)
-kindNumber K.Buf = 13
-kindNumber K.Dff = 14
+kindNumber K.Buf = formNumber Buf
+kindNumber K.Dff = flopNumber
 kindNumber K.Unknown = 0
 
 -- whether a kind can have n pins

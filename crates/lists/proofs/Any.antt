@@ -9,7 +9,7 @@ use lib.ListN.{length, getD, take}
 use lib.Seq.{take-all}
 use borrow.Author.Tests.{ltb-false}
 use Rattle.lists.specs.Lists.{any, zeros}
-use Rattle.lists.proofs.Tests.{or-left, or-right}
+use Rattle.lists.proofs.Tests.{or-false, or-left, or-right}
 
 -- whether one of the first i elements of l passes the test p
 pub record Looked (p : ℕ → Bool) (l : List ℕ) (r : Bool) (i : ℕ) : Type 0 where
@@ -22,11 +22,7 @@ looked-start p l = record { within = omega arith; so = refl }
 -- the next element
 any-next : (p : ℕ → Bool) (l : List ℕ) (i : ℕ) → i < length l → any p (take (suc i) l) ≡ (any p (take i l) || p (getD l i 0))
 any-next p [] i h = absurd (omega arith)
-any-next p (x ∷ l) zero h = or-none (p x)
-  where
-    or-none : (a : Bool) → (a || false) ≡ a
-    or-none true = refl
-    or-none false = refl
+any-next p (x ∷ l) zero h = or-false (p x)
 any-next p (x ∷ l) (suc i) h = ap (λ (b : Bool). p x || b) (any-next p l i (omega arith)) ∙ or-moved (p x) (any p (take i l)) (p (getD l i 0))
   where
     or-moved : (a b c : Bool) → (a || (b || c)) ≡ ((a || b) || c)

@@ -50,6 +50,10 @@ same-test true false f g = absurd (false≢true (f refl))
 same-test false true f g = absurd (false≢true (g refl))
 same-test false false f g = refl
 
+pub or-false : (a : Bool) → (a || false) ≡ a
+or-false true = refl
+or-false false = refl
+
 -- neither side of a disjunction that fails holds
 pub or-left : (a b : Bool) → (a || b) ≡ false → a ≡ false
 or-left true b e = e

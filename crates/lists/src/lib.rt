@@ -1,6 +1,6 @@
-// Slices compared and cleared.
+// Slices read, compared and cleared.
 ghost use mathlib.Core.Path.{_≡_};
-ghost use lib.ListN.{length};
+ghost use lib.ListN.{length, getD};
 ghost use lib.Dec.{ltb};
 ghost use Rattle.lists.specs.Lists.{same, zeros, any};
 
@@ -19,6 +19,16 @@ pub fn equal(a: &[u8], b: &[u8]) -> bool
         i += 1;
     }
     true
+}
+
+// Cell i, or zero if there is none.
+pub fn cell_at(cells: &[u32], i: usize) -> u32
+    ensures { λ r. ⌜ r ≡ getD (now (cells .entry)) i 0 ⌝ }
+{
+    if i < cells.len() {
+        return cells[i];
+    }
+    0
 }
 
 // How many cells are looked at together.

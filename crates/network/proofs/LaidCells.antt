@@ -16,7 +16,8 @@ use Rattle.lists.specs.Lists.{all, range}
 use Rattle.lists.proofs.Tests.{and-left, and-right, and-both}
 use Rattle.lists.proofs.Places.{mem-run}
 use Rattle.signal.specs.Signal.{Signal}
-use Rattle.signal.specs.Cell.{sigCell, sigOf, Small}
+use Rattle.signal.specs.Cell.{sigCell, sigOf}
+use Rattle.signal.proofs.Cells.{Small}
 use Rattle.signal.proofs.Cells.{cells-again, signals-again}
 use Rattle.gates.specs.Gate.{Gate, pins}
 use Rattle.gates.specs.Forms.{formCell, formed, kindOf, kindTakes, gateFrom}

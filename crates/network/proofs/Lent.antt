@@ -15,7 +15,8 @@ use Rattle.lists.proofs.Tests.{and-left, and-right, and-both}
 use Rattle.lists.proofs.Places.{place-lt, mem-place, mem-take, mem-getD}
 use Rattle.lists.proofs.Range.{all-mem, mem-all, length-range, map-range, range-all}
 use Rattle.signal.specs.Signal.{Node, Const, Input, Gated, Signal}
-use Rattle.signal.specs.Cell.{sigCell, nodeOf, sigOf, Small}
+use Rattle.signal.specs.Cell.{sigCell, nodeOf, sigOf}
+use Rattle.signal.proofs.Cells.{Small}
 use Rattle.signal.proofs.Cells.{signal-again, cells-again, signals-again}
 use Rattle.gates.specs.Gate.{Gate, pins}
 use Rattle.gates.specs.Forms.{formed}
@@ -168,7 +169,7 @@ network-sizes l e = tests-give l e .sizes
 module _ (net : Net) (l : Lent) (c : Laid net l) (v : Valid net) (f : Formed net)
     (z : Sizes (countsOf net) (length (l .cells)) (length (l .pinsLent)) (length (l .outsLent))) where
   node-small : (n : Node) → ValidNode net n → Small n
-  node-small n h = valid-small net n (z .few-inputs) (z .few-gates) h
+  node-small n h = valid-small net n (z .few .inputs) (z .few .gates) h
 
   pin-valid : (x : Gate) (s : Signal) → List·Memᴰ x (net .gates) → List·Memᴰ s (pins x) → ValidNode net (s .node)
   pin-valid x s m u = let t = mem-place (net .gates) x m in v .pinsValid (t .0) x s (t .1) u

@@ -1,4 +1,5 @@
 pub mod Runs
+pub mod Depth
 pub mod OneChoice
 pub mod Steps
 pub mod Renumbering

@@ -1,14 +1,13 @@
 -- Without a loop just one choice of bits fits a clock, and a run has just one list of outputs: `settle` and `run`. Assumes nothing.
 use mathlib.Core.Path.{_≡_, refl, sym, ap, ap₂, _∙_, subst}
-use mathlib.Core.List.{List, [], _∷_, _++_, map, List·Memᴰ, List·Memᴰ·head, List·Memᴰ·tail, Memᴰ·cast, List·Memᴰ·not-nil, List·Memᴰ·cases-cons}
-use mathlib.Core.Bool.{Bool, true, false, cond}
+use mathlib.Core.List.{List, [], _∷_, List·Memᴰ, List·Memᴰ·head, List·Memᴰ·tail, List·Memᴰ·not-nil, List·Memᴰ·cases-cons}
+use mathlib.Core.Bool.{Bool}
 use mathlib.Core.Option.{Option, none, some}
-use mathlib.Core.Logic.{_⊎_, inl, inr, ⊎-elim}
-use Prim.Native.Nat.{ℕ, zero, suc, _+_, _≤_, _<_, max, zero-le}
+use mathlib.Core.Logic.{⊎-elim}
+use Prim.Native.Nat.{ℕ, zero, suc, _≤_, _<_}
 use native.Mathlib.Omega.{arith}
-use native.Mathlib.Nat.{le-max-left, le-max-right, max-le}
 use native.Mathlib.Decide.{ℕ-discrete}
-use lib.ListN.{length, getD, getElem?}
+use lib.ListN.{length, getElem?}
 use Rattle.lists.specs.Lists.{Dup, here, there}
 use Rattle.signal.specs.Signal.{Node, Const, Input, Gated, Signal, flip}
 use Rattle.gates.specs.Gate.{Form, Gate, Comb, Dff, pins, formBit}
@@ -18,6 +17,7 @@ use Rattle.network.specs.Settle.{bitAt, round, settle, nextOf, runFrom, 
 use Rattle.lists.proofs.Places.{place-lt, lt-place, map-on}
 use Rattle.lists.proofs.Twice.{Below, pigeons}
 use Rattle.network.proofs.Runs.{nextOf-is, runs-nil, runs-cons}
+use Rattle.network.proofs.Depth.{deepest, depthOf, depth, deepest-ge, depth-le, deepest-at, depth-rest}
 
 -- ---- ranks
 
@@ -26,52 +26,6 @@ pub record Ranked (net : Net) : Type 0 where
   pub rank : ℕ → ℕ
   pub rises : (g h : ℕ) (f : Form) (ps : List Signal) (s : Signal) → GateIs net g (Comb f ps) → List·Memᴰ s ps → s .node ≡ Gated h → rank h < rank g
   pub most : (g : ℕ) → rank g ≤ length (net .gates)
-
-abbrev nodeDepth : (ℕ → ℕ) → Node → ℕ
-nodeDepth D Const = 0
-nodeDepth D (Input i) = 0
-nodeDepth D (Gated g) = D g
-
-abbrev deepest : (ℕ → ℕ) → List Signal → ℕ
-deepest D [] = 0
-deepest D (s ∷ ss) = max (nodeDepth D (s .node)) (deepest D ss)
-
-abbrev depthOf : (ℕ → ℕ) → Option Gate → ℕ
-depthOf D none = 0
-depthOf D (some (Comb f ps)) = suc (deepest D ps)
-depthOf D (some (Dff s)) = 0
-
--- how many combinational gates stand in a row up to gate g, k at most
-depth : Net → ℕ → ℕ → ℕ
-depth net zero g = 0
-depth net (suc k) g = depthOf (depth net k) (getElem? (net .gates) g)
-
-deepest-ge : (D : ℕ → ℕ) (ss : List Signal) (s : Signal) (h : ℕ) → List·Memᴰ s ss → s .node ≡ Gated h → D h ≤ deepest D ss
-deepest-ge D _ s h (List·Memᴰ·head {x = t} {xs = ss} e) p =
-    let q : nodeDepth D (t .node) ≡ D h = ap (λ (u : Signal). nodeDepth D (u .node)) (sym e) ∙ ap (nodeDepth D) p in
-    omega (arith, le-max-left (nodeDepth D (t .node)) (deepest D ss))
-deepest-ge D _ s h (List·Memᴰ·tail {x = t} {xs = ss} m) p =
-    let i : D h ≤ deepest D ss = deepest-ge D ss s h m p in
-    omega (arith, le-max-right (nodeDepth D (t .node)) (deepest D ss))
-
-node-le : (D : ℕ → ℕ) (k : ℕ) → ((g : ℕ) → D g ≤ k) → (n : Node) → nodeDepth D n ≤ k
-node-le D k h Const = zero-le
-node-le D k h (Input i) = zero-le
-node-le D k h (Gated g) = h g
-
-deepest-le : (D : ℕ → ℕ) (k : ℕ) → ((g : ℕ) → D g ≤ k) → (ss : List Signal) → deepest D ss ≤ k
-deepest-le D k h [] = zero-le
-deepest-le D k h (s ∷ ss) = max-le (node-le D k h (s .node)) (deepest-le D k h ss)
-
-depth-le : (net : Net) (k g : ℕ) → depth net k g ≤ k
-unfolding depth
-depth-le net zero g = zero-le
-depth-le net (suc k) g = go (getElem? (net .gates) g) (depth-le net k)
-  where
-    go : (o : Option Gate) → ((h : ℕ) → depth net k h ≤ k) → depthOf (depth net k) o ≤ suc k
-    go none ih = zero-le
-    go (some (Comb f ps)) ih = let u : deepest (depth net k) ps ≤ k = deepest-le (depth net k) k ih ps in omega arith
-    go (some (Dff s)) ih = zero-le
 
 -- ---- chains
 
@@ -117,18 +71,6 @@ chain-below net (y ∷ l) c x m =
 
 -- ---- a gate of full depth ends a chain
 
--- a signal of the greatest depth
-deepest-at : (D : ℕ → ℕ) (ss : List Signal) (k : ℕ) → deepest D ss ≡ suc k → (s : Signal) × (h : ℕ) × List·Memᴰ s ss × (s .node ≡ Gated h) × (D h ≡ suc k)
-deepest-at D [] k e = absurd (omega arith)
-deepest-at D (s ∷ ss) k e = go (s .node) refl (ℕ-discrete (deepest D ss) (suc k)) (deepest-at D ss k)
-  where
-    go : (n : Node) → s .node ≡ n → Dec (deepest D ss ≡ suc k) → (deepest D ss ≡ suc k → (t : Signal) × (h : ℕ) × List·Memᴰ t ss × (t .node ≡ Gated h) × (D h ≡ suc k))
-        → (t : Signal) × (h : ℕ) × List·Memᴰ t (s ∷ ss) × (t .node ≡ Gated h) × (D h ≡ suc k)
-    go n p (yes q) ih = let r = ih q in (r .0, r .1, List·Memᴰ·tail (r .2), r .3, r .4)
-    go Const p (no q) ih = absurd (q (let z : nodeDepth D (s .node) ≡ 0 = ap (nodeDepth D) p in omega arith))
-    go (Input i) p (no q) ih = absurd (q (let z : nodeDepth D (s .node) ≡ 0 = ap (nodeDepth D) p in omega arith))
-    go (Gated h) p (no q) ih = let z : nodeDepth D (s .node) ≡ D h = ap (nodeDepth D) p in (s, h, List·Memᴰ·head refl, p, omega arith)
-
 full-chain : (net : Net) (k g : ℕ) → depth net (suc k) g ≡ suc k → (l : List ℕ) × Chain net (g ∷ l) × (length l ≡ k)
 unfolding depth
 full-chain net zero g e = go (getElem? (net .gates) g) refl e
@@ -152,28 +94,6 @@ full-chain net (suc k) g e = go (getElem? (net .gates) g) refl e (full-chain net
           ap suc (i .2),
         )
     go (some (Dff s)) p q ih = absurd (omega arith)
-
--- ---- depth comes to rest
-
-deepest-same : (D E : ℕ → ℕ) (k : ℕ) → ((g : ℕ) → D g < k → E g ≡ D g) → (ss : List Signal) → deepest D ss < k → deepest E ss ≡ deepest D ss
-deepest-same D E k h [] u = refl
-deepest-same D E k h (s ∷ ss) u =
-    ap₂ max (node (s .node) (omega (arith, le-max-left (nodeDepth D (s .node)) (deepest D ss)))) (deepest-same D E k h ss (omega (arith, le-max-right (nodeDepth D (s .node)) (deepest D ss))))
-  where
-    node : (n : Node) → nodeDepth D n < k → nodeDepth E n ≡ nodeDepth D n
-    node Const v = refl
-    node (Input i) v = refl
-    node (Gated g) v = h g v
-
-depth-rest : (net : Net) (k g : ℕ) → depth net k g < k → depth net (suc k) g ≡ depth net k g
-unfolding depth
-depth-rest net zero g u = absurd (omega arith)
-depth-rest net (suc k) g u = go (getElem? (net .gates) g) u (depth-rest net k)
-  where
-    go : (o : Option Gate) → depthOf (depth net k) o < suc k → ((h : ℕ) → depth net k h < k → depth net (suc k) h ≡ depth net k h) → depthOf (depth net (suc k)) o ≡ depthOf (depth net k) o
-    go none v ih = refl
-    go (some (Comb f ps)) v ih = ap suc (deepest-same (depth net k) (depth net (suc k)) k ih ps (omega arith))
-    go (some (Dff s)) v ih = refl
 
 -- a network without a loop has ranks
 pub ranked : (net : Net) → (Loop net → ⊥) → Ranked net
@@ -199,21 +119,18 @@ ranked net free =
 
 -- ---- the one choice
 
-abbrev below : (net : Net) (rk : Ranked net) (k : ℕ) (b c : ℕ → Bool) → Type 0
-below net rk k b c = (h : ℕ) → rk .rank h < k → b h ≡ c h
-
--- bits that agree below a combinational gate give it the same bit
-gate-agrees : (net : Net) (rk : Ranked net) (row : List Bool) (b c : ℕ → Bool) (P : ℕ → Type 0) (g : ℕ) (x : Gate) (v : Bool) → GateIs net g x
-    → ((h : ℕ) (s : Signal) → List·Memᴰ s (pins x) → s .node ≡ Gated h → P h)
-    → ((h : ℕ) → rk .rank h < rk .rank g → P h → b h ≡ c h) → gateBit (sigBit row b) v x ≡ gateBit (sigBit row c) v x
-gate-agrees net rk row b c P g (Dff s) v p q h = refl
-gate-agrees net rk row b c P g (Comb f ps) v p q h =
+-- bits that agree on a combinational gate's inputs give it the same bit
+pub gate-agrees : (row : List Bool) (b c : ℕ → Bool) (v : Bool) (x : Gate)
+    → ((f : Form) (s : Signal) (h : ℕ) → x ≡ Comb f (pins x) → List·Memᴰ s (pins x) → s .node ≡ Gated h → b h ≡ c h)
+    → gateBit (sigBit row b) v x ≡ gateBit (sigBit row c) v x
+gate-agrees row b c v (Dff s) same = refl
+gate-agrees row b c v (Comb f ps) same =
     ap (formBit f) (map-on (sigBit row b) (sigBit row c) ps (λ s m. ap (flip (s .inv)) (node s m (s .node) refl)))
   where
     node : (s : Signal) → List·Memᴰ s ps → (n : Node) → s .node ≡ n → nodeBit row b n ≡ nodeBit row c n
     node s m Const e = refl
     node s m (Input i) e = refl
-    node s m (Gated k) e = h k (rk .rises g k f ps s p m e) (q k s m e)
+    node s m (Gated h) e = same f s h refl m e
 
 settles : (net : Net) (rk : Ranked net) (row : List Bool) (held : ℕ → Bool) (k g : ℕ) → rk .rank g < k → round net row held (suc k) g ≡ round net row held k g
 settles net rk row held zero g u = absurd (omega arith)
@@ -222,7 +139,9 @@ settles net rk row held (suc k) g u = go (getElem? (net .gates) g) refl (settles
     go : (o : Option Gate) → getElem? (net .gates) g ≡ o → ((h : ℕ) → rk .rank h < k → round net row held (suc k) h ≡ round net row held k h)
         → bitAt (sigBit row (round net row held (suc k))) (held g) o ≡ bitAt (sigBit row (round net row held k)) (held g) o
     go none p ih = refl
-    go (some x) p ih = gate-agrees net rk row (round net row held (suc k)) (round net row held k) (λ h. Unit {0}) g x (held g) p (λ h s m e. tt) (λ h l t. ih h (omega arith))
+    go (some x) p ih =
+        gate-agrees row (round net row held (suc k)) (round net row held k) (held g) x (λ f s h e m q.
+        let l : rk .rank h < rk .rank g = rk .rises g h f (pins x) s (p ∙ ap some e) m q in ih h (omega arith))
 
 pub settle-fits : (net : Net) → Ranked net → (row : List Bool) (held : ℕ → Bool) → Fits net row held (settle net row held)
 settle-fits net rk row held g x p =
@@ -241,8 +160,9 @@ module _ (net : Net) (valid : Valid net) (rk : Ranked net) where
       let x : (y : Gate) × (getElem? (net .gates) g ≡ some y) = lt-place (net .gates) g l in
       let ih : (h : ℕ) → h < length (net .gates) → rk .rank h < k → b h ≡ c h = λ h. same-below row held held′ b c hs fb fc k h in
       fb g (x .0) (x .1)
-      ∙ gate-agrees net rk row b c (λ h. h < length (net .gates)) g (x .0) (held g) (x .1)
-      (λ h s m e. subst (ValidNode net) e (valid .pinsValid g (x .0) s (x .1) m)) (λ h v w. ih h w (omega arith))
+      ∙ gate-agrees row b c (held g) (x .0) (λ f s h e m q.
+      let v : rk .rank h < rk .rank g = rk .rises g h f (pins (x .0)) s (x .1 ∙ ap some e) m q in
+      ih h (subst (ValidNode net) q (valid .pinsValid g (x .0) s (x .1) m)) (omega arith))
       ∙ ap (λ (v : Bool). gateBit (sigBit row c) v (x .0)) (hs g l) ∙ sym (fc g (x .0) (x .1))
 
   -- just one choice fits

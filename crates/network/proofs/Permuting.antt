@@ -10,10 +10,15 @@ use Rattle.lists.specs.Lists.{find}
 use Rattle.signal.specs.Signal.{Node, Const, Input, Gated}
 use Rattle.gates.specs.Gate.{Comb}
 use Rattle.network.specs.Net.{Net, GateIs, ValidNode, Valid}
-use Rattle.network.specs.Renumber.{remapGate, Kept, Renumbered, orZero, placeOf, gateOr, permuted, Orders}
+use Rattle.network.specs.Renumber.{remapGate, NodeKept, Renumbered, orZero, placeOf, gateOr, permuted}
 use Rattle.gates.specs.Gate.{Buf}
 use Rattle.lists.proofs.Places.{place-lt, place-mem, lt-place, getD-place, map-at}
 use Rattle.lists.proofs.Find.{find-some, find-none}
+
+-- the list holds every gate's number, and no other
+pub record Orders (n : ℕ) (l : List ℕ) : Type 0 where
+  pub every : (g : ℕ) → g < n → List·Memᴰ g l
+  pub only : (g : ℕ) → List·Memᴰ g l → g < n
 
 pub gate-at : (net : Net) (g : ℕ) → g < length (net .gates) → GateIs net g (gateOr net g)
 gate-at net g u = let t = lt-place (net .gates) g u in t .1 ∙ ap some (sym (getD-place (Comb Buf []) (net .gates) g (t .0) (t .1)))
@@ -29,7 +34,7 @@ module _ (net : Net) (valid : Valid net) (l : List ℕ) (o : Orders (length (net
   abbrev back : ℕ → ℕ
   back i = getD l i 0
 
-  kept-node : (n : Node) → ValidNode net n → Kept (length (permuted l net .gates)) (placeOf l) back n
+  kept-node : (n : Node) → ValidNode net n → NodeKept (length (permuted l net .gates)) (placeOf l) back n
   kept-node Const v = tt
   kept-node (Input i) v = tt
   kept-node (Gated g) v =

@@ -21,7 +21,7 @@ use Rattle.gates.specs.Decode.{decodedIn, withPins}
 use Rattle.gates.specs.declared.Kind.{Kind}
 use Rattle.gates.specs.declared.Decoded.{Decoded}
 use Rattle.gates.proofs.Decode.{RunAt, decode-is}
-use Rattle.network.specs.Cells.{gateWidth, formAt, firstAt, countAt, runAt, CellIs, gateAt, sizesFit, startAt, recordFits, recordsFit, validNode, allValid, lent, isNetwork}
+use Rattle.network.specs.Cells.{maxInputs, maxOutputs, maxGates, maxPins, WithinSizes, gateWidth, formAt, firstAt, countAt, runAt, CellIs, gateAt, sizesFit, startAt, recordFits, recordsFit, validNode, allValid, lent, isNetwork}
 use Rattle.network.specs.declared.Counts.{Counts}
 
 -- ---- valid signals
@@ -162,10 +162,7 @@ module _ (cells pins : List ℕ) (g : ℕ) where
 
 -- what the size test gives
 pub record Sizes (n : Counts) (gs ps os : ℕ) : Type 0 where
-  pub few-inputs : n .inputs ≤ 256
-  pub few-gates : n .gates ≤ 1024
-  pub few-pins : n .pins ≤ 16384
-  pub few-outputs : n .outputs ≤ 256
+  pub few : WithinSizes (n .inputs) (n .outputs) (n .gates) (n .pins)
   pub gates-lent : n .gates * gateWidth ≤ gs
   pub pins-lent : n .pins ≤ ps
   pub outs-lent : n .outputs ≤ os
@@ -174,10 +171,13 @@ pub sizes-give : {n : Counts} {gs ps os : ℕ} → sizesFit n gs ps os ≡ true 
 unfolding sizesFit
 sizes-give {n} {gs} {ps} {os} e =
     record {
-      few-inputs = leb-true (n .inputs) 256 (search (and-left, and-right) depth 8);
-      few-gates = leb-true (n .gates) 1024 (search (and-left, and-right) depth 8);
-      few-pins = leb-true (n .pins) 16384 (search (and-left, and-right) depth 8);
-      few-outputs = leb-true (n .outputs) 256 (search (and-left, and-right) depth 8);
+      few =
+          record {
+            inputs = leb-true (n .inputs) maxInputs (search (and-left, and-right) depth 8);
+            outputs = leb-true (n .outputs) maxOutputs (search (and-left, and-right) depth 8);
+            gates = leb-true (n .gates) maxGates (search (and-left, and-right) depth 8);
+            pins = leb-true (n .pins) maxPins (search (and-left, and-right) depth 8);
+          };
       gates-lent = leb-true (n .gates * gateWidth) gs (search (and-left, and-right) depth 8);
       pins-lent = leb-true (n .pins) ps (search (and-left, and-right) depth 8);
       outs-lent = leb-true (n .outputs) os (search (and-left, and-right) depth 8);
@@ -185,7 +185,7 @@ sizes-give {n} {gs} {ps} {os} e =
 
 pub sizes-from : {n : Counts} {gs ps os : ℕ} → Sizes n gs ps os → sizesFit n gs ps os ≡ true
 sizes-from {n} {gs} {ps} {os} s =
-    sym (within-sizes n gs ps os (s .few-inputs) (s .few-gates) (s .few-pins) (s .few-outputs) (s .gates-lent) (s .pins-lent))
+    sym (within-sizes n gs ps os (s .few .inputs) (s .few .gates) (s .few .pins) (s .few .outputs) (s .gates-lent) (s .pins-lent))
     ∙ le-leb (n .outputs) os (s .outs-lent)
 
 module _ (n : Counts) (cells pins outs : List ℕ) where

@@ -11,7 +11,7 @@ use Rattle.gates.specs.Gate.{Form, Gate, Comb, Dff, pins, formBit}
 use Rattle.network.specs.Net.{Net, GateIs, ValidNode, Valid, Loop}
 use Rattle.network.specs.Clock.{Clock, nodeBit, sigBit, gateBit, nextBit}
 use Rattle.network.specs.Settle.{nextOf, runFrom}
-use Rattle.network.specs.Renumber.{remapGate, Kept, From, Renumbered}
+use Rattle.network.specs.Renumber.{remapGate, NodeKept, From, Renumbered}
 use Rattle.lists.proofs.Places.{map-on, map-map}
 use Rattle.network.proofs.OneChoice.{Ranked, ranked, Rises, rises-free, run-is, runs-unique}
 use Rattle.network.proofs.Runs.{Simulates, runs-along, nextOf-is}
@@ -29,22 +29,22 @@ module _ (old new : Net) (π order : ℕ → ℕ) (ren : Renumbered old new π o
     abbrev bits′ : ℕ → Bool
     bits′ i = bits (order i)
 
-    node-same : (n : Node) → Kept (length (new .gates)) π order n → nodeBit row bits′ (remapNode π n) ≡ nodeBit row bits n
+    node-same : (n : Node) → NodeKept (length (new .gates)) π order n → nodeBit row bits′ (remapNode π n) ≡ nodeBit row bits n
     node-same Const k = refl
     node-same (Input i) k = refl
     node-same (Gated g) k = ap bits (k .1)
 
-    sig-same : (s : Signal) → Kept (length (new .gates)) π order (s .node) → sigBit row bits′ (remap π s) ≡ sigBit row bits s
+    sig-same : (s : Signal) → NodeKept (length (new .gates)) π order (s .node) → sigBit row bits′ (remap π s) ≡ sigBit row bits s
     sig-same s k = ap (flip (s .inv)) (node-same (s .node) k)
 
-    sigs-same : (ss : List Signal) → ((s : Signal) → List·Memᴰ s ss → Kept (length (new .gates)) π order (s .node)) → map (sigBit row bits′) (map (remap π) ss) ≡ map (sigBit row bits) ss
+    sigs-same : (ss : List Signal) → ((s : Signal) → List·Memᴰ s ss → NodeKept (length (new .gates)) π order (s .node)) → map (sigBit row bits′) (map (remap π) ss) ≡ map (sigBit row bits) ss
     sigs-same ss k = map-map (sigBit row bits′) (remap π) ss ∙ map-on (λ (s : Signal). sigBit row bits′ (remap π s)) (sigBit row bits) ss (λ s w. sig-same s (k s w))
 
-    gate-same : (h : Bool) (y : Gate) → ((s : Signal) → List·Memᴰ s (pins y) → Kept (length (new .gates)) π order (s .node)) → gateBit (sigBit row bits′) h (remapGate π y) ≡ gateBit (sigBit row bits) h y
+    gate-same : (h : Bool) (y : Gate) → ((s : Signal) → List·Memᴰ s (pins y) → NodeKept (length (new .gates)) π order (s .node)) → gateBit (sigBit row bits′) h (remapGate π y) ≡ gateBit (sigBit row bits) h y
     gate-same h (Comb f ps) k = ap (formBit f) (sigs-same ps k)
     gate-same h (Dff s) k = refl
 
-    next-same : (h : Bool) (y : Gate) → ((s : Signal) → List·Memᴰ s (pins y) → Kept (length (new .gates)) π order (s .node)) → nextBit (sigBit row bits′) h (remapGate π y) ≡ nextBit (sigBit row bits) h y
+    next-same : (h : Bool) (y : Gate) → ((s : Signal) → List·Memᴰ s (pins y) → NodeKept (length (new .gates)) π order (s .node)) → nextBit (sigBit row bits′) h (remapGate π y) ≡ nextBit (sigBit row bits) h y
     next-same h (Comb f ps) k = refl
     next-same h (Dff s) k =
         cc (
@@ -77,12 +77,12 @@ module _ (old new : Net) (π order : ℕ → ℕ) (ren : Renumbered old new π o
   renumbered-simulates held next held′ row out h c = renumbered-clock held next held′ row out h c
 
   module _ (valid : Valid old) where
-    kept-valid : (n : Node) → Kept (length (new .gates)) π order n → ValidNode old n → ValidNode new (remapNode π n)
+    kept-valid : (n : Node) → NodeKept (length (new .gates)) π order n → ValidNode old n → ValidNode new (remapNode π n)
     kept-valid Const k v = tt
     kept-valid (Input i) k v = subst (λ (c : ℕ). i < c) (sym (ren .sameInputs)) v
     kept-valid (Gated g) k v = k .0
 
-    sigs-valid : (ss : List Signal) → ((s : Signal) → List·Memᴰ s ss → Kept (length (new .gates)) π order (s .node)) → ((s : Signal) → List·Memᴰ s ss → ValidNode old (s .node))
+    sigs-valid : (ss : List Signal) → ((s : Signal) → List·Memᴰ s ss → NodeKept (length (new .gates)) π order (s .node)) → ((s : Signal) → List·Memᴰ s ss → ValidNode old (s .node))
         → (s : Signal) → List·Memᴰ s (map (remap π) ss) → ValidNode new (s .node)
     sigs-valid ss k v s m = let t = Memᴰ·of-map (remap π) ss m in subst (λ (u : Signal). ValidNode new (u .node)) (t .2) (kept-valid (t .0 .node) (k (t .0) (t .1)) (v (t .0) (t .1)))
 
@@ -99,7 +99,7 @@ module _ (old new : Net) (π order : ℕ → ℕ) (ren : Renumbered old new π o
   comb-was f ps (Comb f′ qs) e = (qs, (let q : f′ ≡ f = cc in ap (λ (x : Form). Comb x qs) q), cc)
   comb-was f ps (Dff s) e = absurd (let z : _≡_ {A = ℕ} 0 1 = cc in omega arith)
 
-  node-was : (n : Node) (h : ℕ) → Kept (length (new .gates)) π order n → remapNode π n ≡ Gated h → n ≡ Gated (order h)
+  node-was : (n : Node) (h : ℕ) → NodeKept (length (new .gates)) π order n → remapNode π n ≡ Gated h → n ≡ Gated (order h)
   node-was Const h k e = absurd (let z : _≡_ {A = ℕ} 0 1 = cc in omega arith)
   node-was (Input i) h k e = absurd (let z : _≡_ {A = ℕ} 0 1 = cc in omega arith)
   node-was (Gated g) h k e = let q : π g ≡ h = cc in ap Gated (sym (k .1) ∙ ap order q)
@@ -113,7 +113,7 @@ module _ (old new : Net) (π order : ℕ → ℕ) (ren : Renumbered old new π o
             let fr : From old (length (new .gates)) π order i (Comb f ps) = ren .gatesFrom i (Comb f ps) p in
             let c = comb-was f ps (fr .was) (fr .renamed) in
             let t = Memᴰ·of-map (remap π) (c .0) (subst (List·Memᴰ s) (c .2) m) in
-            let k : Kept (length (new .gates)) π order (t .0 .node) = fr .kept (t .0) (subst (λ (y : Gate). List·Memᴰ (t .0) (pins y)) (sym (c .1)) (t .1)) in
+            let k : NodeKept (length (new .gates)) π order (t .0 .node) = fr .kept (t .0) (subst (λ (y : Gate). List·Memᴰ (t .0) (pins y)) (sym (c .1)) (t .1)) in
             rk .rises (order i) (order h) f (c .0) (t .0) (fr .wasAt ∙ ap some (c .1)) (t .1) (node-was (t .0 .node) h k (ap (λ (u : Signal). u .node) (t .2) ∙ q));
       })
 

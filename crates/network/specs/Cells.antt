@@ -12,7 +12,7 @@ use Rattle.signal.specs.Signal.{Node, Const, Input, Gated, Signal}
 use Rattle.signal.specs.Cell.{sigCell, nodeOf, sigOf}
 use Rattle.gates.specs.Gate.{Buf, Gate, Comb, pins}
 use Rattle.gates.specs.Forms.{formCell, kindOf, kindTakes, gateFrom}
-use Rattle.network.specs.Net.{Net}
+use Rattle.network.specs.Net.{Net, netFrom}
 use Rattle.network.specs.declared.Counts.{Counts}
 
 -- ---- sizes
@@ -32,6 +32,17 @@ maxGates = 1024
 -- "16,384 pins"
 abbrev pub maxPins : ℕ
 maxPins = 16384
+
+-- each size is within its limit
+pub record WithinSizes (i o g p : ℕ) : Type 0 where
+  -- "256 inputs"
+  pub inputs : i ≤ maxInputs
+  -- "256 outputs"
+  pub outputs : o ≤ maxOutputs
+  -- "1,024 gates"
+  pub gates : g ≤ maxGates
+  -- "16,384 pins"
+  pub pins : p ≤ maxPins
 
 -- ---- a gate's record: "each form number, first pin, pin count"
 
@@ -137,14 +148,17 @@ abbrev pub orBuf : Option Gate → Gate
 orBuf none = Comb Buf []
 orBuf (some x) = x
 
+-- k gates of the cells, from gate g on
+abbrev pub cellGates : List ℕ → List ℕ → ℕ → ℕ → List Gate
+cellGates cells pinCells g k = map (λ (i : ℕ). orBuf (gateAt cells pinCells i)) (range g k)
+
+-- the network of n gates in cells, with so many inputs and these outputs
+abbrev pub cellNet : ℕ → List ℕ → List ℕ → ℕ → List ℕ → Net
+cellNet inputs cells pinCells n outs = netFrom inputs (cellGates cells pinCells 0 n) (map sigOf outs)
+
 -- the network that the cells hold
 unfoldable pub netOf : Lent → Net
-netOf l =
-    record {
-      inputs = l .counts .inputs;
-      gates = map (λ (g : ℕ). orBuf (gateAt (l .cells) (l .pinsLent) g)) (range 0 (l .counts .gates));
-      outputs = map sigOf (take (l .counts .outputs) (l .outsLent));
-    }
+netOf l = cellNet (l .counts .inputs) (l .cells) (l .pinsLent) (l .counts .gates) (take (l .counts .outputs) (l .outsLent))
 
 -- the counts of a network
 abbrev pub countsOf : Net → Counts

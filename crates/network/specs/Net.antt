@@ -18,6 +18,10 @@ pub record Net : Type 0 where
   -- the outputs in order
   pub outputs : List Signal
 
+-- the same, from its parts
+abbrev pub netFrom : ℕ → List Gate → List Signal → Net
+netFrom i gs os = record { inputs = i; gates = gs; outputs = os }
+
 -- gate g of the network is x
 abbrev pub GateIs : Net → ℕ → Gate → Type 0
 GateIs net g x = getElem? (net .gates) g ≡ some x

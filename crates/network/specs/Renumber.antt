@@ -21,10 +21,10 @@ remapGate π (Comb f ps) = Comb f (map (remap π) ps)
 remapGate π (Dff s) = Dff (remapFlop π s)
 
 -- the node is kept among n gates: a gate has a new number, which leads back to it
-abbrev pub Kept : ℕ → (ℕ → ℕ) → (ℕ → ℕ) → Node → Type 0
-Kept n π order Const = Unit {0}
-Kept n π order (Input i) = Unit {0}
-Kept n π order (Gated g) = (π g < n) × (order (π g) ≡ g)
+abbrev pub NodeKept : ℕ → (ℕ → ℕ) → (ℕ → ℕ) → Node → Type 0
+NodeKept n π order Const = Unit {0}
+NodeKept n π order (Input i) = Unit {0}
+NodeKept n π order (Gated g) = (π g < n) × (order (π g) ≡ g)
 
 -- gate i of the new network is gate `order i` of the old one, its inputs renumbered
 pub record From (old : Net) (n : ℕ) (π order : ℕ → ℕ) (i : ℕ) (x : Gate) : Type 0 where
@@ -35,7 +35,7 @@ pub record From (old : Net) (n : ℕ) (π order : ℕ → ℕ) (i : ℕ) (x : Ga
   -- with its inputs renumbered
   pub renamed : x ≡ remapGate π was
   -- each of which is kept
-  pub kept : (s : Signal) → List·Memᴰ s (pins was) → Kept n π order (s .node)
+  pub kept : (s : Signal) → List·Memᴰ s (pins was) → NodeKept n π order (s .node)
 
 -- every gate of the new network is one of the old, renumbered, and what its gates and outputs use is there:
 -- `order` is the old number of a new gate, `π` the new number of an old one
@@ -47,7 +47,7 @@ pub record Renumbered (old new : Net) (π order : ℕ → ℕ) : Type 0 where
   -- the outputs are renumbered
   pub sameOutputs : new .outputs ≡ map (remap π) (old .outputs)
   -- and what they use is kept
-  pub outputsKept : (s : Signal) → List·Memᴰ s (old .outputs) → Kept (length (new .gates)) π order (s .node)
+  pub outputsKept : (s : Signal) → List·Memᴰ s (old .outputs) → NodeKept (length (new .gates)) π order (s .node)
 
 -- ---- a new order as the list of old numbers
 
@@ -72,10 +72,3 @@ permuted l net =
       gates = map (λ (o : ℕ). remapGate (placeOf l) (gateOr net o)) l;
       outputs = map (remap (placeOf l)) (net .outputs);
     }
-
--- the list holds every gate's number, and no other
-pub record Orders (n : ℕ) (l : List ℕ) : Type 0 where
-  -- every gate's number
-  pub every : (g : ℕ) → g < n → List·Memᴰ g l
-  -- no other number
-  pub only : (g : ℕ) → List·Memᴰ g l → g < n

@@ -1,6 +1,8 @@
 // What the programs that replay stored answers share: numbers on standard input.
 use network::Counts;
+ghost use mathlib.Core.Path.{_≡_};
 ghost use Prim.Native.Nat.{_^_, _<_};
+ghost use lib.ListN.{set};
 
 // A hexadecimal digit.
 fn digit(c: u8) -> u32
@@ -36,7 +38,9 @@ fn read_count() -> usize {
 }
 
 // The next four numbers as counts.
-pub fn read_counts() -> Counts {
+pub fn read_counts() -> Counts
+    ensures { λ r. ⌜ (r .inputs < 2 ^ 64) × (r .gates < 2 ^ 64) × (r .pins < 2 ^ 64) × (r .outputs < 2 ^ 64) ⌝ }
+{
     let inputs = read_count();
     let gates = read_count();
     let pins = read_count();
@@ -50,7 +54,9 @@ pub fn read_counts() -> Counts {
 }
 
 // Puts a word into cell i, if there is one.
-pub fn put_word(cells: &mut [u32], i: usize, word: u32) {
+pub fn put_word(cells: &mut [u32], i: usize, word: u32)
+    ensures { λ _. ⌜ now (cells .exit) ≡ set (now (cells .entry)) i word ⌝ }
+{
     if i < cells.len() {
         cells[i] = word;
     }

@@ -1,22 +1,20 @@
 -- Demand 3 follows from what the writer and the reader answer. Assumes nothing.
-use mathlib.Core.Path.{_≡_, refl, sym, ap, ap₂, _∙_, subst}
-use mathlib.Core.Bool.{Bool, true, false, not, _&&_, _||_, true≢false}
-use mathlib.Core.List.{List, [], _∷_}
+use mathlib.Core.Path.{_≡_, sym, ap, ap₂, _∙_, subst}
+use mathlib.Core.Bool.{Bool, true}
+use mathlib.Core.List.{List}
 use mathlib.Core.Logic.{_↔_}
-use mathlib.Core.Option.{none, some}
-use Prim.Native.Nat.{ℕ, zero, suc, _≤_, _<_}
+use Prim.Native.Nat.{ℕ}
 use native.Mathlib.Omega.{arith}
-use lib.Dec.{ltb}
-use lib.ListN.{length, getElem?, take, length-replicate}
-use borrow.Author.Tests.{le-ltb, ltb-false}
-use Rattle.lists.specs.Lists.{if_then_else_, Bytes, zeros, any, over}
-use Rattle.lists.proofs.Tests.{or-left, or-right}
+use lib.ListN.{length, take, length-replicate}
+use borrow.Author.Tests.{le-ltb}
+use Rattle.lists.specs.Lists.{Bytes, zeros, over}
+use Rattle.lists.proofs.Places.{place-mem}
+use Rattle.lists.proofs.Range.{any-none}
 use Rattle.lists.proofs.Over.{length-over, take-over}
-use Rattle.signal.specs.Signal.{Signal}
-use Rattle.gates.specs.Gate.{Form, XorN, XnorN, Gate, Comb, Dff}
+use Rattle.gates.specs.Gate.{Gate, Comb, Dff}
 use Rattle.gates.specs.Forms.{formed}
-use Rattle.network.specs.Net.{Net, GateIs, Valid, Loop}
-use Rattle.network.specs.Cells.{Lent, lent, netOf, isNetwork, Words, countsOf}
+use Rattle.network.specs.Net.{Net, GateIs}
+use Rattle.network.specs.Cells.{Lent, lent, netOf, Words, countsOf}
 use Rattle.network.specs.Clock.{NetRuns, zeroBits}
 use Rattle.network.specs.Settle.{run}
 use Rattle.network.proofs.Lent.{network-laid}
@@ -24,31 +22,18 @@ use Rattle.network.proofs.Summary.{one-run}
 use Rattle.blif_text.specs.Places.{maxText}
 use Rattle.blif_model.specs.Render.{textOf}
 use Rattle.blif_model.specs.Read.{read, readText}
-use Rattle.blif_model.specs.Write.{PlainGate}
+use Rattle.blif_model.specs.Write.{wide, PlainGate}
 use Rattle.blif_model.specs.Demand.{Good, SameOutputs}
 use Rattle.blif_model.proofs.ReadNet.{read-net}
 use Rattle.blif_model.proofs.Summary.{read-back}
 use Rattle.blif_read.specs.Into.{Lengths, readInto}
-use Rattle.blif_read.specs.declared.ReadAnswer.{ReadAnswer}
-use Rattle.blif_read.specs.declared.ReadAnswer.the-variants as reading
 use Rattle.blif_read.proofs.Summary.{read-counts}
 use Rattle.blif_read.proofs.CellsRead.{read-decodes}
 use Rattle.blif_write.specs.Into as writing
-use Rattle.blif_write.specs.Into.{exclusive, wide, tooLong, writtenText, refusedText, writeInto}
+use Rattle.blif_write.specs.Into.{writtenText, writeInto}
 use Rattle.round_trip.specs.Trip.{writtenLength, readAnswer, answerOf, Outcome, tripInto, Meets, ReadsBack}
-use Rattle.round_trip.specs.declared.TripAnswer.the-variants.{ReadBack}
 
 -- ---- the conditions are those of the theorem
-
--- there is no element
-no-some : {x : Gate} → none ≡ some x → ⊥
-no-some e = let z : _≡_ {A = ℕ} 0 1 = cc in omega (arith, z)
-
--- a gate that is not wide, where no gate is
-not-wide : (xs : List Gate) → any wide xs ≡ false → (g : ℕ) (x : Gate) → getElem? xs g ≡ some x → wide x ≡ false
-not-wide [] e g x i = absurd (no-some i)
-not-wide (y ∷ xs) e zero x i = let q : y ≡ x = cc in sym (ap wide q) ∙ or-left (wide y) (any wide xs) e
-not-wide (y ∷ xs) e (suc g) x i = not-wide xs (or-right (wide y) (any wide xs) e) g x i
 
 module _ {l : Lent} {n : ℕ} {m : Lengths} (w : Words l) (c : Meets l n m) where
   -- the network
@@ -63,8 +48,7 @@ module _ {l : Lent} {n : ℕ} {m : Lengths} (w : Words l) (c : Meets l n m) wher
         valid = k .1;
         free = c .free;
         plainGates = plain-gate (k .2);
-        narrowXor = λ g ps e. ltb-false 12 (length ps) (not-wide (netOf l .gates) (c .narrow) g (Comb XorN ps) e);
-        narrowXnor = λ g ps e. ltb-false 12 (length ps) (not-wide (netOf l .gates) (c .narrow) g (Comb XnorN ps) e);
+        narrow = λ g x e. any-none wide (netOf l .gates) (c .narrow) x (place-mem (netOf l .gates) g x e);
       }
     where
       plain-gate : ((g : ℕ) (x : Gate) → GateIs (netOf l) g x → formed x ≡ true) → (g : ℕ) (x : Gate) → GateIs (netOf l) g x → PlainGate x

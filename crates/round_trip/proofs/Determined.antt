@@ -1,50 +1,35 @@
 -- The answer and every cell are determined: what is written, then what is read of it. Assumes nothing.
-use mathlib.Core.Path.{_≡_, refl, sym, ap, _∙_, subst}
-use mathlib.Core.Bool.{Bool, true, false, not, _||_}
+use mathlib.Core.Path.{_≡_, sym, ap, _∙_, subst}
 use mathlib.Core.List.{List}
 use Prim.Native.Nat.{ℕ, _≤_}
 use native.Mathlib.Omega.{arith}
-use lib.Dec.{ltb}
 use lib.ListN.{length, take, length-replicate}
-use borrow.Author.Tests.{ltb-false}
-use Rattle.lists.specs.Lists.{if_then_else_, Bytes, zeros, any, over}
-use Rattle.lists.proofs.Tests.{or-left}
+use Rattle.lists.specs.Lists.{Bytes, zeros}
 use Rattle.lists.proofs.Over.{length-over}
-use Rattle.network.specs.Cells.{Lent, netOf, isNetwork, Words}
-use Rattle.blif_text.specs.Places.{maxText}
-use Rattle.blif_model.specs.Render.{textOf}
+use Rattle.network.specs.Cells.{Lent, netOf, Words}
 use Rattle.blif_read.specs.Into as reading
 use Rattle.blif_read.specs.Into.{Lengths, readInto}
 use Rattle.blif_read.specs.declared.ReadAnswer.{ReadAnswer}
 use Rattle.blif_write.specs.Into as writing
-use Rattle.blif_write.specs.Into.{wide, tooLong, refusedText, writtenText, writeInto}
+use Rattle.blif_write.specs.Into.{writeInto}
 use Rattle.blif_write.specs.declared.WriteAnswer.{WriteAnswer}
-use Rattle.round_trip.specs.Trip.{writtenLength, answerOf, Outcome, outcome, tripInto, Meets, ReadsBack, WritesThenReads}
+use Rattle.blif_write.proofs.Answers.{Ways, refuses, writes, writer-ways}
+use Rattle.round_trip.specs.Trip.{writtenLength, answerOf, Outcome, outcome, tripInto, ReadsBack, WritesThenReads}
 use Rattle.round_trip.specs.declared.TripAnswer.{TripAnswer}
 use Rattle.round_trip.proofs.Demand.{demand-three}
 
 -- what is written is within the slice
 pub written-within : (l : Lent) (n : ℕ) (a : WriteAnswer) (t : Bytes) → writing.outcome a t ≡ writeInto l n → (writtenLength a ≤ n) × (length t ≡ n)
-unfolding writeInto
-written-within l n a t e =
-    go (not (isNetwork l)) (any wide (netOf l .gates)) (ltb n (length (textOf (netOf l)))) refl (ltb maxText (length (textOf (netOf l)))) e
+written-within l n a t e = go (writer-ways l n)
   where
-    none : (k : ℕ) → writing.outcome a t ≡ refusedText k n → (writtenLength a ≤ n) × (length t ≡ n)
-    none k q = (
-      subst (λ (o : writing.Outcome). writtenLength (o .answer) ≤ n) (sym q) (omega arith),
-      ap (λ (o : writing.Outcome). length (o .out)) q ∙ length-replicate n 0,
+    go : Ways n (writeInto l n) → (writtenLength a ≤ n) × (length t ≡ n)
+    go (refuses k q) = (
+      subst (λ (o : writing.Outcome). writtenLength (o .answer) ≤ n) (sym (e ∙ q)) (omega arith),
+      ap (λ (o : writing.Outcome). length (o .out)) (e ∙ q) ∙ length-replicate n 0,
     )
-
-    go : (x y z : Bool) → ltb n (length (textOf (netOf l))) ≡ z → (v : Bool)
-        → writing.outcome a t ≡ (if x then refusedText 20 n else if y then refusedText 21 n else if z || v then refusedText 22 n else writtenText (textOf (netOf l)) n)
-        → (writtenLength a ≤ n) × (length t ≡ n)
-    go true y z p v q = none 20 q
-    go false true z p v q = none 21 q
-    go false false true p v q = none 22 q
-    go false false false p true q = none 22 q
-    go false false false p false q = (
-      subst (λ (o : writing.Outcome). writtenLength (o .answer) ≤ n) (sym q) (ltb-false n (length (textOf (netOf l))) p),
-      ap (λ (o : writing.Outcome). length (o .out)) q ∙ length-over (textOf (netOf l)) (zeros n) ∙ length-replicate n 0,
+    go (writes s h b q) = (
+      subst (λ (o : writing.Outcome). writtenLength (o .answer) ≤ n) (sym (e ∙ q)) h,
+      ap (λ (o : writing.Outcome). length (o .out)) (e ∙ q) ∙ length-over s (zeros n) ∙ length-replicate n 0,
     )
 
 -- the outcome of writing and then reading

@@ -1,5 +1,5 @@
 -- Demands 2 and 3, as a reviewer would read them; the definitions are in specs/Trip.antt. Assumes nothing.
-use mathlib.Core.Path.{_≡_, sym, ap, _∙_}
+use mathlib.Core.Path.{_≡_, sym, _∙_}
 use mathlib.Core.Bool.{Bool}
 use mathlib.Core.List.{List}
 use mathlib.Core.Logic.{_↔_}
@@ -14,7 +14,7 @@ use Rattle.network.proofs.Summary.{one-run}
 use Rattle.blif_model.specs.Blif.{BlifRuns}
 use Rattle.blif_model.specs.Render.{textOf, modelOfText}
 use Rattle.blif_model.specs.Read.{read, readText}
-use Rattle.blif_model.specs.Demand.{Good, SameOutputs}
+use Rattle.blif_model.specs.Demand.{Good}
 use Rattle.blif_model.proofs.ReadNet.{read-net}
 use Rattle.blif_model.proofs.Summary as model
 use Rattle.blif_read.specs.Into.{Lengths}

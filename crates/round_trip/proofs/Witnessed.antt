@@ -1,18 +1,18 @@
 -- The conditions of demand 3 can be met: the witness meets them. Assumes nothing.
 use mathlib.Core.Path.{_≡_, refl, sym, ap, _∙_, subst}
-use mathlib.Core.Bool.{Bool, true, false, true≢false, false≢true}
+use mathlib.Core.Bool.{Bool, true, false, false≢true}
 use mathlib.Core.List.{List, [], _∷_, flatMap, headD}
 use mathlib.Core.Option.{Option, none, some}
 use Prim.Native.Nat.{ℕ, zero, suc, _^_, _≤_, _<_}
 use native.Mathlib.Omega.{arith}
 use native.Mathlib.Decide.{ℕ-discrete}
-use lib.Dec.{ltb, leb}
-use lib.ListN.{length, getD, getElem?}
+use lib.Dec.{ltb}
+use lib.ListN.{length, getD}
 use borrow.Author.Tests.{ltb-true, leb-true}
 use Rattle.lists.specs.Lists.{all, any, same, hit}
 use Rattle.lists.proofs.Tests.{and-left, and-right}
 use Rattle.signal.specs.Signal.{zeroS, oneS}
-use Rattle.gates.specs.Gate.{FlipFlop, Gate, Comb, Dff}
+use Rattle.gates.specs.Gate.{FlipFlop, Dff}
 use Rattle.gates.specs.Forms.{gateFrom}
 use Rattle.network.specs.Net.{Net, GateIs, Loop}
 use Rattle.network.specs.Cells.{gateAt, gateCells, pinCells, sizesFit, recordsFit, allValid, isNetwork, netOf, Words}
@@ -21,12 +21,12 @@ use Rattle.sort_order.specs.Order.{uses, useCount, recorded, order, sortOrder}
 use Rattle.sort_order.specs.Sorted.{sorted}
 use Rattle.sort_order.proofs.Summary.{loop-exactly}
 use Rattle.blif_text.specs.Lines.{consFirst, split, dropCR, lines, cut, continues, before, joined, isBlank, nonEmpty, tokens}
-use Rattle.blif_text.specs.Statements.{modelOf, latchOf, stmtOf, parsedLine, parsed, firstBad, stmts}
-use Rattle.blif_text.specs.Decls.{cubes, decls, insOf, outsOf, defsOf, ins, outs, defs, coverOut, coverIns, defines, columns, output, isOne}
+use Rattle.blif_text.specs.Statements.{modelStmt, latchStmt, stmtOf, parsedLine, parsed, stmts}
+use Rattle.blif_text.specs.Decls.{cubes, decls, insOf, outsOf, defsOf, ins, outs, defs}
+use Rattle.blif_model.specs.Write.{wide}
 use Rattle.blif_model.specs.Render.{spaced, line, textOf}
 use Rattle.blif_model.specs.Read.{added, gateCount, pinCount, tooLarge, declsOf}
 use Rattle.blif_read.specs.Into.{enough}
-use Rattle.blif_write.specs.Into.{wide}
 use Rattle.round_trip.specs.Trip.{Meets}
 use Rattle.round_trip.specs.Witness.{flop, net, witness, cells}
 
@@ -69,7 +69,7 @@ free l =
 
 -- its text is within the sizes
 sized : tooLarge (declsOf (textOf net)) ≡ false
-unfolding ℕ-discrete flatMap headD same consFirst split dropCR lines cut continues before joined isBlank nonEmpty tokens modelOf latchOf stmtOf parsedLine parsed stmts cubes decls insOf outsOf defsOf ins outs defs spaced line added gateCount pinCount tooLarge declsOf
+unfolding ℕ-discrete flatMap headD same consFirst split dropCR lines cut continues before joined isBlank nonEmpty tokens modelStmt latchStmt stmtOf parsedLine parsed stmts cubes decls insOf outsOf defsOf ins outs defs spaced line added gateCount pinCount tooLarge declsOf
 sized = refl
 
 -- its one flip-flop is plain

@@ -9,21 +9,20 @@ use Prim.Native.Nat.{ℕ, _≤_}
 use lib.ListN.{length, take}
 use Rattle.lists.specs.Lists.{Bytes, zeros, any, over}
 use Rattle.signal.specs.Signal.{zeroS, oneS}
-use Rattle.gates.specs.Gate.{FlipFlop, Gate, Dff}
+use Rattle.gates.specs.Gate.{FlipFlop, Dff}
 use Rattle.network.specs.Net.{Net, GateIs, Loop}
 use Rattle.network.specs.Cells.{Lent, lent, netOf, isNetwork}
 use Rattle.network.specs.Clock.{NetRuns}
 use Rattle.network.specs.Settle.{run}
 use Rattle.network.specs.declared.Counts.{Counts}
 use Rattle.blif_text.specs.Places.{maxText}
+use Rattle.blif_model.specs.Write.{wide}
 use Rattle.blif_model.specs.Render.{textOf}
 use Rattle.blif_model.specs.Read.{tooLarge, declsOf}
-use Rattle.blif_read.specs.Into as reading
 use Rattle.blif_read.specs.Into.{Lengths, enough, readInto}
 use Rattle.blif_read.specs.declared.ReadAnswer.{ReadAnswer}
 use Rattle.blif_read.specs.declared.ReadAnswer.the-variants as read
-use Rattle.blif_write.specs.Into as writing
-use Rattle.blif_write.specs.Into.{wide, writeInto}
+use Rattle.blif_write.specs.Into.{writeInto}
 use Rattle.blif_write.specs.declared.WriteAnswer.{WriteAnswer}
 use Rattle.blif_write.specs.declared.WriteAnswer.the-variants as write
 use Rattle.round_trip.specs.declared.TripAnswer.{TripAnswer}

@@ -1,10 +1,9 @@
 -- A network that meets demand 3's conditions, with a flip-flop, an Xor, a Mux and an inverted output. Assumes nothing: these are
 -- definitions.
-use mathlib.Core.List.{List, [], _∷_, map}
-use Prim.Native.Nat.{ℕ}
-use Rattle.signal.specs.Signal.{Input, Gated, Signal, plain, zeroS, oneS, turned}
+use mathlib.Core.List.{[], _∷_, map}
+use Rattle.signal.specs.Signal.{Input, Gated, plain, zeroS, oneS, turned}
 use Rattle.signal.specs.Cell.{sigCell}
-use Rattle.gates.specs.Gate.{Mux3, XorN, FlipFlop, Gate, Comb, Dff}
+use Rattle.gates.specs.Gate.{Mux3, XorN, FlipFlop, Comb, Dff}
 use Rattle.network.specs.Net.{Net}
 use Rattle.network.specs.Cells.{Lent, lent, gateCells, pinCells, countsOf}
 use Rattle.blif_read.specs.Into.{Lengths, lengths}

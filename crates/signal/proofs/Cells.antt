@@ -11,8 +11,14 @@ use borrow.Author.Tests.{eq-eqb, ne-eqb, lt-ltb, le-ltb}
 use mir.Val.{boolByte}
 use Rattle.lists.proofs.Tests.{le-or-lt}
 use Rattle.signal.specs.Signal.{Node, Const, Input, Gated, Signal, plain, flip, xorS, turned, inputNode, constNode, gateNode}
-use Rattle.signal.specs.Cell.{bitOf, nodeCell, sigCell, nodeOf, sigOf, Small, gateCell, inputCell, gateNumber, inputNumber}
+use Rattle.signal.specs.Cell.{bitOf, nodeCell, sigCell, nodeOf, sigOf, gateCell, inputCell, gateNumber, inputNumber}
 use Rattle.signal.proofs.Bits.{xor-one}
+
+-- the numbers that a cell has room for: 2^30 − 1 gates and 2^30 inputs
+abbrev pub Small : Node → Type 0
+Small Const = Unit {0}
+Small (Gated v) = v < 2 ^ 30 - 1
+Small (Input v) = v < 2 ^ 30
 
 -- ---- the three kinds of cells
 

@@ -8,7 +8,8 @@ use lib.ListN.{length, getD}
 use borrow.Author.Tests.{lt-ltb, le-ltb}
 use Rattle.lists.proofs.Tests.{and-both, and-false}
 use Rattle.signal.specs.Signal.{Node, Const, Input, Gated, Signal, plain, flip, xorS, gateNode, remapNode, remap}
-use Rattle.signal.specs.Cell.{nodeCell, sigCell, nodeOf, sigOf, Small, gateNumber, remapCell}
+use Rattle.signal.specs.Cell.{nodeCell, sigCell, nodeOf, sigOf, gateNumber, remapCell}
+use Rattle.signal.proofs.Cells.{Small}
 use Rattle.signal.proofs.Cells.{gate-number, signal-again, cell-again}
 
 module _ (t : List ℕ) (c : ℕ) where

@@ -30,12 +30,6 @@ nodeOf c = cond (ltb c 2) Const (cond (ltb c (2 ^ 31)) (Gated (c / 2 - 1)) (Inpu
 abbrev pub sigOf : ℕ → Signal
 sigOf c = record { node = nodeOf c; inv = eqb (c % 2) 1 }
 
--- the numbers that a cell has room for: 2^30 − 1 gates and 2^30 inputs
-abbrev pub Small : Node → Type 0
-Small Const = Unit {0}
-Small (Gated v) = v < 2 ^ 30 - 1
-Small (Input v) = v < 2 ^ 30
-
 -- "Gate v is 2 × (v + 1)" in 32 bits, for every 32-bit v
 abbrev pub gateCell : ℕ → ℕ
 gateCell v = 2 * (v + 1) % 2 ^ 32

@@ -2,7 +2,7 @@
 ghost use mathlib.Core.Path.{_≡_};
 ghost use Prim.Native.Nat.{_*_, _/_, _%_, _^_};
 ghost use Rattle.signal.specs.Signal.{zeroS, oneS, plain, turned, xorS, inputNode, constNode, gateNode};
-ghost use Rattle.signal.specs.Cell.{sigCell, nodeCell, nodeOf, sigOf, gateCell, inputCell, gateNumber, inputNumber, remapCell};
+ghost use Rattle.signal.specs.Cell.{sigCell, nodeOf, sigOf, gateCell, inputCell, gateNumber, inputNumber, remapCell};
 
 // A constant, an input or a gate, or its complement: bit 0 is the inversion, bit 31 marks an input.
 pub struct Signal {

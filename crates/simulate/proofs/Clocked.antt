@@ -1,54 +1,29 @@
--- Laws for a clock as the program runs it: sweeps until the bits fit, steps and digits, and that this is a clock by the definition.
--- Assumes nothing.
+-- Laws for a clock as the program runs it: steps and digits, that this is a clock by the definition, and that without a loop the bits
+-- settle. Assumes nothing.
 use mathlib.Core.Path.{_≡_, refl, sym, ap, ap₂, _∙_, subst}
-use mathlib.Core.Bool.{Bool, true, false, not, cond, Bool·beq, true≢false}
+use mathlib.Core.Bool.{Bool, true, false}
 use mathlib.Core.List.{List, [], _∷_, map}
 use mathlib.Core.Logic.{⊎-elim}
 use mathlib.Core.Option.{Option, none, some}
 use Prim.Native.Nat.{ℕ, zero, suc, _+_, _≤_, _<_}
 use native.Mathlib.Omega.{arith}
-use native.Mathlib.Nat.{zero-add}
 use lib.Dec.{eqb}
-use lib.ListN.{length, getD, set, take, getElem?, length-set, length-map}
-use lib.Seq.{getD-set-same, getD-set-other, set-getD}
-use Rattle.lists.specs.Lists.{range}
+use lib.ListN.{length, getD, set, take, getElem?, replicate, length-set, length-replicate, getD-replicate, List·getD-eq-default}
+use lib.Seq.{getD-set-same, getD-set-other}
 use Rattle.lists.proofs.Counting.{last-or}
 use Rattle.lists.proofs.Places.{place-lt}
-use Rattle.lists.proofs.Range.{length-range, map-range}
+use Rattle.lists.proofs.Tests.{by-order}
 use Rattle.signal.specs.Signal.{Signal}
 use Rattle.signal.specs.Cell.{sigOf}
 use Rattle.gates.specs.Gate.{Gate}
-use Rattle.network.specs.Net.{GateIs}
-use Rattle.network.specs.Clock.{gateBit, nextBit, Clock}
-use Rattle.network.specs.Cells.{lent, netOf, gateAt, orBuf}
+use Rattle.network.specs.Net.{Net, GateIs, Loop}
+use Rattle.network.specs.Clock.{sigBit, gateBit, nextBit, Clock}
+use Rattle.network.specs.Settle.{bitAt, round, settle}
+use Rattle.network.specs.Cells.{maxGates, lent, netOf, gateAt, orBuf, cellGates}
 use Rattle.network.specs.declared.Counts.{Counts}
-use Rattle.simulate.specs.Bits.{bitsOf, signalBit, FitTo, FitWhen, SteppedTo, digitOf, ShownTo, Clocks}
-
--- ---- a sweep
-
-beq-same : (b x : Bool) → not (Bool·beq b x) ≡ false → b ≡ x
-beq-same true true e = refl
-beq-same true false e = absurd (true≢false e)
-beq-same false true e = absurd (true≢false e)
-beq-same false false e = refl
-
-module _ (cells pins : List ℕ) (row held : List Bool) where
-  fit-more : (bits : List Bool) (g : ℕ) → FitTo g cells pins row held bits → bitsOf bits g ≡ gateBit (signalBit row bits) (bitsOf held g) (orBuf (gateAt cells pins g))
-      → FitTo (g + 1) cells pins row held bits
-  fit-more bits g fit here j l =
-      ⊎-elim
-      (λ (e : j ≡ g). subst (λ (k : ℕ). bitsOf bits k ≡ gateBit (signalBit row bits) (bitsOf held k) (orBuf (gateAt cells pins k))) (sym e) here)
-      (λ (m : j < g). fit j m)
-      (last-or (let h : j < suc g = omega (arith, l) in h))
-
-  -- a gate whose bit was right already leaves the bits as they were
-  pub fit-same : (bits : List Bool) (g : ℕ) {b h x was now : Bool} {next : List Bool} → FitWhen false was g cells pins row held bits → h ≡ bitsOf held g
-      → b ≡ gateBit (signalBit row bits) h (orBuf (gateAt cells pins g)) → x ≡ getD bits g false → not (Bool·beq b x) ≡ false → next ≡ set bits g b → now ≡ was
-      → FitWhen false now (g + 1) cells pins row held next
-  fit-same bits g {b} {h} {x} fit eh eb ex same en ew f =
-      let is : getD bits g false ≡ b = sym (beq-same b x same ∙ ex) in
-      subst (FitTo (g + 1) cells pins row held) (sym (en ∙ ap (set bits g) (sym is) ∙ set-getD bits g false))
-      (fit-more bits g (fit (sym ew ∙ f)) (is ∙ eb ∙ ap (λ (y : Bool). gateBit (signalBit row bits) y (orBuf (gateAt cells pins g))) eh))
+use Rattle.network.proofs.GateRead.{cell-at, cell-count}
+use Rattle.network.proofs.OneChoice.{Ranked, ranked, settle-fits}
+use Rattle.simulate.specs.Bits.{bitsOf, signalBit, FitTo, Target, Settled, SteppedTo, bitDigit, ShownTo, Clocks}
 
 -- ---- the step
 
@@ -87,30 +62,30 @@ module _ {cells pins : List ℕ} {row bits held₀ : List Bool} where
 -- ---- the line
 
 module _ (outs : List ℕ) (row bits : List Bool) where
-  pub shown-next : (line next : List ℕ) {i w d : ℕ} {b : Bool} → ShownTo i outs row bits line → w ≡ getD outs i 0 → b ≡ signalBit row bits (sigOf w) → d ≡ digitOf b
+  pub shown-next : (line next : List ℕ) {i w d : ℕ} {b : Bool} → ShownTo i outs row bits line → w ≡ getD outs i 0 → b ≡ signalBit row bits (sigOf w) → d ≡ bitDigit b
       → next ≡ set line i d → ShownTo (i + 1) outs row bits next
   shown-next line next {i} {w} {d} {b} s ew eb ed en j l p =
       ⊎-elim
-      (λ (e : j ≡ i). subst (λ (k : ℕ). getD next k 0 ≡ digitOf (signalBit row bits (sigOf (getD outs k 0)))) (sym e) (here e))
+      (λ (e : j ≡ i). subst (λ (k : ℕ). getD next k 0 ≡ bitDigit (signalBit row bits (sigOf (getD outs k 0)))) (sym e) (here e))
       (λ (m : j < i). ap (λ (k : List ℕ). getD k j 0) en ∙ getD-set-other line i j d 0 (λ (e : j ≡ i). omega (arith, e, m)) ∙ s j m within)
       (last-or (let q : j < suc i = omega (arith, l) in q))
     where
       within : j < length line
       within = omega (arith, p, ap length en, length-set line i d)
 
-      here : j ≡ i → getD next i 0 ≡ digitOf (signalBit row bits (sigOf (getD outs i 0)))
+      here : j ≡ i → getD next i 0 ≡ bitDigit (signalBit row bits (sigOf (getD outs i 0)))
       here e =
           ap (λ (k : List ℕ). getD k i 0) en ∙ getD-set-same line i d 0 (omega (arith, e, within)) ∙ ed
-          ∙ ap digitOf (eb ∙ ap (λ (c : ℕ). signalBit row bits (sigOf c)) ew)
+          ∙ ap bitDigit (eb ∙ ap (λ (c : ℕ). signalBit row bits (sigOf c)) ew)
 
 -- ---- the clock
 
-digit-is : (b : Bool) (x : ℕ) → x ≡ digitOf b → eqb 49 x ≡ b
+digit-is : (b : Bool) (x : ℕ) → x ≡ bitDigit b → eqb 49 x ≡ b
 digit-is true x e = ap (eqb 49) e
 digit-is false x e = ap (eqb 49) e
 
 lines-are : (f : Signal → Bool) (n : ℕ) (line outs : List ℕ) → n ≤ length line → n ≤ length outs
-    → ((i : ℕ) → i < n → getD line i 0 ≡ digitOf (f (sigOf (getD outs i 0)))) → map (eqb 49) (take n line) ≡ map f (map sigOf (take n outs))
+    → ((i : ℕ) → i < n → getD line i 0 ≡ bitDigit (f (sigOf (getD outs i 0)))) → map (eqb 49) (take n line) ≡ map f (map sigOf (take n outs))
 lines-are f zero line outs a b h = refl
 lines-are f (suc n) [] outs a b h = absurd (omega arith)
 lines-are f (suc n) (x ∷ line) [] a b h = absurd (omega arith)
@@ -122,39 +97,74 @@ pub record Decodes (cells pins : List ℕ) (n g : ℕ) (x : Gate) : Type 0 where
   pub below : g < n
   pub decoded : x ≡ orBuf (gateAt cells pins g)
 
-decodes : (counts : Counts) (cells pins outs : List ℕ) (g : ℕ) (x : Gate) → GateIs (netOf (lent counts cells pins outs)) g x → Decodes cells pins (counts .gates) g x
-unfolding netOf
-decodes counts cells pins outs g x is = record { below = below; decoded = decoded }
+-- a number that is no gate's has the bit zero
+settle-past : (net : Net) (row : List Bool) (held : ℕ → Bool) (g : ℕ) → length (net .gates) ≤ g → settle net row held g ≡ false
+settle-past net row held g l = go (getElem? (net .gates) g) refl
   where
-    f : ℕ → Gate
-    f k = orBuf (gateAt cells pins k)
+    go : (o : Option Gate) → getElem? (net .gates) g ≡ o → bitAt (sigBit row (round net row held (length (net .gates)))) (held g) o ≡ false
+    go none e = refl
+    go (some x) e = absurd (omega (arith, place-lt (net .gates) g x e, l))
 
-    below : g < counts .gates
-    below =
-        let h : g < length (map f (range 0 (counts .gates))) = place-lt (map f (range 0 (counts .gates))) g x is in
-        omega (arith, h, length-map (range 0 (counts .gates)) f, length-range 0 (counts .gates))
+module _ (counts : Counts) (cells pins outs : List ℕ) where
+  abbrev here : Net
+  here = netOf (lent counts cells pins outs)
 
-    decoded : x ≡ f g
-    decoded =
-        let q : some x ≡ some (f (0 + g)) = sym is ∙ map-range f 0 (counts .gates) g below in
-        let r : x ≡ f (0 + g) = cc in
-        r ∙ ap f (zero-add g)
+  decodes : (g : ℕ) (x : Gate) → GateIs here g x → Decodes cells pins (counts .gates) g x
+  unfolding netOf
+  decodes g x is = record { below = below; decoded = decoded }
+    where
+      below : g < counts .gates
+      below = omega (arith, place-lt (cellGates cells pins 0 (counts .gates)) g x is, cell-count cells pins (counts .gates))
 
-pub clocks : (counts : Counts) (cells pins outs line shown : List ℕ) (row held next bits : List Bool) {settled : Bool}
-    → FitWhen true settled (counts .gates) cells pins row held bits → ShownTo (counts .outputs) outs row bits shown → length shown ≡ length line
-    → SteppedTo (counts .gates) cells pins row bits held next → Clocks counts cells pins outs row held line next shown settled
-unfolding netOf
-clocks counts cells pins outs line shown row held next bits fit show same step s gatesFit outsFit lineFit =
-    record {
-      bits = bitsOf bits;
-      fits = λ g x is.
-          let d = decodes counts cells pins outs g x is in
-          fit s g (d .below) ∙ ap (gateBit (signalBit row bits) (bitsOf held g)) (sym (d .decoded));
-      answers = answers;
-      steps = λ g x is.
-          let d = decodes counts cells pins outs g x is in
-          step g (d .below) (omega (arith, d .below, gatesFit)) ∙ ap (nextBit (signalBit row bits) (bitsOf held g)) (sym (d .decoded));
-    }
-  where
-    answers : map (eqb 49) (take (counts .outputs) shown) ≡ map (signalBit row bits) (netOf (lent counts cells pins outs) .outputs)
-    answers = lines-are (signalBit row bits) (counts .outputs) shown outs (omega (arith, same, lineFit)) outsFit (λ i l. show i l (omega (arith, l, same, lineFit)))
+      decoded : x ≡ orBuf (gateAt cells pins g)
+      decoded = let q : some x ≡ some (orBuf (gateAt cells pins g)) = sym is ∙ cell-at cells pins (counts .gates) g below in cc
+
+  clocked : (line shown : List ℕ) (row held next bits : List Bool) → FitTo (counts .gates) cells pins row held bits → ShownTo (counts .outputs) outs row bits shown
+      → length shown ≡ length line → SteppedTo (counts .gates) cells pins row bits held next → counts .gates ≤ length held → counts .outputs ≤ length outs
+      → counts .outputs ≤ length line → Clock here (bitsOf held) row (map (eqb 49) (take (counts .outputs) shown)) (bitsOf next)
+  unfolding netOf
+  clocked line shown row held next bits fit show same step gatesFit outsFit lineFit =
+      record {
+        bits = bitsOf bits;
+        fits = λ g x is. let d = decodes g x is in fit g (d .below) ∙ ap (gateBit (signalBit row bits) (bitsOf held g)) (sym (d .decoded));
+        answers = answers;
+        steps = λ g x is.
+            let d = decodes g x is in
+            step g (d .below) (omega (arith, d .below, gatesFit)) ∙ ap (nextBit (signalBit row bits) (bitsOf held g)) (sym (d .decoded));
+      }
+    where
+      answers : map (eqb 49) (take (counts .outputs) shown) ≡ map (signalBit row bits) (here .outputs)
+      answers = lines-are (signalBit row bits) (counts .outputs) shown outs (omega (arith, same, lineFit)) outsFit (λ i l. show i l (omega (arith, l, same, lineFit)))
+
+  -- the bits that fit a network with ranks, and these ranks
+  ranked-target : (row held : List Bool) (ranks : Ranked here) → Target (counts .gates) cells pins row held (settle here row (bitsOf held)) (ranks .rank)
+  unfolding netOf
+  ranked-target row held ranks =
+      record {
+        fits = λ g l. settle-fits here ranks row (bitsOf held) g (orBuf (gateAt cells pins g)) (cell-at cells pins (counts .gates) g l);
+        rises = λ g h f ps t l e m q u. ranks .rises g h f ps t (cell-at cells pins (counts .gates) g l ∙ ap some e) m q;
+      }
+
+  settles-free : {most : ℕ} {row held bits : List Bool} {settled : Bool}
+      → Settled (counts .gates) most cells pins row held (replicate maxGates false) bits settled
+      → (Loop here → ⊥) → counts .gates ≤ maxGates → counts .gates + 2 ≤ most → settled ≡ true
+  unfolding netOf
+  settles-free {most} {row} {held} s free few enough =
+      let ranks : Ranked here = ranked here free in
+      s .ends (settle here row (bitsOf held)) (ranks .rank) (ranked-target row held ranks) (omega (arith, few, length-replicate {A = Bool} maxGates false))
+      (λ g l. let u : ranks .rank g ≤ length (cellGates cells pins 0 (counts .gates)) = ranks .most g in omega (arith, u, cell-count cells pins (counts .gates)))
+      (λ g l. zeros g ∙ sym (settle-past here row (bitsOf held) g (omega (arith, l, cell-count cells pins (counts .gates)))))
+      enough
+    where
+      zeros : (g : ℕ) → bitsOf (replicate maxGates false) g ≡ false
+      zeros g =
+          by-order maxGates g
+          (λ l. List·getD-eq-default (replicate maxGates false) false {n = g} (omega (arith, l, length-replicate {A = Bool} maxGates false)))
+          (λ l. getD-replicate maxGates g false false l)
+
+  pub clocks : {most : ℕ} {line shown : List ℕ} {row held next bits : List Bool} {settled : Bool}
+      → Settled (counts .gates) most cells pins row held (replicate maxGates false) bits settled → ShownTo (counts .outputs) outs row bits shown
+      → length shown ≡ length line → SteppedTo (counts .gates) cells pins row bits held next
+      → Clocks counts most cells pins outs row held line next shown settled
+  clocks {most} {line} {shown} {row} {held} {next} {bits} s show same step =
+      record { clock = λ e. clocked line shown row held next bits (s .fit e) show same step; settles = settles-free s }

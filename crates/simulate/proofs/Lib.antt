@@ -1,2 +1,4 @@
 pub mod Bits
+pub mod GateBits
+pub mod Sweeping
 pub mod Clocked

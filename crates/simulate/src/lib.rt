@@ -6,6 +6,7 @@ use gates::Kind;
 use gates::NaryType;
 use gates::TernaryType;
 use gates::kind_of;
+use lists::cell_at;
 use network::Counts;
 use network::GATE_CELLS;
 use network::count_at;
@@ -14,7 +15,7 @@ use network::form_at;
 use network::gate_at;
 use signal::Signal;
 ghost use mathlib.Core.Path.{_≡_};
-ghost use mathlib.Core.Bool.{true, false, cond};
+ghost use mathlib.Core.Bool.{false, cond};
 ghost use mathlib.Core.List.{map};
 ghost use lib.ListN.{getD, set};
 ghost use Rattle.signal.specs.Cell.{sigOf};
@@ -22,7 +23,7 @@ ghost use Rattle.gates.specs.Gate.{ones, mux};
 ghost use Rattle.gates.specs.Forms.{gateOfKind, binaryForm, ternaryForm, naryForm};
 ghost use Rattle.network.specs.Clock.{gateBit, nextBit};
 ghost use Rattle.network.specs.Cells.{gateAt, orBuf};
-ghost use Rattle.simulate.specs.Bits.{signalBit, pinBits, Makes, MakesOfThree, NextOf, FitWhen, SteppedTo, ShownTo, digitOf, Clocks};
+ghost use Rattle.simulate.specs.Bits.{signalBit, pinBits, Makes, MakesOfThree, NextOf, Swept, Settled, SteppedTo, ShownTo, bitDigit, Clocks};
 
 // Bit i, zero past the end.
 fn bit_at(bits: &[bool], i: usize) -> bool
@@ -209,7 +210,7 @@ pub fn put_bit(bits: &mut [bool], i: usize, b: bool)
 }
 
 // Works out each gate's bit once, in gate order; answers whether one has changed.
-pub fn sweep(
+fn sweep(
     n: usize,
     gates: &[u32],
     pins: &[u32],
@@ -217,7 +218,7 @@ pub fn sweep(
     held: &[bool],
     bits: &mut [bool],
 ) -> bool
-    ensures { λ r. ⌜ FitWhen false r n (now (gates .entry)) (now (pins .entry)) (now (row .entry)) (now (held .entry)) (now (bits .exit)) ⌝ }
+    ensures { λ r. ⌜ Swept n (now (gates .entry)) (now (pins .entry)) (now (row .entry)) (now (held .entry)) (now (bits .entry)) (now (bits .exit)) r ⌝ }
 {
     let mut changed = false;
     for g in 0..n {
@@ -240,7 +241,7 @@ fn settle(
     held: &[bool],
     bits: &mut [bool],
 ) -> bool
-    ensures { λ r. ⌜ FitWhen true r n (now (gates .entry)) (now (pins .entry)) (now (row .entry)) (now (held .entry)) (now (bits .exit)) ⌝ }
+    ensures { λ r. ⌜ Settled n most (now (gates .entry)) (now (pins .entry)) (now (row .entry)) (now (held .entry)) (now (bits .entry)) (now (bits .exit)) r ⌝ }
 {
     for _ in 0..most {
         if !sweep(n, gates, pins, row, held, bits) {
@@ -271,22 +272,12 @@ fn put_byte(bytes: &mut [u8], i: usize, b: u8)
 
 // A bit as a digit.
 fn digit(b: bool) -> u8
-    ensures { λ r. ⌜ r ≡ digitOf b ⌝ }
+    ensures { λ r. ⌜ r ≡ bitDigit b ⌝ }
 {
     if b {
         return b'1';
     }
     b'0'
-}
-
-// Cell i, or zero if there is none.
-pub fn word_at(cells: &[u32], i: usize) -> u32
-    ensures { λ r. ⌜ r ≡ getD (now (cells .entry)) i 0 ⌝ }
-{
-    if i < cells.len() {
-        return cells[i];
-    }
-    0
 }
 
 // The outputs' bits in order, as digits.
@@ -295,13 +286,13 @@ fn show(n: usize, outputs: &[u32], row: &[bool], bits: &[bool], line: &mut [u8])
 {
     for i in 0..n {
         let s = Signal {
-            a: word_at(outputs, i),
+            a: cell_at(outputs, i),
         };
         put_byte(line, i, digit(sig_bit(row, bits, s)));
     }
 }
 
-// One clock: works the bits out in at most so many sweeps, takes the outputs, then steps what is held; answers whether the bits fit.
+// One clock: works the bits out in at most so many sweeps, takes the outputs, then steps what is held; answers whether the bits settled.
 pub fn clock(
     counts: Counts,
     most: usize,
@@ -312,7 +303,7 @@ pub fn clock(
     held: &mut [bool],
     line: &mut [u8],
 ) -> bool
-    ensures { λ r. ⌜ Clocks counts (now (gates .entry)) (now (pins .entry)) (now (outputs .entry)) (now (row .entry)) (now (held .entry)) (now (line .entry)) (now (held .exit)) (now (line .exit)) r ⌝ }
+    ensures { λ r. ⌜ Clocks counts most (now (gates .entry)) (now (pins .entry)) (now (outputs .entry)) (now (row .entry)) (now (held .entry)) (now (line .entry)) (now (held .exit)) (now (line .exit)) r ⌝ }
 {
     let mut bits = [false; 1024];
     let n = counts.gates;

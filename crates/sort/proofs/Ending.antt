@@ -31,8 +31,8 @@ use Rattle.sort.specs.Steps.{ordered, cellGraph, Numbers, Tabled, movedG
 use Rattle.sort_order.proofs.Ordering.{place, sort-length}
 use Rattle.sort_order.proofs.Sorting.{graph-valid, order-sorted, none-sorted, order-has, order-orders}
 use Rattle.sort_order.proofs.Keeps.{place-at, once, kept-pins}
-use Rattle.network.proofs.GateRead.{gate-is}
-use Rattle.sort.proofs.Reading.{cell-gate, net-gates, net-outputs, net-size, graph-cells, sortable-cells}
+use Rattle.network.proofs.GateRead.{gate-is, cell-gate}
+use Rattle.sort.proofs.Reading.{net-gates, net-outputs, net-size, graph-cells, sortable-cells}
 
 -- a list of cells, each a 32-bit number
 abbrev pub WordCells : List ℕ → Type 0

@@ -25,11 +25,11 @@ network-sortable l newGates newPins w e g p =
     let sizes = network-sizes l e in
     let used : l .counts .pins ≡ length (pinCells (netOf l .gates)) = ap (λ (c : Counts). c .pins) (laid .0 .counted) in
     record {
-      few = sizes .few-gates;
+      few = sizes .few .gates;
       readable = network-readable l w e;
       valid = laid .1;
       outputs = sizes .outs-lent;
-      fewPins = omega (arith, used, sizes .few-pins);
+      fewPins = omega (arith, used, sizes .few .pins);
       room = g;
       pinRoom = omega (arith, used, p);
     }

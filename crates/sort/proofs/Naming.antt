@@ -15,16 +15,16 @@ use Rattle.signal.specs.Cell.{nodeOf, sigOf, gateNumber}
 use Rattle.signal.proofs.Cells.{gate-number}
 use Rattle.network.specs.Cells.{maxPins}
 use Rattle.sort_order.specs.Sorted.{nodeGate, gateNums}
-use Rattle.sort.specs.Steps.{named, gateIns, Raised, Countable}
+use Rattle.sort.specs.Steps.{gateNamed, gateIns, Raised, Countable}
 
 -- ---- one cell
 
-pub named-gate : (s : ℕ) → gateNode (nodeOf s) ≡ true → named s ≡ gateNumber s ∷ []
-unfolding named
+pub named-gate : (s : ℕ) → gateNode (nodeOf s) ≡ true → gateNamed s ≡ gateNumber s ∷ []
+unfolding gateNamed
 named-gate s e = ap (λ (n : Node). nodeGate n []) (gate-number s e)
 
-pub named-none : (s : ℕ) → gateNode (nodeOf s) ≡ false → named s ≡ []
-unfolding named
+pub named-none : (s : ℕ) → gateNode (nodeOf s) ≡ false → gateNamed s ≡ []
+unfolding gateNamed
 named-none s e = go (nodeOf s) e
   where
     go : (n : Node) → gateNode n ≡ false → nodeGate n [] ≡ []
@@ -33,20 +33,20 @@ named-none s e = go (nodeOf s) e
     go (Gated g) p = absurd (true≢false p)
 
 -- a gate's number in hand: it is what the cell names
-pub occ-gate : (s : ℕ) {g : ℕ} → gateNode (nodeOf s) ≡ true → g ≡ gateNumber s → (v : ℕ) → occ v (named s) ≡ hit v g
+pub occ-gate : (s : ℕ) {g : ℕ} → gateNode (nodeOf s) ≡ true → g ≡ gateNumber s → (v : ℕ) → occ v (gateNamed s) ≡ hit v g
 occ-gate s e q v = omega (arith, ap (occ v) (named-gate s e), ap (hit v) q)
 
-pub occ-own : (s : ℕ) {g : ℕ} → gateNode (nodeOf s) ≡ true → g ≡ gateNumber s → occ g (named s) ≡ 1
+pub occ-own : (s : ℕ) {g : ℕ} → gateNode (nodeOf s) ≡ true → g ≡ gateNumber s → occ g (gateNamed s) ≡ 1
 occ-own s {g} e q = omega (arith, occ-gate s e q g, hit-same g)
 
-pub named-own : (s : ℕ) {d : ℕ} → gateNode (nodeOf s) ≡ true → d ≡ gateNumber s → named s ≡ d ∷ []
+pub named-own : (s : ℕ) {d : ℕ} → gateNode (nodeOf s) ≡ true → d ≡ gateNumber s → gateNamed s ≡ d ∷ []
 named-own s e q = rw q (named-gate s e)
 
 -- ---- a run
 
 -- the gates that a run names are those of its signals
 pub ins-nums : (cs : List ℕ) → gateIns cs ≡ gateNums (map sigOf cs)
-unfolding named
+unfolding gateNamed
 ins-nums [] = refl
 ins-nums (c ∷ cs) = go (nodeOf c) (gateIns cs) (gateNums (map sigOf cs)) (ins-nums cs)
   where
@@ -59,8 +59,8 @@ pub drop-next : (p : List ℕ) (i : ℕ) → i < length p → drop i p ≡ getD 
 drop-next p i h = rw add-one (drop-cons p i 0 h)
 
 -- one pin less to come
-occ-less : (v : ℕ) (p : List ℕ) (i : ℕ) → i < length p → occ v (gateIns (drop i p)) ≡ occ v (named (getD p i 0)) + occ v (gateIns (drop (i + 1) p))
-occ-less v p i h = rw (drop-next p i h) (occ-append v (named (getD p i 0)) (gateIns (drop (i + 1) p)))
+occ-less : (v : ℕ) (p : List ℕ) (i : ℕ) → i < length p → occ v (gateIns (drop i p)) ≡ occ v (gateNamed (getD p i 0)) + occ v (gateIns (drop (i + 1) p))
+occ-less v p i h = rw (drop-next p i h) (occ-append v (gateNamed (getD p i 0)) (gateIns (drop (i + 1) p)))
 
 -- ---- counts
 
@@ -78,7 +78,7 @@ raised-at c d v l =
     (λ w. omega (arith, w .1, getD-set-other c d v (getD c d 0 + 1) 0 (w .0)))
     (hit-or v d)
 
-pub raised-gate : (s : ℕ) {g : ℕ} {c : List ℕ} → gateNode (nodeOf s) ≡ true → g ≡ gateNumber s → g < length c → Raised (named s) c (set c g (getD c g 0 + 1))
+pub raised-gate : (s : ℕ) {g : ℕ} {c : List ℕ} → gateNode (nodeOf s) ≡ true → g ≡ gateNumber s → g < length c → Raised (gateNamed s) c (set c g (getD c g 0 + 1))
 raised-gate s {g} {c} e q l = record { each = λ v. omega (arith, raised-at c g v l, occ-gate s e q v) }
 
 pub raised-none : {ds c : List ℕ} → ds ≡ [] → Raised ds c c
@@ -102,14 +102,14 @@ pub counting-start : {pins c : List ℕ} → Countable (gateIns pins) c → Coun
 counting-start h = record { within = omega arith; long = refl; rest = λ v. refl; index = h .index; small = h .small }
 
 module _ {pins c₀ c : List ℕ} {i : ℕ} (l : i < length pins) (h : Counting pins c₀ c i) where
-  pub counting-asks : Countable (named (getD pins i 0)) c
+  pub counting-asks : Countable (gateNamed (getD pins i 0)) c
   counting-asks =
       record {
         index = λ v p. h .index v (omega (arith, occ-less v pins i l));
         small = λ v. omega (arith, h .small v, occ-less v pins i l);
       }
 
-  pub counting-next : {c′ : List ℕ} → length c′ ≡ length c → Raised (named (getD pins i 0)) c c′ → Counting pins c₀ c′ (i + 1)
+  pub counting-next : {c′ : List ℕ} → length c′ ≡ length c → Raised (gateNamed (getD pins i 0)) c c′ → Counting pins c₀ c′ (i + 1)
   counting-next k r =
       record {
         within = omega arith;

@@ -5,26 +5,23 @@ use mathlib.Core.List.{List, map}
 use mathlib.Core.Option.{Option, none, some}
 use Prim.Native.Nat.{ℕ, zero, suc, _+_, _*_, _≤_, _<_}
 use native.Mathlib.Omega.{arith}
-use native.Mathlib.Nat.{zero-add}
 use lib.Dec.{leb, ltb}
-use lib.ListN.{length, getElem?, take, length-map}
+use lib.ListN.{length, getElem?, take}
 use borrow.Author.Tests.{ltb-true, leb-true}
-use Rattle.lists.specs.Lists.{range}
 use Rattle.lists.proofs.Tests.{by-test, and-left, and-right}
-use Rattle.lists.proofs.Range.{length-range, map-range}
 use Rattle.signal.specs.Cell.{sigOf}
 use Rattle.gates.specs.Gate.{Gate, pins, isComb}
 use Rattle.gates.specs.Forms.{formCell, kindOf, gateFrom}
 use Rattle.gates.specs.Decode.{kindComb}
 use Rattle.gates.proofs.Forms.{comb-number}
-use Rattle.network.proofs.GateRead.{has-run, gate-is}
+use Rattle.network.proofs.GateRead.{has-run, gate-is, cell-gate, cell-count}
 use Rattle.network.specs.declared.Counts.{Counts}
-use Rattle.network.specs.Cells.{gateWidth, formAt, firstAt, countAt, runAt, gateAt, orBuf, lent, netOf, pinCells, HasRun}
+use Rattle.network.specs.Cells.{gateWidth, formAt, firstAt, countAt, runAt, gateAt, cellGates, lent, netOf, pinCells, HasRun}
 use Rattle.sort_order.specs.Order.{Graph, useCount}
 use Rattle.sort_order.specs.Sorted.{gateNums, combAt, insAt, graph}
 use Rattle.sort_order.specs.Sortable.{Sortable}
 use Rattle.sort_order.specs.Walk.{ValidGraph}
-use Rattle.sort.specs.Steps.{gateIns, formComb, cellGates, cellComb, cellIns, cellGraph, Cells}
+use Rattle.sort.specs.Steps.{gateIns, formComb, cellComb, cellIns, cellGraph, Cells}
 use Rattle.sort.proofs.Naming.{ins-nums}
 use Rattle.sort_order.proofs.Sorting.{graph-valid}
 use Rattle.sort_order.proofs.Keeps.{uses-within}
@@ -41,17 +38,8 @@ module _ (cells ps : List ℕ) (g : ℕ) (x : Gate) (e : gateAt cells ps g ≡ s
 
 -- ---- all gates
 
-pub cell-gate : (cells ps : List ℕ) (n g : ℕ) (x : Gate) → g < n → gateAt cells ps g ≡ some x → getElem? (cellGates cells ps n) g ≡ some x
-cell-gate cells ps n g x l e =
-    map-range (λ (k : ℕ). orBuf (gateAt cells ps k)) 0 n g l
-    ∙ ap (λ (k : ℕ). some (orBuf (gateAt cells ps k))) (zero-add g)
-    ∙ ap (λ (o : Option Gate). some (orBuf o)) e
-
-pub cell-count : (cells ps : List ℕ) (n : ℕ) → length (cellGates cells ps n) ≡ n
-cell-count cells ps n = length-map (range 0 n) (λ (k : ℕ). orBuf (gateAt cells ps k)) ∙ length-range 0 n
-
 module _ (n : Counts) (gs ps os : List ℕ) where
-  pub net-gates : netOf (lent n gs ps os) .gates ≡ cellGates gs ps (n .gates)
+  pub net-gates : netOf (lent n gs ps os) .gates ≡ cellGates gs ps 0 (n .gates)
   unfolding netOf
   net-gates = refl
 
@@ -68,8 +56,8 @@ module _ (n : Counts) (gs ps os : List ℕ) where
   graph-cells = λ i.
       record {
         size = cell-count gs ps (n .gates) i;
-        comb = λ g. combAt (getElem? (cellGates gs ps (n .gates)) g);
-        ins = λ g. insAt (getElem? (cellGates gs ps (n .gates)) g);
+        comb = λ g. combAt (getElem? (cellGates gs ps 0 (n .gates)) g);
+        ins = λ g. insAt (getElem? (cellGates gs ps 0 (n .gates)) g);
       }
 
   module _ {a b : ℕ} (s : Sortable (lent n gs ps os) a b) where

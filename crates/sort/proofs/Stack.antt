@@ -14,8 +14,8 @@ use Rattle.signal.specs.Signal.{gateNode}
 use Rattle.signal.specs.Cell.{nodeOf, gateNumber}
 use Rattle.network.specs.Cells.{maxGates}
 use Rattle.sort_order.specs.Order.{Graph, lowered, pushed, countsAfter, stackAfter}
-use Rattle.sort_order.specs.Walk.{Good}
-use Rattle.sort.specs.Steps.{named, gateIns, down, Walks, Lowers, Lowered}
+use Rattle.sort_order.specs.Walk.{WalkState}
+use Rattle.sort.specs.Steps.{gateNamed, gateIns, down, Walks, Lowers, Lowered}
 use Rattle.sort_order.proofs.Walk.{good-lower, next-below, next-count, next-fresh}
 use Rattle.sort.proofs.Naming.{named-gate, named-none, named-own, drop-next}
 
@@ -47,12 +47,12 @@ stackAfter-append [] b c st = refl
 stackAfter-append (d ∷ a) b c st = stackAfter-append a b (lowered c d) (pushed (getD c d 0 - 1) d st)
 
 -- the first of several inputs
-pub good-part : (G : Graph) (a b c st done : List ℕ) → Good G c st done (a ++ b) → Good G (countsAfter a c) (stackAfter a c st) done b
+pub good-part : (G : Graph) (a b c st done : List ℕ) → WalkState G c st done (a ++ b) → WalkState G (countsAfter a c) (stackAfter a c st) done b
 good-part G [] b c st done g = g
 good-part G (d ∷ a) b c st done g = good-part G a b (lowered c d) (pushed (getD c d 0 - 1) d st) done (good-lower G c st done d (a ++ b) g)
 
 -- there is room on the stack for the next input
-pub next-room : (G : Graph) (c st done : List ℕ) (d : ℕ) (rest : List ℕ) → Good G c st done (d ∷ rest) → length st < G .size
+pub next-room : (G : Graph) (c st done : List ℕ) (d : ℕ) (rest : List ℕ) → WalkState G c st done (d ∷ rest) → length st < G .size
 next-room G c st done d rest g =
     omega (
       arith,
@@ -75,18 +75,18 @@ walks-next c st s pins w =
       room = λ e. omega (arith, w .few, next-room (w .graph) c st (w .done) (gateNumber s) (gateIns pins) (g e));
     }
   where
-    g : gateNode (nodeOf s) ≡ true → Good (w .graph) c st (w .done) (gateNumber s ∷ gateIns pins)
+    g : gateNode (nodeOf s) ≡ true → WalkState (w .graph) c st (w .done) (gateNumber s ∷ gateIns pins)
     g e =
-        let q : named s ++ gateIns pins ≡ gateNumber s ∷ gateIns pins = ap (λ (l : List ℕ). l ++ gateIns pins) (named-gate s e) in
+        let q : gateNamed s ++ gateIns pins ≡ gateNumber s ∷ gateIns pins = ap (λ (l : List ℕ). l ++ gateIns pins) (named-gate s e) in
         rw q at (w .good)
 
-pub walks-after : (c st : List ℕ) (s : ℕ) (pins : List ℕ) (c′ st′ : List ℕ) → Walks c st (s ∷ pins) → Lowered (named s) c st c′ st′ → Walks c′ st′ pins
+pub walks-after : (c st : List ℕ) (s : ℕ) (pins : List ℕ) (c′ st′ : List ℕ) → Walks c st (s ∷ pins) → Lowered (gateNamed s) c st c′ st′ → Walks c′ st′ pins
 walks-after c st s pins c′ st′ w l =
     record {
       graph = w .graph;
       done = w .done;
       few = w .few;
-      good = rw (l .counts, l .stack) (good-part (w .graph) (named s) (gateIns pins) c st (w .done) (w .good));
+      good = rw (l .counts, l .stack) (good-part (w .graph) (gateNamed s) (gateIns pins) c st (w .done) (w .good));
     }
 
 -- ---- lowering one pin
@@ -98,17 +98,17 @@ pushed-more : (m d : ℕ) (st : List ℕ) → (m ≡ 0 → ⊥) → pushed m d s
 pushed-more zero d st e = absurd (e refl)
 pushed-more (suc m) d st e = refl
 
-pub lowered-none : (s : ℕ) {c st : List ℕ} → gateNode (nodeOf s) ≡ false → Lowered (named s) c st c st
+pub lowered-none : (s : ℕ) {c st : List ℕ} → gateNode (nodeOf s) ≡ false → Lowered (gateNamed s) c st c st
 lowered-none s e = record { counts = rw (named-none s e); stack = rw (named-none s e) }
 
-pub lowered-stay : (s : ℕ) {d : ℕ} {c st : List ℕ} → gateNode (nodeOf s) ≡ true → d ≡ gateNumber s → d < length c → (getD (lowered c d) d 0 ≡ 0 → ⊥) → Lowered (named s) c st (lowered c d) st
+pub lowered-stay : (s : ℕ) {d : ℕ} {c st : List ℕ} → gateNode (nodeOf s) ≡ true → d ≡ gateNumber s → d < length c → (getD (lowered c d) d 0 ≡ 0 → ⊥) → Lowered (gateNamed s) c st (lowered c d) st
 lowered-stay s {d} {c} {st} e q l z =
     record {
       counts = rw (named-own s e q);
       stack = rw (named-own s e q) (sym (pushed-more (getD c d 0 - 1) d st (λ y. z (getD-set-same c d (getD c d 0 - 1) 0 l ∙ y))));
     }
 
-pub lowered-push : (s : ℕ) {d : ℕ} {c st st′ : List ℕ} → gateNode (nodeOf s) ≡ true → d ≡ gateNumber s → d < length c → getD (lowered c d) d 0 ≡ 0 → st′ ≡ d ∷ st → Lowered (named s) c st (lowered c d) st′
+pub lowered-push : (s : ℕ) {d : ℕ} {c st st′ : List ℕ} → gateNode (nodeOf s) ≡ true → d ≡ gateNumber s → d < length c → getD (lowered c d) d 0 ≡ 0 → st′ ≡ d ∷ st → Lowered (gateNamed s) c st (lowered c d) st′
 lowered-push s {d} {c} {st} e q l z p =
     record {
       counts = rw (named-own s e q);
@@ -134,18 +134,18 @@ module _ {pins c₀ st₀ : List ℕ} {top : ℕ} {c st : List ℕ} {t i : ℕ} 
   lowering-asks = rw (length-down t st) at (walks-next c (down t st) (getD pins i 0) (drop (i + 1) pins) (rw (drop-next pins i l) at (h .walks)))
 
   pub lowering-next : {c′ st′ : List ℕ} {t′ : ℕ} → length c′ ≡ length c → length st′ ≡ length st
-      → Lowered (named (getD pins i 0)) c (down t st) c′ (down t′ st′) → Lowering pins c₀ st₀ top c′ st′ t′ (i + 1)
+      → Lowered (gateNamed (getD pins i 0)) c (down t st) c′ (down t′ st′) → Lowering pins c₀ st₀ top c′ st′ t′ (i + 1)
   lowering-next {c′} {st′} {t′} kc ks e =
       let s = getD pins i 0 in
       let r = gateIns (drop (i + 1) pins) in
-      let q : gateIns (drop i pins) ≡ named s ++ r = ap gateIns (drop-next pins i l) in
+      let q : gateIns (drop i pins) ≡ gateNamed s ++ r = ap gateIns (drop-next pins i l) in
       record {
         within = omega arith;
         counts-long = kc ∙ h .counts-long;
         stack-long = ks ∙ h .stack-long;
         walks = walks-after c (down t st) s (drop (i + 1) pins) c′ (down t′ st′) (rw (drop-next pins i l) at (h .walks)) e;
-        counts = rw (e .counts) (sym (countsAfter-append (named s) r c) ∙ (rw q at (h .counts)));
-        stack = rw (e .counts, e .stack) (sym (stackAfter-append (named s) r c (down t st)) ∙ (rw q at (h .stack)));
+        counts = rw (e .counts) (sym (countsAfter-append (gateNamed s) r c) ∙ (rw q at (h .counts)));
+        stack = rw (e .counts, e .stack) (sym (stackAfter-append (gateNamed s) r c (down t st)) ∙ (rw q at (h .stack)));
       }
 
 pub lowering-done : {pins c₀ st₀ : List ℕ} {top : ℕ} {c st : List ℕ} {t i : ℕ} → length pins ≤ i → Lowering pins c₀ st₀ top c st t i

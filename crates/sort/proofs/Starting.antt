@@ -15,7 +15,7 @@ use Rattle.lists.proofs.Counting.{hit-or}
 use Rattle.lists.proofs.Tests.{le-or-lt}
 use Rattle.network.specs.Cells.{maxGates}
 use Rattle.sort_order.specs.Order.{Graph, pushed, flopsTo, startTo}
-use Rattle.sort.specs.Steps.{flopMark, Flopped, unmarked, Started, Marked}
+use Rattle.sort.specs.Steps.{flopMark, Flopped, unmarked, Started, GatesMarked}
 use Rattle.sort.proofs.Stack.{down-push}
 use Rattle.sort.proofs.Uses.{getD-zeros}
 
@@ -113,7 +113,7 @@ flopped-same {comb} {comb′} {k} h f =
       marks = λ v. f .marks v ∙ mark-same comb comb′ k h v;
     }
 
-pub flopped-marked : (G : Graph) (o₀ m o : List ℕ) (k′ : ℕ) → Flopped (G .comb) (G .size) o₀ m o k′ → Marked G [] m
+pub flopped-marked : (G : Graph) (o₀ m o : List ℕ) (k′ : ℕ) → Flopped (G .comb) (G .size) o₀ m o k′ → GatesMarked G [] m
 flopped-marked G o₀ m o k′ h = record { each = λ v l. h .marks v ∙ mark-below (G .comb) (G .size) v l }
 
 -- ---- the first stack

@@ -11,15 +11,16 @@ use Rattle.lists.specs.Lists.{occ, listTo}
 use Rattle.lists.proofs.Counting.{hit-or, sum-occ, sum-le, length-listTo, getD-listTo}
 use Rattle.network.specs.Cells.{maxGates}
 use Rattle.sort_order.specs.Order.{Graph, uses, pushed, lowered, kept, countsAfter, stackAfter, walk, recorded, useCount}
-use Rattle.sort_order.specs.Walk.{ValidGraph, Good, budget}
-use Rattle.sort.specs.Steps.{gateIns, down, Lowered, Walks, Marked, Ready, Visited, Begins, Recorded}
+use Rattle.sort_order.specs.Walk.{ValidGraph, WalkState}
+use Rattle.sort_order.proofs.Walk.{budget}
+use Rattle.sort.specs.Steps.{gateIns, down, Lowered, Walks, GatesMarked, Ready, Visited, Begins, Recorded}
 use Rattle.sort_order.proofs.Walk.{good-lower, next-below, good-pop, good-all, budget-all, top-low, top-fresh, uses-comb, uses-flop}
 use Rattle.sort_order.proofs.WalkEnds.{good-start, budget-start}
 use Rattle.sort.proofs.Stack.{length-down}
 
 -- ---- lengths of the stack and of the recorded gates
 
-pub stack-short : (G : Graph) (c st done rest : List ℕ) → Good G c st done rest → length st ≤ G .size
+pub stack-short : (G : Graph) (c st done rest : List ℕ) → WalkState G c st done rest → length st ≤ G .size
 stack-short G c st done rest g =
     omega (
       arith,
@@ -27,7 +28,7 @@ stack-short G c st done rest g =
       sum-le (G .size) (λ v. occ v st) (λ v l. omega (arith, g .once v)),
     )
 
-pub done-short : (G : Graph) (c st done rest : List ℕ) → Good G c st done rest → length done ≤ G .size
+pub done-short : (G : Graph) (c st done rest : List ℕ) → WalkState G c st done rest → length done ≤ G .size
 done-short G c st done rest g =
     omega (
       arith,
@@ -37,17 +38,17 @@ done-short G c st done rest g =
 
 -- ---- the walk goes by the counts of the gates alone
 
-stack-same : (G : Graph) (rest c c′ st done : List ℕ) → Good G c st done rest → Good G c′ st done rest → stackAfter rest c st ≡ stackAfter rest c′ st
+stack-same : (G : Graph) (rest c c′ st done : List ℕ) → WalkState G c st done rest → WalkState G c′ st done rest → stackAfter rest c st ≡ stackAfter rest c′ st
 stack-same G [] c c′ st done g h = refl
 stack-same G (d ∷ rest) c c′ st done g h =
     let b = next-below G c st done d rest g in
     let q : getD c′ d 0 ≡ getD c d 0 = h .counted d b ∙ sym (g .counted d b) in
     let e : pushed (getD c′ d 0 - 1) d st ≡ pushed (getD c d 0 - 1) d st = ap (λ (x : ℕ). pushed (x - 1) d st) q in
-    let h′ : Good G (lowered c′ d) (pushed (getD c d 0 - 1) d st) done rest = rw e at (good-lower G c′ st done d rest h) in
+    let h′ : WalkState G (lowered c′ d) (pushed (getD c d 0 - 1) d st) done rest = rw e at (good-lower G c′ st done d rest h) in
     stack-same G rest (lowered c d) (lowered c′ d) (pushed (getD c d 0 - 1) d st) done (good-lower G c st done d rest g) h′
     ∙ ap (stackAfter rest (lowered c′ d)) (sym e)
 
-pub walk-same : (G : Graph) → ValidGraph G → (k : ℕ) (c c′ st done : List ℕ) → Good G c st done [] → Good G c′ st done [] → walk G k c st done ≡ walk G k c′ st done
+pub walk-same : (G : Graph) → ValidGraph G → (k : ℕ) (c c′ st done : List ℕ) → WalkState G c st done [] → WalkState G c′ st done [] → walk G k c st done ≡ walk G k c′ st done
 walk-same G valid zero c c′ st done g h = refl
 walk-same G valid (suc k) c c′ [] done g h = refl
 walk-same G valid (suc k) c c′ (x ∷ st) done g h =
@@ -55,7 +56,7 @@ walk-same G valid (suc k) c c′ (x ∷ st) done g h =
     let q = good-pop G valid c′ st done x h in
     let d = kept (G .comb x) x done in
     let e : stackAfter (uses G x) c′ st ≡ stackAfter (uses G x) c st = stack-same G (uses G x) c′ c st d q p in
-    let h′ : Good G (countsAfter (uses G x) c′) (stackAfter (uses G x) c st) d [] = rw e at (good-all G (uses G x) c′ st d q) in
+    let h′ : WalkState G (countsAfter (uses G x) c′) (stackAfter (uses G x) c st) d [] = rw e at (good-all G (uses G x) c′ st d q) in
     walk-same G valid k (countsAfter (uses G x) c) (countsAfter (uses G x) c′) (stackAfter (uses G x) c st) d (good-all G (uses G x) c st d p) h′
     ∙ ap (λ (s : List ℕ). walk G k (countsAfter (uses G x) c′) s d) (sym e)
 
@@ -80,7 +81,7 @@ mark-comb true r x e h = refl
 mark-comb false r x e h = absurd (omega arith)
 
 module _ (G : Graph) (valid : ValidGraph G) (few : G .size ≤ maxGates) (c m st : List ℕ) (top : ℕ) (o : List ℕ) (at : ℕ) (p : 0 < top) (r : Ready G c m st top o at) where
-  pub top-good : Good G c (getD st (top - 1) 0 ∷ down (top - 1) st) (r .done) []
+  pub top-good : WalkState G c (getD st (top - 1) 0 ∷ down (top - 1) st) (r .done) []
   top-good = rw (down-pop top st p) at (r .good)
 
   pub top-few : top ≤ G .size
@@ -114,7 +115,7 @@ module _ (G : Graph) (valid : ValidGraph G) (few : G .size ≤ maxGates) (c m st
       }
 
   -- the gate is recorded
-  v-good : getD m (getD st (top - 1) 0) 0 ≡ 0 → Good G c (down (top - 1) st) (getD st (top - 1) 0 ∷ r .done) (G .ins (getD st (top - 1) 0))
+  v-good : getD m (getD st (top - 1) 0) 0 ≡ 0 → WalkState G c (down (top - 1) st) (getD st (top - 1) 0 ∷ r .done) (G .ins (getD st (top - 1) 0))
   v-good z =
       let v = getD st (top - 1) 0 in
       let e = v-comb z in
@@ -156,7 +157,7 @@ pub record Walking (G : Graph) (o₀ c m st : List ℕ) (top : ℕ) (o : List �
   pub enough : budget G c (down top st) ≤ left
   pub leads : walk G left c (down top st) (ready .done) ≡ recorded G
 
-marked-next : (G : Graph) (v : ℕ) (done m : List ℕ) (b : Bool) → G .comb v ≡ b → v < length m → occ v done ≡ 0 → Marked G done m → Marked G (kept b v done) (cond b (set m v 1) m)
+marked-next : (G : Graph) (v : ℕ) (done m : List ℕ) (b : Bool) → G .comb v ≡ b → v < length m → occ v done ≡ 0 → GatesMarked G done m → GatesMarked G (kept b v done) (cond b (set m v 1) m)
 marked-next G v done m false e l z h = h
 marked-next G v done m true e l z h =
     record {
@@ -196,10 +197,10 @@ module _ (G : Graph) (valid : ValidGraph G) (few : G .size ≤ maxGates) (o₀ c
   abbrev now-done : List ℕ
   now-done = kept (G .comb (getD st (top - 1) 0)) (getD st (top - 1) 0) (w .ready .done)
 
-  popped : Good G c (down (top - 1) st) now-done (uses G (getD st (top - 1) 0))
+  popped : WalkState G c (down (top - 1) st) now-done (uses G (getD st (top - 1) 0))
   popped = good-pop G valid c (down (top - 1) st) (w .ready .done) (getD st (top - 1) 0) (top-good G valid few c m st top o at p (w .ready))
 
-  next-good : Good G c′ (down top′ st′) now-done []
+  next-good : WalkState G c′ (down top′ st′) now-done []
   next-good = rw (x .lowered .counts, x .lowered .stack) (good-all G (uses G (getD st (top - 1) 0)) c (down (top - 1) st) now-done popped)
 
   pub next-budget : budget G c (down top st) ≡ suc (budget G c′ (down top′ st′))
@@ -211,7 +212,7 @@ module _ (G : Graph) (valid : ValidGraph G) (few : G .size ≤ maxGates) (o₀ c
   comb-pos e =
       let v = getD st (top - 1) 0 in
       let f : now-done ≡ v ∷ w .ready .done = rw e in
-      let g : Good G c (down (top - 1) st) (v ∷ w .ready .done) (uses G v) = rw f at popped in
+      let g : WalkState G c (down (top - 1) st) (v ∷ w .ready .done) (uses G v) = rw f at popped in
       omega (arith, done-short G c (down (top - 1) st) (v ∷ w .ready .done) (uses G v) g, w .ready .room)
 
   next-ready : length c′ ≡ length c → length m′ ≡ length m → length st′ ≡ length st → length o′ ≡ length o → Ready G c′ m′ st′ top′ o′ at′
@@ -267,9 +268,9 @@ walking-start G valid o c m st top b few =
     let long : G .size ≤ length c = omega (arith, b .long .counts) in
     let same : (v : ℕ) → v < G .size → getD c v 0 ≡ useCount G v = λ v _. b .counted .each v in
     let e = b .first in
-    let g : Good G c (down top st) [] [] = rw e (good-start G c same long) in
+    let g : WalkState G c (down top st) [] [] = rw e (good-start G c same long) in
     let c′ = listTo (G .size) (useCount G) in
-    let h : Good G c′ (down top st) [] [] = rw e (good-start G c′ (λ v b. getD-listTo (G .size) (useCount G) v b) (omega (arith, length-listTo (G .size) (useCount G)))) in
+    let h : WalkState G c′ (down top st) [] [] = rw e (good-start G c′ (λ v b. getD-listTo (G .size) (useCount G) v b) (omega (arith, length-listTo (G .size) (useCount G)))) in
     record {
       ready = record { done = []; long = b .long; good = g; marked = b .marked; room = omega arith };
       same = refl;

@@ -6,43 +6,38 @@ use mathlib.Core.Option.{Option, none, some}
 use Prim.Native.Nat.{ℕ, zero, suc, _+_, _-_, _*_, _≤_, _<_}
 use lib.Dec.{eqb, ltb}
 use lib.ListN.{length, getD, getElem?, take, drop, set}
-use Rattle.lists.specs.Lists.{occ, sumTo, range, over, overAt}
+use Rattle.lists.specs.Lists.{occ, sumTo, over, overAt}
 use Rattle.signal.specs.Signal.{gateNode}
 use Rattle.signal.specs.Cell.{nodeOf, gateNumber, gateCell, remapCell}
-use Rattle.gates.specs.Gate.{Gate}
 use Rattle.gates.specs.Forms.{kindOf}
 use Rattle.gates.specs.Decode.{kindComb}
-use Rattle.network.specs.Cells.{gateWidth, maxGates, maxPins, formAt, firstAt, countAt, runAt, gateAt, orBuf, HasRun}
+use Rattle.network.specs.Cells.{gateWidth, maxGates, maxPins, formAt, firstAt, countAt, runAt, cellGates, HasRun}
 use Rattle.sort_order.specs.Order.{Graph, uses, useCount, countsAfter, stackAfter, flopsTo, startTo, recorded}
 use Rattle.sort_order.specs.Sorted.{nodeGate, combAt, insAt}
-use Rattle.sort_order.specs.Walk.{ValidGraph, Good}
+use Rattle.sort_order.specs.Walk.{ValidGraph, WalkState}
 
 -- ---- what cells name
 
 -- the gate that a cell's signal names, where it names one
-unfoldable pub named : ℕ → List ℕ
-named c = nodeGate (nodeOf c) []
+unfoldable pub gateNamed : ℕ → List ℕ
+gateNamed c = nodeGate (nodeOf c) []
 
 -- the gates that a run of cells names, in order and with repeats
 abbrev pub gateIns : List ℕ → List ℕ
 gateIns [] = []
-gateIns (c ∷ cs) = named c ++ gateIns cs
+gateIns (c ∷ cs) = gateNamed c ++ gateIns cs
 
 -- gate g's form number is that of a combinational gate
 unfoldable pub formComb : List ℕ → ℕ → Bool
 formComb gates g = kindComb (kindOf (formAt gates g))
 
--- the gates of n records
-abbrev pub cellGates : List ℕ → List ℕ → ℕ → List Gate
-cellGates gates pins n = map (λ (g : ℕ). orBuf (gateAt gates pins g)) (range 0 n)
-
 -- which of n gates in cells are combinational
 unfoldable pub cellComb : List ℕ → List ℕ → ℕ → ℕ → Bool
-cellComb gates pins n g = combAt (getElem? (cellGates gates pins n) g)
+cellComb gates pins n g = combAt (getElem? (cellGates gates pins 0 n) g)
 
 -- the gate inputs of n gates in cells
 unfoldable pub cellIns : List ℕ → List ℕ → ℕ → ℕ → List ℕ
-cellIns gates pins n g = insAt (getElem? (cellGates gates pins n) g)
+cellIns gates pins n g = insAt (getElem? (cellGates gates pins 0 n) g)
 
 -- what the sort sees of n gates in cells
 abbrev pub cellGraph : List ℕ → List ℕ → ℕ → Graph
@@ -114,7 +109,7 @@ pub record Walks (c st pins : List ℕ) : Type 0 where
   -- "1,024 gates"
   pub few : graph .size ≤ maxGates
   -- counts and stack fit them
-  pub good : Good graph c st done (gateIns pins)
+  pub good : WalkState graph c st done (gateIns pins)
 
 -- the marks once the flip-flops below k are marked
 unfoldable pub flopMark : (ℕ → Bool) → ℕ → ℕ → ℕ
@@ -145,7 +140,7 @@ pub record Started (m c : List ℕ) (k : ℕ) (st : List ℕ) (top : ℕ) : Type
 -- ---- visits
 
 -- a recorded gate and a flip-flop are marked
-pub record Marked (G : Graph) (done m : List ℕ) : Type 0 where
+pub record GatesMarked (G : Graph) (done m : List ℕ) : Type 0 where
   -- 1 for these, 0 for the others
   pub each : (v : ℕ) → v < G .size → getD m v 0 ≡ cond (G .comb v) (occ v done) 1
 
@@ -167,9 +162,9 @@ pub record Ready (G : Graph) (c m st : List ℕ) (top : ℕ) (o : List ℕ) (at 
   -- there are cells for all
   pub long : Long (G .size) c m st o
   -- counts and stack fit them
-  pub good : Good G c (down top st) done []
+  pub good : WalkState G c (down top st) done []
   -- marks fit them
-  pub marked : Marked G done m
+  pub marked : GatesMarked G done m
   -- there is a place for each gate to come
   pub room : at + length done ≡ G .size
 
@@ -191,7 +186,7 @@ pub record Begins (G : Graph) (c m st : List ℕ) (top : ℕ) (o : List ℕ) : T
   -- uses are counted
   pub counted : Counted G c
   -- flip-flops are marked
-  pub marked : Marked G [] m
+  pub marked : GatesMarked G [] m
   -- the stack holds the combinational gates of count zero
   pub first : down top st ≡ startTo (G .comb) (useCount G) (G .size)
 

@@ -4,17 +4,17 @@ use network::GATE_CELLS;
 use network::check_layout;
 use signal::Signal;
 ghost use mathlib.Core.Path.{_≡_};
-ghost use mathlib.Core.List.{List, [], _∷_, map};
+ghost use mathlib.Core.List.{List, map};
 ghost use Prim.Native.Nat.{ℕ, _+_, _-_, _*_, _≤_, _<_};
 ghost use lib.ListN.{length, getD, take, replicate};
 ghost use Rattle.lists.specs.Lists.{over, overAt};
 ghost use Rattle.signal.specs.Cell.{remapCell};
-ghost use Rattle.network.specs.Cells.{gateWidth, maxGates, maxPins, runAt, lent, netOf, HasRun};
+ghost use Rattle.network.specs.Cells.{gateWidth, maxGates, runAt, lent, netOf, HasRun};
 ghost use Rattle.sort_order.specs.Order.{uses, sortOrder};
 ghost use Rattle.sort_order.specs.Sorted.{sorted};
 ghost use Rattle.sort.specs.Into.{outcome, sortInto, sortLent};
 ghost use Rattle.sort_order.specs.Sortable.{Sortable};
-ghost use Rattle.sort.specs.Steps.{named, gateIns, formComb, cellGraph, Cells, Raised, Countable, Counted};
+ghost use Rattle.sort.specs.Steps.{gateNamed, gateIns, formComb, cellGraph, Cells, Raised, Countable, Counted};
 ghost use Rattle.sort.specs.Steps.{down, Lowered, Lowers, Walks, Flopped, Started, Ready, Visited, Begins, Recorded, ordered};
 ghost use Rattle.sort.specs.Steps.{Numbers, Tabled, RoomFor, GateMoved, Movable, Moved, Renewed};
 
@@ -56,8 +56,8 @@ fn gate_pins<'a, 'b>(gates: &'a [u32], pins: &'b [u32], g: usize) -> &'b [u32]
 
 // Counts one pin.
 fn add_use(s: u32, counts: &mut [u32])
-    requires { ⌜ Countable (named s) (now counts) ⌝ }
-    ensures { λ r. ⌜ Raised (named s) (now (counts .entry)) (now (counts .exit)) ⌝ }
+    requires { ⌜ Countable (gateNamed s) (now counts) ⌝ }
+    ensures { λ r. ⌜ Raised (gateNamed s) (now (counts .entry)) (now (counts .exit)) ⌝ }
 {
     let signal = Signal { a: s };
     if signal.is_var() {
@@ -109,7 +109,7 @@ fn count_uses(gates: &[u32], pins: &[u32], n: usize, counts: &mut [u32])
 fn lower_use(s: u32, counts: &mut [u32], stack: &mut [u32], top: usize) -> usize
     requires { ⌜ (length (now counts) ≡ maxGates) × (length (now stack) ≡ maxGates) ⌝ }
     requires { ⌜ Lowers s (now counts) top ⌝ }
-    ensures { λ r. ⌜ Lowered (named s) (now (counts .entry)) (down top (now (stack .entry))) (now (counts .exit)) (down r (now (stack .exit))) ⌝ }
+    ensures { λ r. ⌜ Lowered (gateNamed s) (now (counts .entry)) (down top (now (stack .entry))) (now (counts .exit)) (down r (now (stack .exit))) ⌝ }
 {
     let signal = Signal { a: s };
     if !signal.is_var() {

@@ -12,7 +12,8 @@ use borrow.Author.Tests.{eq-eqb, ne-eqb}
 use Rattle.lists.specs.Lists.{hit, occ, sumTo}
 use Rattle.lists.proofs.Counting.{hit-or, sum-le, sum-occ, all-one, some-zero, part-of, zero-or, occ-append}
 use Rattle.sort_order.specs.Order.{Graph, uses, flopsTo, recorded, order, sortOrder, walk, countsAfter, stackAfter, kept}
-use Rattle.sort_order.specs.Walk.{ValidGraph, Before, Good, usesLeft, left, budget}
+use Rattle.sort_order.specs.Walk.{ValidGraph, Before, WalkState, usesLeft, left}
+use Rattle.sort_order.proofs.Walk.{budget}
 use Rattle.sort_order.proofs.Walk.{Ended, uses-comb, uses-ins, good-pop, good-all, budget-all}
 use Rattle.sort_order.proofs.WalkEnds.{flop-only, flop-has, recorded-ended}
 
@@ -41,7 +42,7 @@ bool-or false = inr refl
 
 -- ---- more pops change nothing
 
-pub walk-enough : (G : Graph) → ValidGraph G → (k j : ℕ) (c st done : List ℕ) → Good G c st done [] → budget G c st ≤ k → budget G c st ≤ j → walk G k c st done ≡ walk G j c st done
+pub walk-enough : (G : Graph) → ValidGraph G → (k j : ℕ) (c st done : List ℕ) → WalkState G c st done [] → budget G c st ≤ k → budget G c st ≤ j → walk G k c st done ≡ walk G j c st done
 walk-enough G valid zero zero c st done g l m = refl
 walk-enough G valid zero (suc j) c [] done g l m = refl
 walk-enough G valid zero (suc j) c (x ∷ st) done g l m = absurd (omega arith)
@@ -131,7 +132,7 @@ module _ (G : Graph) (valid : ValidGraph G) where
   abbrev ended : Ended G done
   ended = recorded-ended G valid
 
-  abbrev good : Good G (ended .counts) [] done []
+  abbrev good : WalkState G (ended .counts) [] done []
   good = ended .good
 
   pub order-occ : (v : ℕ) → occ v (order G) ≡ occ v flops + occ v done

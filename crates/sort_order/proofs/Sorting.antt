@@ -13,7 +13,8 @@ use Rattle.lists.proofs.Places.{place-lt}
 use Rattle.signal.specs.Signal.{Node, Const, Input, Gated, Signal}
 use Rattle.gates.specs.Gate.{Form, Gate, Comb, Dff, pins}
 use Rattle.network.specs.Net.{Net, Valid, ValidNode, Feeds, Way, last, Loop}
-use Rattle.network.specs.Renumber.{permuted, placeOf, Orders, Renumbered}
+use Rattle.network.specs.Renumber.{permuted, placeOf, Renumbered}
+use Rattle.network.proofs.Permuting.{Orders}
 use Rattle.network.proofs.OneChoice.{way-snoc}
 use Rattle.network.proofs.Permuting.{permuted-renumbers}
 use Rattle.sort_order.specs.Order.{sortOrder}

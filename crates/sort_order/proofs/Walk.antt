@@ -7,10 +7,19 @@ use Prim.Native.Nat.{ℕ, zero, suc, _+_, _-_, _≤_, _<_}
 use native.Mathlib.Omega.{arith}
 use lib.ListN.{length, getD, length-set}
 use lib.Seq.{getD-set-same, getD-set-other}
-use Rattle.lists.specs.Lists.{hit, occ}
+use Rattle.lists.specs.Lists.{sumTo, hit, occ}
 use Rattle.lists.proofs.Counting.{hit-ne, hit-or, hit-same, sum-point, part-le, zero-or}
 use Rattle.sort_order.specs.Order.{Graph, uses, lowered, pushed, countsAfter, stackAfter, kept, walk}
-use Rattle.sort_order.specs.Walk.{ValidGraph, pos, left, usesLeft, Good, budget}
+use Rattle.sort_order.specs.Walk.{ValidGraph, left, usesLeft, WalkState}
+
+-- 1 of a number that is not 0
+abbrev pub pos : ℕ → ℕ
+pos zero = 0
+pos (suc k) = 1
+
+-- pops that are left at most
+abbrev pub budget : Graph → List ℕ → List ℕ → ℕ
+budget G c st = length st + sumTo (G .size) (λ v. pos (getD c v 0))
 
 -- ---- one input
 
@@ -28,7 +37,7 @@ lowered-at c d v l =
     (λ w. omega (arith, w .1, getD-set-other c d v (getD c d 0 - 1) 0 (w .0)))
     (hit-or v d)
 
-module _ (G : Graph) (c st done : List ℕ) (d : ℕ) (rest : List ℕ) (g : Good G c st done (d ∷ rest)) where
+module _ (G : Graph) (c st done : List ℕ) (d : ℕ) (rest : List ℕ) (g : WalkState G c st done (d ∷ rest)) where
   -- d is a gate, its count is not zero, and it is neither on the stack nor recorded
   pub next-below : d < G .size
   next-below = g .ins d (omega (arith, hit-same d))
@@ -45,7 +54,7 @@ module _ (G : Graph) (c st done : List ℕ) (d : ℕ) (rest : List ℕ) (g : Goo
   same-as : {v : ℕ} → v ≡ d → (getD c v 0 ≡ getD c d 0) × (occ v st + occ v done ≡ 0)
   same-as {v} e = (ap (λ (x : ℕ). getD c x 0) e, rw e next-fresh)
 
-  good-push : (m : ℕ) → getD c d 0 - 1 ≡ m → Good G (lowered c d) (pushed m d st) done rest
+  good-push : (m : ℕ) → getD c d 0 - 1 ≡ m → WalkState G (lowered c d) (pushed m d st) done rest
   good-push zero e =
       record {
         long = rw length-set (g .long);
@@ -78,7 +87,7 @@ module _ (G : Graph) (c st done : List ℕ) (d : ℕ) (rest : List ℕ) (g : Goo
         ins = λ v p. g .ins v (omega arith);
       }
 
-  pub good-lower : Good G (lowered c d) (pushed (getD c d 0 - 1) d st) done rest
+  pub good-lower : WalkState G (lowered c d) (pushed (getD c d 0 - 1) d st) done rest
   good-lower = good-push (getD c d 0 - 1) refl
 
   budget-push : (m : ℕ) → getD c d 0 - 1 ≡ m → budget G (lowered c d) (pushed m d st) ≡ budget G c st
@@ -106,11 +115,11 @@ module _ (G : Graph) (c st done : List ℕ) (d : ℕ) (rest : List ℕ) (g : Goo
 
 -- ---- all inputs of a gate
 
-pub good-all : (G : Graph) (rest c st done : List ℕ) → Good G c st done rest → Good G (countsAfter rest c) (stackAfter rest c st) done []
+pub good-all : (G : Graph) (rest c st done : List ℕ) → WalkState G c st done rest → WalkState G (countsAfter rest c) (stackAfter rest c st) done []
 good-all G [] c st done g = g
 good-all G (d ∷ rest) c st done g = good-all G rest (lowered c d) (pushed (getD c d 0 - 1) d st) done (good-lower G c st done d rest g)
 
-pub budget-all : (G : Graph) (rest c st done : List ℕ) → Good G c st done rest → budget G (countsAfter rest c) (stackAfter rest c st) ≡ budget G c st
+pub budget-all : (G : Graph) (rest c st done : List ℕ) → WalkState G c st done rest → budget G (countsAfter rest c) (stackAfter rest c st) ≡ budget G c st
 budget-all G [] c st done g = refl
 budget-all G (d ∷ rest) c st done g =
     budget-all G rest (lowered c d) (pushed (getD c d 0 - 1) d st) done (good-lower G c st done d rest g) ∙ budget-lower G c st done d rest g
@@ -147,7 +156,7 @@ usesLeft-record G x done l e v =
     let q : occ g done ≡ occ g (x ∷ done) = omega (arith, hit-ne z) in
     ap (λ (r : ℕ). left r (occ v (uses G g))) q)
 
-module _ (G : Graph) (valid : ValidGraph G) (c st done : List ℕ) (x : ℕ) (g : Good G c (x ∷ st) done []) where
+module _ (G : Graph) (valid : ValidGraph G) (c st done : List ℕ) (x : ℕ) (g : WalkState G c (x ∷ st) done []) where
   pub top-low : (x < G .size) × (getD c x 0 ≡ 0)
   top-low = g .low x (omega (arith, hit-same x))
 
@@ -171,7 +180,7 @@ module _ (G : Graph) (valid : ValidGraph G) (c st done : List ℕ) (x : ℕ) (g 
       (λ q. q)
       (zero-or (occ u done))
 
-  good-kept : (b : Bool) → G .comb x ≡ b → Good G c st (kept b x done) (uses G x)
+  good-kept : (b : Bool) → G .comb x ≡ b → WalkState G c st (kept b x done) (uses G x)
   good-kept true e =
       record {
         long = g .long;
@@ -199,16 +208,16 @@ module _ (G : Graph) (valid : ValidGraph G) (c st done : List ℕ) (x : ℕ) (g 
         ins = λ v p. absurd (omega (arith, p, ap (occ v) (uses-flop G x e)));
       }
 
-  pub good-pop : Good G c st (kept (G .comb x) x done) (uses G x)
+  pub good-pop : WalkState G c st (kept (G .comb x) x done) (uses G x)
   good-pop = good-kept (G .comb x) refl
 
 -- ---- the whole walk
 
 pub record Ended (G : Graph) (done : List ℕ) : Type 0 where
   pub counts : List ℕ
-  pub good : Good G counts [] done []
+  pub good : WalkState G counts [] done []
 
-pub walk-ends : (G : Graph) → ValidGraph G → (k : ℕ) (c st done : List ℕ) → Good G c st done [] → budget G c st ≤ k → Ended G (walk G k c st done)
+pub walk-ends : (G : Graph) → ValidGraph G → (k : ℕ) (c st done : List ℕ) → WalkState G c st done [] → budget G c st ≤ k → Ended G (walk G k c st done)
 walk-ends G valid zero c [] done g l = record { counts = c; good = g }
 walk-ends G valid zero c (x ∷ st) done g l = absurd (omega arith)
 walk-ends G valid (suc k) c [] done g l = record { counts = c; good = g }

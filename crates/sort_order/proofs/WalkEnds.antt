@@ -9,7 +9,8 @@ use lib.ListN.{length, getD}
 use Rattle.lists.specs.Lists.{hit, occ, sumTo, listTo}
 use Rattle.lists.proofs.Counting.{hit-eq, hit-or, sum-cong, last-or, zero-or, occ-append, length-listTo, getD-listTo}
 use Rattle.sort_order.specs.Order.{Graph, useCount, pushed, flopsTo, startTo, recorded}
-use Rattle.sort_order.specs.Walk.{ValidGraph, pos, Good, budget}
+use Rattle.sort_order.specs.Walk.{ValidGraph, WalkState}
+use Rattle.sort_order.proofs.Walk.{pos, budget}
 use Rattle.sort_order.proofs.Walk.{Ended, walk-ends}
 
 module _ (G : Graph) (f : ℕ → ℕ) where
@@ -95,7 +96,7 @@ module _ (G : Graph) where
   -- ---- the start and the end of the walk
 
   module _ (c : List ℕ) (same : (v : ℕ) → v < G .size → getD c v 0 ≡ useCount G v) (long : G .size ≤ length c) where
-    pub good-start : Good G c (startTo (G .comb) (useCount G) (G .size)) [] []
+    pub good-start : WalkState G c (startTo (G .comb) (useCount G) (G .size)) [] []
     unfolding useCount
     good-start =
         record {

@@ -11,11 +11,6 @@ use Rattle.sort_order.specs.Order.{Graph, uses, useCount}
 abbrev pub ValidGraph : Graph → Type 0
 ValidGraph G = (g d : ℕ) → g < G .size → 0 < occ d (G .ins g) → d < G .size
 
--- 1 of a number that is not 0
-abbrev pub pos : ℕ → ℕ
-pos zero = 0
-pos (suc k) = 1
-
 -- what of k uses counts: all where the user is not recorded, none where it is
 abbrev pub left : ℕ → ℕ → ℕ
 left zero k = k
@@ -31,7 +26,7 @@ Before G [] = Unit {0}
 Before G (d ∷ l) = ((g : ℕ) → g < G .size → 0 < occ d (uses G g) → 0 < occ g l) × Before G l
 
 -- the walk's counts, stack and recorded gates, with the inputs of the gate last recorded that are still to be lowered
-pub record Good (G : Graph) (c st done rest : List ℕ) : Type 0 where
+pub record WalkState (G : Graph) (c st done rest : List ℕ) : Type 0 where
   -- there is a count for each gate
   pub long : G .size ≤ length c
   -- a count is the uses by gates not recorded, and those still to be lowered
@@ -48,7 +43,3 @@ pub record Good (G : Graph) (c st done rest : List ℕ) : Type 0 where
   pub top : Before G done
   -- what is still to be lowered are gates
   pub ins : (v : ℕ) → 0 < occ v rest → v < G .size
-
--- pops that are left at most
-abbrev pub budget : Graph → List ℕ → List ℕ → ℕ
-budget G c st = length st + sumTo (G .size) (λ v. pos (getD c v 0))

@@ -12,7 +12,7 @@ use blif_text::token_start;
 use replay::read_word;
 ghost use Prim.Native.Nat.{_≤_};
 ghost use lib.ListN.{length};
-ghost use Rattle.blif_text.specs.Places.{maxText, maxTokens, Marked};
+ghost use Rattle.blif_text.specs.Places.{maxText, maxTokens, TokensMarked};
 
 // A blank and the token of a cell.
 fn print_token(text: &[u8], cell: u32) {
@@ -73,7 +73,7 @@ fn print_statement(text: &[u8], cells: &[u32], s: Statement) {
 
 // Every statement of a text whose tokens are marked.
 fn print_rows(text: &[u8], cells: &[u32], n: usize)
-    requires { ⌜ Marked (now text) (now cells) n × (n ≤ length (now cells)) ⌝ }
+    requires { ⌜ TokensMarked (now text) (now cells) n × (n ≤ length (now cells)) ⌝ }
 {
     let mut at = 0;
     while at < n {

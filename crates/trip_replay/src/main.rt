@@ -131,7 +131,7 @@ fn run_row(
     let mut line = [0u8; 256];
     let mut new_line = [0u8; 256];
     read_row(&mut row);
-    let most = counts.gates % WORD + 1;
+    let most = counts.gates % WORD + 2;
     expect_settled(clock(counts, most, gates, pins, outputs, &row, held, &mut line));
     expect_settled(clock(
         back,

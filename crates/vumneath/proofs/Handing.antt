@@ -1,40 +1,28 @@
 -- What reading and writing answer fits into 32 bits, and is handed over as it is. Assumes nothing.
 use mathlib.Core.Path.{_≡_, refl, sym, ap, _∙_, subst}
-use mathlib.Core.Bool.{Bool, true, false, not, _||_}
+use mathlib.Core.Bool.{Bool, true, false}
 use mathlib.Core.List.{List}
 use Prim.Native.Nat.{ℕ, _≤_}
 use native.Mathlib.Omega.{arith}
-use lib.Dec.{ltb}
 use lib.ListN.{length}
-use borrow.Author.Tests.{ltb-false}
-use Rattle.lists.specs.Lists.{if_then_else_, Bytes, any}
-use Rattle.lists.proofs.Tests.{or-right}
-use Rattle.network.specs.Net.{Net}
-use Rattle.network.specs.Cells.{Lent, netOf, isNetwork, countsOf, maxInputs, maxGates, maxPins, maxOutputs}
+use Rattle.lists.specs.Lists.{if_then_else_, Bytes}
+use Rattle.network.specs.Cells.{WithinSizes, Lent, countsOf}
 use Rattle.network.specs.declared.Counts.{Counts}
 use Rattle.blif_text.specs.Places.{maxText}
-use Rattle.blif_model.specs.Render.{textOf}
 use Rattle.blif_model.specs.Read.{Result, read, refused, readText}
-use Rattle.blif_model.proofs.ReadNet.{NetRead, read-net}
+use Rattle.blif_model.proofs.ReadNet.{read-net}
 use Rattle.blif_read.specs.Into as reading
 use Rattle.blif_read.specs.Into.{Lengths, enough, filled, readInto}
 use Rattle.blif_read.specs.declared.ReadAnswer.{ReadAnswer}
 use Rattle.blif_read.specs.declared.ReadAnswer.the-variants as answer
 use Rattle.blif_write.specs.Into as writing
-use Rattle.blif_write.specs.Into.{wide, tooLong, refusedText, writtenText, writeInto}
+use Rattle.blif_write.specs.Into.{writeInto}
 use Rattle.blif_write.specs.declared.WriteAnswer.{WriteAnswer}
 use Rattle.blif_write.specs.declared.WriteAnswer.the-variants as written
+use Rattle.blif_write.proofs.Answers.{Ways, refuses, writes, writer-ways}
 use Rattle.vumneath.specs.Handed.{networkOf, textFor, ReadHanded, WriteHanded, CountsFit, LengthFits}
 use Rattle.vumneath.specs.declared.VumneathNetwork.{VumneathNetwork}
 use Rattle.vumneath.specs.declared.VumneathText.{VumneathText}
-
--- counts within the sizes
-abbrev Within : Counts → Type 0
-Within c = (c .inputs ≤ maxInputs) × (c .gates ≤ maxGates) × (c .pins ≤ maxPins) × (c .outputs ≤ maxOutputs)
-
--- the counts of a network that is read are within the sizes
-net-within : (net : Net) → NetRead net → Within (countsOf net)
-net-within net h = (h .inputs, h .gates, h .pins, h .outputs)
 
 -- whatever reading answers, its counts are within the sizes
 pub counts-fit : (text : Bytes) (n : Lengths) (a : ReadAnswer) (gs ps os wgs wps : List ℕ) → reading.outcome a gs ps os wgs wps ≡ readInto text n → CountsFit a
@@ -43,28 +31,26 @@ counts-fit text n a gs ps os wgs wps e = record {
   fits = λ c q. go (enough n) (readText text) refl c (sym q ∙ ap (λ (o : reading.Outcome). o .answer) e);
 }
   where
-    go : (b : Bool) (r : Result) → readText text ≡ r → (c : Counts) → answer.Read c ≡ filled (if b then r else refused 1) n .answer → Within c
+    go : (b : Bool) (r : Result) → readText text ≡ r → (c : Counts) → answer.Read c ≡ filled (if b then r else refused 1) n .answer
+        → WithinSizes (c .inputs) (c .outputs) (c .gates) (c .pins)
     go false r p c q = absurd (let z : _≡_ {A = ℕ} 0 1 = cc in omega (arith, z))
     go true (refused k) p c q = absurd (let z : _≡_ {A = ℕ} 0 1 = cc in omega (arith, z))
-    go true (read net) p c q = let z : countsOf net ≡ c = cc in subst Within z (net-within net (read-net text net p))
+    go true (read net) p c q =
+        let z : countsOf net ≡ c = cc in
+        subst (λ (k : Counts). WithinSizes (k .inputs) (k .outputs) (k .gates) (k .pins)) z (read-net text net p .sizes)
 
 -- whatever writing answers, the length is within the sizes
 pub length-fits : (l : Lent) (n : ℕ) (a : WriteAnswer) (t : Bytes) → writing.outcome a t ≡ writeInto l n → LengthFits a
-unfolding writeInto
-length-fits l n a t e = record {
-  fits = λ m q.
-      go m (not (isNetwork l)) (any wide (netOf l .gates)) (ltb n (length (textOf (netOf l)))) (ltb maxText (length (textOf (netOf l)))) refl
-      (sym q ∙ ap (λ (o : writing.Outcome). o .answer) e);
-}
+length-fits l n a t e = record { fits = λ m q. go m (writer-ways l n) (sym q ∙ ap (λ (o : writing.Outcome). o .answer) e) }
   where
-    go : (m : ℕ) (x y z v : Bool) → ltb maxText (length (textOf (netOf l))) ≡ v
-        → written.Written m ≡ (if x then refusedText 20 n else if y then refusedText 21 n else if z || v then refusedText 22 n else writtenText (textOf (netOf l)) n) .answer
-        → m ≤ maxText
-    go m true y z v p q = absurd (let k : _≡_ {A = ℕ} 0 1 = cc in omega (arith, k))
-    go m false true z v p q = absurd (let k : _≡_ {A = ℕ} 0 1 = cc in omega (arith, k))
-    go m false false true v p q = absurd (let k : _≡_ {A = ℕ} 0 1 = cc in omega (arith, k))
-    go m false false false true p q = absurd (let k : _≡_ {A = ℕ} 0 1 = cc in omega (arith, k))
-    go m false false false false p q = let k : length (textOf (netOf l)) ≡ m = cc in subst (λ (i : ℕ). i ≤ maxText) k (ltb-false maxText (length (textOf (netOf l))) p)
+    go : (m : ℕ) → Ways n (writeInto l n) → written.Written m ≡ writeInto l n .answer → m ≤ maxText
+    go m (refuses k p) q =
+        let r : written.Written m ≡ written.Refused k = q ∙ ap (λ (o : writing.Outcome). o .answer) p in
+        absurd (let z : _≡_ {A = ℕ} 0 1 = cc in omega (arith, z))
+    go m (writes s h b p) q =
+        let r : written.Written m ≡ written.Written (length s) = q ∙ ap (λ (o : writing.Outcome). o .answer) p in
+        let k : length s ≡ m = cc in
+        subst (λ (i : ℕ). i ≤ maxText) k b
 
 -- an answer handed over in C's struct
 pub read-handed : (o : reading.Outcome) (a : ReadAnswer) (gs ps os wgs wps : List ℕ) (r : VumneathNetwork) → reading.outcome a gs ps os wgs wps ≡ o → r ≡ networkOf a

@@ -4,7 +4,7 @@ use mathlib.Core.Path.{_≡_}
 use mathlib.Core.List.{List}
 use Prim.Native.Nat.{ℕ, _≤_}
 use Rattle.lists.specs.Lists.{Bytes}
-use Rattle.network.specs.Cells.{maxInputs, maxGates, maxPins, maxOutputs}
+use Rattle.network.specs.Cells.{WithinSizes}
 use Rattle.network.specs.declared.Counts.{Counts}
 use Rattle.blif_text.specs.Places.{maxText}
 use Rattle.blif_read.specs.Into as reading
@@ -51,7 +51,7 @@ pub record WriteHanded (o : writing.Outcome) (r : VumneathText) (out : Bytes) : 
 -- an answer of reading whose counts are within document 01's sizes, so that 32 bits hold each
 pub record CountsFit (a : ReadAnswer) : Type 0 where
   -- whatever was read is within the sizes
-  pub fits : (c : Counts) → a ≡ read.Read c → (c .inputs ≤ maxInputs) × (c .gates ≤ maxGates) × (c .pins ≤ maxPins) × (c .outputs ≤ maxOutputs)
+  pub fits : (c : Counts) → a ≡ read.Read c → WithinSizes (c .inputs) (c .outputs) (c .gates) (c .pins)
 
 -- an answer of writing whose length is within document 01's sizes, so that 32 bits hold it
 pub record LengthFits (a : WriteAnswer) : Type 0 where

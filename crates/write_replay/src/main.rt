@@ -4,18 +4,11 @@
 // told, and so is a cell that has changed.
 use blif_write::WriteAnswer;
 use blif_write::write_blif;
+use lists::cell_at;
 use network::Counts;
 use replay::put_word;
 use replay::read_counts;
 use replay::read_word;
-
-// Cell i, or zero if there is none.
-fn word_at(cells: &[u32], i: usize) -> u32 {
-    if i < cells.len() {
-        return cells[i];
-    }
-    0
-}
 
 // The next words, as cells and once more to compare them with.
 fn read_words(cells: &mut [u32], kept: &mut [u32]) {
@@ -30,7 +23,7 @@ fn read_words(cells: &mut [u32], kept: &mut [u32]) {
 // A line that no stored answer has, unless the cells are those kept.
 fn expect_same(cells: &[u32], kept: &[u32]) {
     for i in 0..cells.len() {
-        if word_at(cells, i) != word_at(kept, i) {
+        if cell_at(cells, i) != cell_at(kept, i) {
             io::write_all(1, b"changed\n");
             return;
         }

@@ -44,16 +44,6 @@ loop-holds c = search steps
 row-end-requires : tie.Need-row-end-requires Inv-loop2 μ-loop2 Inv-loop μ-loop Inv-pass μ-pass
 row-end-requires c κs = search steps
 
-mul-line-columns : tie.Need-mul-line-columns Inv-loop2 μ-loop2 Inv-loop μ-loop Inv-pass μ-pass
-mul-line-columns c = search steps
-
-shared-slice-read-line-columns :
-    tie.Need-shared-slice-read-line-columns Inv-loop2 μ-loop2 Inv-loop μ-loop Inv-pass μ-pass
-shared-slice-read-line-columns c = search steps
-
-sub-line-columns : tie.Need-sub-line-columns Inv-loop2 μ-loop2 Inv-loop μ-loop Inv-pass μ-pass
-sub-line-columns c = search steps
-
 line-columns-requires :
     tie.Need-line-columns-requires Inv-loop2 μ-loop2 Inv-loop μ-loop Inv-pass μ-pass
 line-columns-requires c κs = search steps
@@ -69,7 +59,7 @@ shared-slice-read-token :
 shared-slice-read-token c = search steps
 
 token-requires : tie.Need-token-requires Inv-loop2 μ-loop2 Inv-loop μ-loop Inv-pass μ-pass
-token-requires c κs = last-there (c .before .before .before .before .before .loop .inv) (c .before .before .before .before .loop-test .taken) (c .before .before .before .row-end .ensures)
+token-requires c κs = last-there (c .before .before .before .before .loop .inv) (c .before .before .before .loop-test .taken) (c .before .before .row-end .ensures)
 
 output-of-requires : tie.Need-output-of-requires Inv-loop2 μ-loop2 Inv-loop μ-loop Inv-pass μ-pass
 output-of-requires c κs = search steps
@@ -78,11 +68,11 @@ sub-line-fits : tie.Need-sub-line-fits Inv-loop2 μ-loop2 Inv-loop μ-loop Inv-p
 sub-line-fits c = search steps
 
 line-fits-requires : tie.Need-line-fits-requires Inv-loop2 μ-loop2 Inv-loop μ-loop Inv-pass μ-pass
-line-fits-requires c κs = line-some (c .before .before .before .before .before .before .before .loop .inv) (c .before .before .before .before .before .before .loop-test .taken) (c .before .before .before .before .before .row-end .ensures)
+line-fits-requires c κs = line-some (c .before .before .before .before .before .before .loop .inv) (c .before .before .before .before .before .loop-test .taken) (c .before .before .before .before .row-end .ensures)
 
 loop2-holds : tie.Need-loop2-holds Inv-loop2 μ-loop2 Inv-loop μ-loop Inv-pass μ-pass
 loop2-holds c =
-    let r = c .before .before .before .before .before .before .before in
+    let r = c .before .before .before .before .before .before in
     enter-line (r .before .before .loop .inv) (r .before .loop-test .taken) (r .row-end .ensures)
     (c .before .before .before .before .before .line-columns .ensures) (c .before .before .before .token .ensures) (c .before .before .output-of .ensures) (c .before .line-fits .ensures) (c .if2 .left)
 
@@ -155,9 +145,6 @@ check-covers-spec =
     add-at
     loop-holds
     row-end-requires
-    mul-line-columns
-    shared-slice-read-line-columns
-    sub-line-columns
     line-columns-requires
     sub-token
     mul-token

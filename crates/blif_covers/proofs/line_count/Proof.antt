@@ -2,12 +2,12 @@
 use mathlib.Core.Path.{_≡_, refl}
 use Prim.Native.Nat.{ℕ, zero, suc}
 use borrow.Author.Needs.{needs}
-use Rattle.blif_covers.specs.Pass.{linesOf}
+use Rattle.blif_covers.specs.Pass.{linesIn}
 use Rattle.blif_covers.proofs.line_count.Statement.{statement}
 use Rattle.blif_covers.proofs.line_count.Tie as tie
 
 -- the lines of a cover
-of-cover : (names lines : ℕ) → (names ≡ 0 → ⊥) → lines ≡ linesOf names lines
+of-cover : (names lines : ℕ) → (names ≡ 0 → ⊥) → lines ≡ linesIn names lines
 of-cover zero lines f = absurd (f refl)
 of-cover (suc k) lines f = refl
 

@@ -1,7 +1,8 @@
 -- `write_nary_lines` writes the lines by the type. Assumes nothing.
+use mathlib.Core.Path.{refl}
 use borrow.Author.Needs.{needs}
 use Rattle.blif_names.proofs.Laws.{as-wrote}
-use Rattle.blif_cubes.proofs.FormLines.{narrow-at, lines-at, and-line, or-line, nand-line, nor-line, xor-lines, xnor-lines}
+use Rattle.blif_cubes.proofs.FormLines.{within-narrow, lines-at, and-line, or-line, nand-line, nor-line, xor-lines, xnor-lines}
 use Rattle.blif_cubes.proofs.write_nary_lines.Statement.{statement}
 use Rattle.blif_cubes.proofs.write_nary_lines.Tie as tie
 
@@ -33,13 +34,13 @@ enum-told-5 : tie.Need-enum-told-5
 enum-told-5 c = search needs
 
 write-masks-requires : tie.Need-write-masks-requires
-write-masks-requires c κs = narrow-at (c .before .before .before .before .args .num-vars) (c .before .enum-told5 .given .1) (c .before .before .before .before .pre)
+write-masks-requires c κs = within-narrow (c .before .before .before .before .args .num-vars) (c .before .enum-told5 .given .1) refl (c .before .before .before .before .pre)
 
 enum-told-6 : tie.Need-enum-told-6
 enum-told-6 c = search needs
 
 write-masks-requires-2 : tie.Need-write-masks-requires-2
-write-masks-requires-2 c κs = narrow-at (c .before .before .before .before .args .num-vars) (c .before .enum-told6 .given .1) (c .before .before .before .before .pre)
+write-masks-requires-2 c κs = within-narrow (c .before .before .before .before .args .num-vars) (c .before .enum-told6 .given .1) refl (c .before .before .before .before .pre)
 
 same-length : tie.Need-same-length
 same-length c = search needs

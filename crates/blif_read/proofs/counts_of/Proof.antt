@@ -1,9 +1,7 @@
 -- `counts_of` tells a refusal from what was read. Assumes nothing.
 use mathlib.Core.Path.{_≡_, refl}
-use Prim.Native.Nat.{ℕ}
 use native.Mathlib.Omega.{arith}
 use denote.Enum.Declared.{tagOf}
-use Rattle.network.specs.declared.Counts.{Counts}
 use Rattle.blif_read.specs.Stages.{countsIn}
 use Rattle.blif_read.specs.declared.ReadAnswer.{ReadAnswer}
 use Rattle.blif_read.specs.declared.ReadAnswer.the-variants.{Read, Refused}

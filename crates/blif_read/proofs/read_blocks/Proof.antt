@@ -17,7 +17,7 @@ add-place-gates : tie.Need-add-place-gates
 add-place-gates c = search needs
 
 place-gates-requires : tie.Need-place-gates-requires
-place-gates-requires c κs = ((c .before .before .before .before .before .before .before .before .before .before .before .before .pre .1 .index-is, c .before .before .before .before .before .before .before .before .before .before .before .before .pre .1 .blocks-in), (record { gateRoom = c .before .before .before .before .before .before .before .before .before .before .before .before .pre .0 .workGates; pinRoom = c .before .before .before .before .before .before .before .before .before .before .before .before .pre .0 .workPins }, few-gates (c .before .before .before .before .before .before .before .before .before .before .before .before .pre .1), few-placed (c .before .before .before .before .before .before .before .before .before .before .before .before .pre .1)))
+place-gates-requires c κs = ((c .before .before .before .before .before .before .before .before .before .before .before .before .pre .1 .tables .index-is, c .before .before .before .before .before .before .before .before .before .before .before .before .pre .1 .tables .blocks-in), (record { gateRoom = c .before .before .before .before .before .before .before .before .before .before .before .before .pre .0 .workGates; pinRoom = c .before .before .before .before .before .before .before .before .before .before .before .before .pre .0 .workPins }, few-gates (c .before .before .before .before .before .before .before .before .before .before .before .before .pre .1), few-placed (c .before .before .before .before .before .before .before .before .before .before .before .before .pre .1)))
 
 same-length : tie.Need-same-length
 same-length c = search needs

@@ -1,5 +1,5 @@
 -- `read_names` enters the names and gives each output its signal. Assumes nothing.
-use mathlib.Core.Path.{refl, sym, _∙_}
+use mathlib.Core.Path.{refl, sym}
 use native.Mathlib.Omega.{arith}
 use lib.Seq.{length-take-le}
 use borrow.Author.Tests.{not-true, not-false}
@@ -37,7 +37,7 @@ slice-aggregate-resolve-names : tie.Need-slice-aggregate-resolve-names
 slice-aggregate-resolve-names c = search needs
 
 add-resolve-names : tie.Need-add-resolve-names
-add-resolve-names c = omega (arith, names-entered (c .before .before .before .before .before .before .before .before .before .before .before .before .before .before .before .before .before .before .before .before .pre .1) (c .before .before .before .before .before .before .before .before .before .build-name-to-sig .ensures) (c .before .before .if1 .left) .tables .index-is .few)
+add-resolve-names c = omega (arith, names-entered (c .before .before .before .before .before .before .before .before .before .before .before .before .before .before .before .before .before .before .before .before .pre .1) (c .before .before .before .before .before .before .before .before .before .build-name-to-sig .ensures) (c .before .before .if1 .left) .tables .named .index-is .few)
 
 slice-reshare-prefix-resolve-names : tie.Need-slice-reshare-prefix-resolve-names
 slice-reshare-prefix-resolve-names c = names-entered (c .before .before .before .before .before .before .before .before .before .before .before .before .before .before .before .before .before .before .before .before .pre .1) (c .before .before .before .before .before .before .before .before .before .build-name-to-sig .ensures) (c .before .before .if1 .left) .tables .outputs-in .room
@@ -48,7 +48,7 @@ slice-aggregate-resolve-names-2 c = sym (length-take-le _ _ (names-entered (c .b
 resolve-names-requires : tie.Need-resolve-names-requires
 resolve-names-requires c κs =
     let v = names-entered (c .before .before .before .before .before .before .before .before .before .before .before .before .before .before .before .before .before .before .before .before .before .before .pre .1) (c .before .before .before .before .before .before .before .before .before .before .before .build-name-to-sig .ensures) (c .before .before .before .before .if1 .left) in
-    (v .tables .index-is, (inside-first _ (v .tables .outputs-in), outs-fit v _ (c .before .before .before .before .before .before .before .before .before .before .before .before .before .before .before .before .before .before .before .before .before .before .pre .0 .outputs)))
+    (v .tables .named .index-is, (inside-first _ (v .tables .outputs-in), outs-fit v _ (c .before .before .before .before .before .before .before .before .before .before .before .before .before .before .before .before .before .before .before .before .before .before .pre .0 .outputs)))
 
 same-length-4 : tie.Need-same-length-4
 same-length-4 c = search needs

@@ -1,7 +1,7 @@
 -- `ends_word` goes by the byte. Assumes nothing.
 use mathlib.Core.Path.{_∙_}
 use borrow.Author.Needs.{needs}
-use Rattle.blif_text.proofs.ScanLaws.{high-word, space-ends, lf-ends, hash-ends, blank-ends}
+use Rattle.blif_text.proofs.ScanBytes.{high-word, space-ends, lf-ends, hash-ends, blank-ends}
 use Rattle.blif_text.proofs.ends_word.Statement.{statement}
 use Rattle.blif_text.proofs.ends_word.Tie as tie
 

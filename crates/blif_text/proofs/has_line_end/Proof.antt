@@ -4,18 +4,18 @@ use native.Mathlib.Omega.{arith}
 use lib.Dec.{eqb}
 use lib.ListN.{length}
 use borrow.Author.Needs.{needs}
-use Rattle.blif_text.proofs.Loops.{Seeking, seek-start, seek-next, seek-done}
+use Rattle.lists.proofs.Any.{Looked, looked-start, looked-next, looked-done}
 use Rattle.blif_text.proofs.has_line_end.Statement.{statement}
 use Rattle.blif_text.proofs.has_line_end.Tie as tie
 
 abbrev Inv-loop : tie.InvT-loop
-Inv-loop block found₀ i₀ found i = Seeking (eqb 10) block found i
+Inv-loop block found₀ i₀ found i = Looked (eqb 10) block found i
 
 abbrev μ-loop : tie.MeasureT-loop
 μ-loop block found₀ i₀ found i = length block - i
 
 loop-holds : tie.Need-loop-holds Inv-loop μ-loop
-loop-holds c = seek-start
+loop-holds c = looked-start (eqb 10) _
 
 shared-slice-read-found : tie.Need-shared-slice-read-found Inv-loop μ-loop
 shared-slice-read-found c = search needs
@@ -27,10 +27,10 @@ loop-less : tie.Need-loop-less Inv-loop μ-loop
 loop-less c = omega arith
 
 loop-again : tie.Need-loop-again Inv-loop μ-loop
-loop-again c = seek-next (c .before .before .loop .inv) (c .before .loop-test .taken)
+loop-again c = looked-next (c .before .loop-test .taken) (c .before .before .loop .inv)
 
 returns : tie.Need-returns Inv-loop μ-loop
-returns c = seek-done (c .before .loop .inv) (c .loop-test .left)
+returns c = looked-done (c .loop-test .left) (c .before .loop .inv)
 
 pub has-line-end-spec : {M : Type 1} → statement M
 has-line-end-spec =

@@ -4,13 +4,14 @@ use Prim.Native.Nat.{_-_}
 use native.Mathlib.Omega.{arith}
 use lib.Dec.{eqb}
 use lib.ListN.{length}
-use borrow.Author.Tests.{ne-eqb}
-use Rattle.blif_text.proofs.Loops.{Passed, passed-next, passed-line, line-stop}
+use borrow.Author.Tests.{eq-eqb, ne-eqb}
+use Rattle.blif_text.specs.Scan.{NoneTo}
+use Rattle.blif_text.proofs.Loops.{none-next}
 use Rattle.blif_text.proofs.line_end.Statement.{statement}
 use Rattle.blif_text.proofs.line_end.Tie as tie
 
 abbrev Inv-loop : tie.InvT-loop
-Inv-loop text at i₀ i = Passed (eqb 10) text at i
+Inv-loop text at i₀ i = NoneTo (eqb 10) text at i
 
 abbrev μ-loop : tie.MeasureT-loop
 μ-loop text at i₀ i = length text - i
@@ -19,13 +20,13 @@ skip-blocks-requires : tie.Need-skip-blocks-requires Inv-loop μ-loop
 skip-blocks-requires c κs = c .before .pre
 
 loop-holds : tie.Need-loop-holds Inv-loop μ-loop
-loop-holds c = passed-line (c .skip-blocks .ensures)
+loop-holds c = c .skip-blocks .ensures
 
 shared-slice-read-if1 : tie.Need-shared-slice-read-if1 Inv-loop μ-loop
 shared-slice-read-if1 c = omega arith
 
 returns : tie.Need-returns Inv-loop μ-loop
-returns c = line-stop (c .before .before .before .loop .inv) (λ h. c .if1 .taken)
+returns c = record { passed = c .before .before .before .loop .inv; stop = λ h. eq-eqb 10 _ (sym (c .if1 .taken)) }
 
 add-i : tie.Need-add-i Inv-loop μ-loop
 add-i c = omega arith
@@ -34,10 +35,10 @@ loop-less : tie.Need-loop-less Inv-loop μ-loop
 loop-less c = omega arith
 
 loop-again : tie.Need-loop-again Inv-loop μ-loop
-loop-again c = passed-next (c .before .before .before .loop .inv) (c .before .before .loop-test .taken) (ne-eqb 10 _ (λ e. c .if1 .left (sym e)))
+loop-again c = none-next (c .before .before .before .loop .inv) (c .before .before .loop-test .taken) (ne-eqb 10 _ (λ e. c .if1 .left (sym e)))
 
 returns-2 : tie.Need-returns-2 Inv-loop μ-loop
-returns-2 c = line-stop (c .before .loop .inv) (λ h. absurd (let z : ⊥ = omega arith in z))
+returns-2 c = record { passed = c .before .loop .inv; stop = λ h. absurd (let z : ⊥ = omega arith in z) }
 
 pub line-end-spec : {M : Type 1} → statement M
 line-end-spec =

@@ -22,7 +22,7 @@ put-word-requires c κs =
     let s = c .before .before .before .before .before .before in
     let w = c .before .before .before .word-end .ensures in
     let p = word-place (s .pre .0) (s .pre .1) (s .pre .2) w in
-    (word-room (s .pre .0) (s .pre .1) (s .pre .2) w, p .0, omega (arith, w .low), omega (arith, p .1))
+    (word-room (s .pre .0) (s .pre .1) (s .pre .2) w, p .0, omega (arith, w .passed .low), omega (arith, p .1))
 
 same-length : tie.Need-same-length
 same-length c = search needs
@@ -32,7 +32,7 @@ returns c =
     let s = c .before .before .before .before .before .before .before .before .before in
     let w = c .before .before .before .before .before .before .word-end .ensures in (
       scan-put (c .before .before .put-word .ensures) (scan-word (s .pre .0) (s .pre .1) (s .pre .2) w (λ e. absurd (c .before .before .before .before .if1 .taken e))),
-      omega (arith, c .before .before .put-word .ensures .place, w .low),
+      omega (arith, c .before .before .put-word .ensures .place, w .passed .low),
     )
 
 line-stop-requires : tie.Need-line-stop-requires
@@ -43,7 +43,7 @@ put-word-requires-2 c κs =
     let s = c .before .before .before .before .before .before .before .before in
     let w = c .before .before .before .before .before .word-end .ensures in
     let p = word-place (s .pre .0) (s .pre .1) (s .pre .2) w in
-    (word-room (s .pre .0) (s .pre .1) (s .pre .2) w, p .0, omega (arith, w .low), omega (arith, p .1))
+    (word-room (s .pre .0) (s .pre .1) (s .pre .2) w, p .0, omega (arith, w .passed .low), omega (arith, p .1))
 
 same-length-2 : tie.Need-same-length-2
 same-length-2 c = search needs
@@ -53,7 +53,7 @@ returns-2 c =
     let s = c .before .before .before .before .before .before .before .before .before .before .before in
     let w = c .before .before .before .before .before .before .before .before .word-end .ensures in (
       scan-put (c .before .before .put-word2 .ensures) (scan-word (s .pre .0) (s .pre .1) (s .pre .2) w (λ e. c .before .before .before .before .before .line-stop .ensures .none (c .before .before .before .before .if2 .taken))),
-      omega (arith, c .before .before .put-word2 .ensures .place, w .low),
+      omega (arith, c .before .before .put-word2 .ensures .place, w .passed .low),
     )
 
 add-if3 : tie.Need-add-if3
@@ -77,7 +77,7 @@ put-word-requires-3 c κs =
     let s = c .before .before .before .before .before .before .before .before .before in
     let w = c .before .before .before .before .before .before .word-end .ensures in
     let p = word-place (s .pre .0) (s .pre .1) (s .pre .2) w in
-    (word-room (s .pre .0) (s .pre .1) (s .pre .2) w, p .0, omega (arith, w .low), omega (arith, p .1))
+    (word-room (s .pre .0) (s .pre .1) (s .pre .2) w, p .0, omega (arith, w .passed .low), omega (arith, p .1))
 
 same-length-3 : tie.Need-same-length-3
 same-length-3 c = search needs

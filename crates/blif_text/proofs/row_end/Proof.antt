@@ -4,12 +4,13 @@ use Prim.Native.Nat.{_+_, _-_, _≤_}
 use native.Mathlib.Omega.{arith}
 use borrow.Author.Needs.{needs}
 use Rattle.blif_text.specs.Places.{isFirst}
-use Rattle.blif_text.proofs.Loops.{Passed, passed-start, passed-next, row-stop}
+use Rattle.blif_text.specs.Scan.{NoneTo}
+use Rattle.blif_text.proofs.Loops.{none-start, none-next, row-stop}
 use Rattle.blif_text.proofs.row_end.Statement.{statement}
 use Rattle.blif_text.proofs.row_end.Tie as tie
 
 abbrev Inv-loop : tie.InvT-loop
-Inv-loop cells at n i₀ i = Passed isFirst cells (at + 1) i × (i ≤ n)
+Inv-loop cells at n i₀ i = NoneTo isFirst cells (at + 1) i × (i ≤ n)
 
 abbrev μ-loop : tie.MeasureT-loop
 μ-loop cells at n i₀ i = n - i
@@ -18,7 +19,7 @@ add-i : tie.Need-add-i Inv-loop μ-loop
 add-i c = search needs
 
 loop-holds : tie.Need-loop-holds Inv-loop μ-loop
-loop-holds c = (passed-start isFirst (omega arith), omega arith)
+loop-holds c = (none-start isFirst (omega arith), omega arith)
 
 mul-is-first : tie.Need-mul-is-first Inv-loop μ-loop
 mul-is-first c = search needs
@@ -41,7 +42,7 @@ loop-less c = search needs
 loop-again : tie.Need-loop-again Inv-loop μ-loop
 loop-again c =
     let v = c .before .before .before .before .loop .inv in
-    (passed-next (v .0) (omega arith) (sym (c .before .is-first .ensures) ∙ c .if1 .left), omega arith)
+    (none-next (v .0) (omega arith) (sym (c .before .is-first .ensures) ∙ c .if1 .left), omega arith)
 
 returns-2 : tie.Need-returns-2 Inv-loop μ-loop
 returns-2 c = row-stop (c .before .loop .inv .0) (omega arith) (λ h. absurd (let z : ⊥ = omega arith in z))

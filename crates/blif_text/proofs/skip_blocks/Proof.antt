@@ -5,18 +5,19 @@ use native.Mathlib.Omega.{arith}
 use lib.Dec.{eqb}
 use lib.ListN.{length}
 use borrow.Author.Needs.{needs}
-use Rattle.blif_text.proofs.Loops.{Passed, passed-start, passed-block, no-line}
+use Rattle.blif_text.specs.Scan.{NoneTo}
+use Rattle.blif_text.proofs.Loops.{none-start, none-block}
 use Rattle.blif_text.proofs.skip_blocks.Statement.{statement}
 use Rattle.blif_text.proofs.skip_blocks.Tie as tie
 
 abbrev Inv-loop : tie.InvT-loop
-Inv-loop text at i₀ i = Passed (eqb 10) text at i
+Inv-loop text at i₀ i = NoneTo (eqb 10) text at i
 
 abbrev μ-loop : tie.MeasureT-loop
 μ-loop text at i₀ i = length text - i
 
 loop-holds : tie.Need-loop-holds Inv-loop μ-loop
-loop-holds c = passed-start (eqb 10) (c .before .pre)
+loop-holds c = none-start (eqb 10) (c .before .pre)
 
 sub-loop : tie.Need-sub-loop Inv-loop μ-loop
 sub-loop c = c .loop .inv .high
@@ -37,16 +38,16 @@ has-line-end-requires : tie.Need-has-line-end-requires Inv-loop μ-loop
 has-line-end-requires c κs = search needs
 
 returns : tie.Need-returns Inv-loop μ-loop
-returns c = no-line (c .before .before .before .before .loop .inv)
+returns c = c .before .before .before .before .loop .inv
 
 loop-less : tie.Need-loop-less Inv-loop μ-loop
 loop-less c = omega (arith, c .before .before .before .loop-test .taken)
 
 loop-again : tie.Need-loop-again Inv-loop μ-loop
-loop-again c = passed-block (c .before .before .before .before .loop .inv) 32 (omega (arith, c .before .before .before .loop-test .taken)) (sym (c .before .has-line-end .ensures) ∙ c .if1 .left)
+loop-again c = none-block (c .before .before .before .before .loop .inv) 32 (omega (arith, c .before .before .before .loop-test .taken)) (sym (c .before .has-line-end .ensures) ∙ c .if1 .left)
 
 returns-2 : tie.Need-returns-2 Inv-loop μ-loop
-returns-2 c = no-line (c .before .loop .inv)
+returns-2 c = c .before .loop .inv
 
 pub skip-blocks-spec : {M : Type 1} → statement M
 skip-blocks-spec =

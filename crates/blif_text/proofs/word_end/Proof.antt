@@ -5,18 +5,19 @@ use native.Mathlib.Omega.{arith}
 use lib.ListN.{length}
 use borrow.Author.Needs.{needs}
 use Rattle.blif_text.specs.Scan.{endsWord}
-use Rattle.blif_text.proofs.Loops.{Passed, passed-start, passed-next, word-stop}
+use Rattle.blif_text.specs.Scan.{NoneTo}
+use Rattle.blif_text.proofs.Loops.{none-start, none-next}
 use Rattle.blif_text.proofs.word_end.Statement.{statement}
 use Rattle.blif_text.proofs.word_end.Tie as tie
 
 abbrev Inv-loop : tie.InvT-loop
-Inv-loop text at i₀ i = Passed endsWord text at i
+Inv-loop text at i₀ i = NoneTo endsWord text at i
 
 abbrev μ-loop : tie.MeasureT-loop
 μ-loop text at i₀ i = length text - i
 
 loop-holds : tie.Need-loop-holds Inv-loop μ-loop
-loop-holds c = passed-start endsWord (c .before .pre)
+loop-holds c = none-start endsWord (c .before .pre)
 
 shared-slice-read-ends-word : tie.Need-shared-slice-read-ends-word Inv-loop μ-loop
 shared-slice-read-ends-word c = omega arith
@@ -25,7 +26,7 @@ ends-word-requires : tie.Need-ends-word-requires Inv-loop μ-loop
 ends-word-requires c κs = search needs
 
 returns : tie.Need-returns Inv-loop μ-loop
-returns c = word-stop (c .before .before .before .before .loop .inv) (λ h. sym (c .before .ends-word .ensures) ∙ c .if1 .taken)
+returns c = record { passed = c .before .before .before .before .loop .inv; stop = λ h. sym (c .before .ends-word .ensures) ∙ c .if1 .taken }
 
 add-i : tie.Need-add-i Inv-loop μ-loop
 add-i c = omega arith
@@ -35,10 +36,10 @@ loop-less c = omega arith
 
 loop-again : tie.Need-loop-again Inv-loop μ-loop
 loop-again c =
-    passed-next (c .before .before .before .before .loop .inv) (c .before .before .before .loop-test .taken) (sym (c .before .ends-word .ensures) ∙ c .if1 .left)
+    none-next (c .before .before .before .before .loop .inv) (c .before .before .before .loop-test .taken) (sym (c .before .ends-word .ensures) ∙ c .if1 .left)
 
 returns-2 : tie.Need-returns-2 Inv-loop μ-loop
-returns-2 c = word-stop (c .before .loop .inv) (λ h. absurd (let z : ⊥ = omega arith in z))
+returns-2 c = record { passed = c .before .loop .inv; stop = λ h. absurd (let z : ⊥ = omega arith in z) }
 
 pub word-end-spec : {M : Type 1} → statement M
 word-end-spec =

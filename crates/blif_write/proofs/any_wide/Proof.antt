@@ -3,7 +3,7 @@ use native.Mathlib.Omega.{arith}
 use borrow.Author.Needs.{needs}
 use Prim.Native.Nat.{_-_}
 use Rattle.blif_write.proofs.Walks.{Testing, testing-start, testing-wide, testing-next, testing-done}
-use Rattle.blif_write.proofs.Told.{held-at, held-is, held-run, wide-told}
+use Rattle.blif_write.proofs.Told.{held-is, held-run, wide-told}
 use Rattle.blif_write.proofs.any_wide.Statement.{statement}
 use Rattle.blif_write.proofs.any_wide.Tie as tie
 
@@ -17,16 +17,16 @@ loop-holds : tie.Need-loop-holds Inv-loop μ-loop
 loop-holds c = testing-start
 
 form-at-requires : tie.Need-form-at-requires Inv-loop μ-loop
-form-at-requires c κs = held-run (held-at (c .before .before .before .before .pre) (c .loop-test .taken)) .cells
+form-at-requires c κs = held-run (c .before .before .before .before .pre .read _ (c .loop-test .taken)) .cells
 
 count-at-requires : tie.Need-count-at-requires Inv-loop μ-loop
-count-at-requires c κs = held-run (held-at (c .before .before .before .before .before .pre) (c .before .loop-test .taken)) .cells
+count-at-requires c κs = held-run (c .before .before .before .before .before .pre .read _ (c .before .loop-test .taken)) .cells
 
 is-wide-requires : tie.Need-is-wide-requires Inv-loop μ-loop
 is-wide-requires c κs = search needs
 
 returns : tie.Need-returns Inv-loop μ-loop
-returns c = testing-wide (c .before .before .before .before .before .loop .inv) (c .before .before .before .before .loop-test .taken) (held-is (held-at (c .before .before .before .before .before .before .before .before .pre) (c .before .before .before .before .loop-test .taken))) (wide-told (held-at (c .before .before .before .before .before .before .before .before .pre) (c .before .before .before .before .loop-test .taken)) (c .before .before .before .form-at .ensures) (c .before .before .count-at .ensures) (c .before .is-wide .ensures)) (c .if1 .taken)
+returns c = testing-wide (c .before .before .before .before .before .loop .inv) (c .before .before .before .before .loop-test .taken) (held-is (c .before .before .before .before .before .before .before .before .pre .read _ (c .before .before .before .before .loop-test .taken))) (wide-told (c .before .before .before .before .before .before .before .before .pre .read _ (c .before .before .before .before .loop-test .taken)) (c .before .before .before .form-at .ensures) (c .before .before .count-at .ensures) (c .before .is-wide .ensures)) (c .if1 .taken)
 
 add-g : tie.Need-add-g Inv-loop μ-loop
 add-g c = omega (arith, c .before .before .before .before .loop-test .taken)
@@ -35,7 +35,7 @@ loop-less : tie.Need-loop-less Inv-loop μ-loop
 loop-less c = omega (arith, c .before .before .before .before .loop-test .taken)
 
 loop-again : tie.Need-loop-again Inv-loop μ-loop
-loop-again c = testing-next (c .before .before .before .before .before .loop .inv) (c .before .before .before .before .loop-test .taken) (held-is (held-at (c .before .before .before .before .before .before .before .before .pre) (c .before .before .before .before .loop-test .taken))) (wide-told (held-at (c .before .before .before .before .before .before .before .before .pre) (c .before .before .before .before .loop-test .taken)) (c .before .before .before .form-at .ensures) (c .before .before .count-at .ensures) (c .before .is-wide .ensures)) (c .if1 .left)
+loop-again c = testing-next (c .before .before .before .before .before .loop .inv) (c .before .before .before .before .loop-test .taken) (held-is (c .before .before .before .before .before .before .before .before .pre .read _ (c .before .before .before .before .loop-test .taken))) (wide-told (c .before .before .before .before .before .before .before .before .pre .read _ (c .before .before .before .before .loop-test .taken)) (c .before .before .before .form-at .ensures) (c .before .before .count-at .ensures) (c .before .is-wide .ensures)) (c .if1 .left)
 
 returns-2 : tie.Need-returns-2 Inv-loop μ-loop
 returns-2 c = testing-done (c .before .loop .inv) (c .loop-test .left)

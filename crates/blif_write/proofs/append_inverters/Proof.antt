@@ -1,10 +1,10 @@
 -- `append_inverters` marks the signals and writes by the marks. Assumes nothing.
 use borrow.Author.Needs.{needs}
 use mathlib.Core.Path.{sym}
+use Rattle.network.specs.Cells.{cellNet}
+use Rattle.network.proofs.GateRead.{cell-count}
 use Rattle.blif_names.proofs.Laws.{and-append, as-text}
-use Rattle.blif_write.proofs.Whole.{held-length}
 use Rattle.blif_write.proofs.Used.{inverters-written}
-use Rattle.blif_write.specs.Parts.{netIn}
 use Rattle.blif_write.proofs.append_inverters.Statement.{statement}
 use Rattle.blif_write.proofs.append_inverters.Tie as tie
 
@@ -33,7 +33,7 @@ same-length : tie.Need-same-length
 same-length c = search needs
 
 returns : tie.Need-returns
-returns c = as-text (inverters-written (netIn (c .before .before .before .before .before .before .before .before .before .before .before .before .before .before .before .before .before .before .before .args .inputs) (c .before .before .before .before .before .before .before .before .before .before .before .before .before .before .before .before .before .before .before .args .gates .now) (c .before .before .before .before .before .before .before .before .before .before .before .before .before .before .before .before .before .before .before .args .pins .now) (c .before .before .before .before .before .before .before .before .before .before .before .before .before .before .before .before .before .before .before .args .n) (c .before .before .before .before .before .before .before .before .before .before .before .before .before .before .before .before .before .before .before .args .outputs .now)) (sym (held-length (c .before .before .before .before .before .before .before .before .before .before .before .before .before .before .before .before .before .before .before .args .gates .now) (c .before .before .before .before .before .before .before .before .before .before .before .before .before .before .before .before .before .before .before .args .pins .now) (c .before .before .before .before .before .before .before .before .before .before .before .before .before .before .before .before .before .before .before .args .n))) (c .before .before .before .before .before .before .before .before .before .before .before .before .before .before .before .before .before .before .before .pre .0 .few) (c .before .before .before .before .before .before .before .before .before .before .before .before .before .before .before .before .before .before .before .pre .1) (c .before .before .before .before .before .before .before .before .before .before .before .before .get-inverted-signals .ensures .gated) (c .before .before .before .before .before .before .before .before .before .before .before .before .get-inverted-signals .ensures .input)) (and-append (c .before .before .before .before .before .before .before .append-gate-inverters .ensures) (c .before .before .append-input-inverters .ensures))
+returns c = as-text (inverters-written (cellNet (c .before .before .before .before .before .before .before .before .before .before .before .before .before .before .before .before .before .before .before .args .inputs) (c .before .before .before .before .before .before .before .before .before .before .before .before .before .before .before .before .before .before .before .args .gates .now) (c .before .before .before .before .before .before .before .before .before .before .before .before .before .before .before .before .before .before .before .args .pins .now) (c .before .before .before .before .before .before .before .before .before .before .before .before .before .before .before .before .before .before .before .args .n) (c .before .before .before .before .before .before .before .before .before .before .before .before .before .before .before .before .before .before .before .args .outputs .now)) (sym (cell-count (c .before .before .before .before .before .before .before .before .before .before .before .before .before .before .before .before .before .before .before .args .gates .now) (c .before .before .before .before .before .before .before .before .before .before .before .before .before .before .before .before .before .before .before .args .pins .now) (c .before .before .before .before .before .before .before .before .before .before .before .before .before .before .before .before .before .before .before .args .n))) (c .before .before .before .before .before .before .before .before .before .before .before .before .before .before .before .before .before .before .before .pre .0 .few) (c .before .before .before .before .before .before .before .before .before .before .before .before .before .before .before .before .before .before .before .pre .1) (c .before .before .before .before .before .before .before .before .before .before .before .before .get-inverted-signals .ensures .gated) (c .before .before .before .before .before .before .before .before .before .before .before .before .get-inverted-signals .ensures .input)) (and-append (c .before .before .before .before .before .before .before .append-gate-inverters .ensures) (c .before .before .append-input-inverters .ensures))
 
 pub append-inverters-spec : {M : Type 1} → statement M
 append-inverters-spec =

@@ -1,10 +1,10 @@
 -- `cover_at` reads the gate unless its form is the flip-flop's. Assumes nothing.
 use mathlib.Core.Path.{_∙_, ap}
 use Rattle.blif_names.proofs.Laws.{as-wrote, wrote-nothing}
-use Rattle.blif_write.specs.Into.{wide}
+use Rattle.blif_model.specs.Write.{wide}
 use Rattle.blif_write.specs.Parts.{coverText}
 use Rattle.blif_write.proofs.Walks.{read-bad, read-good}
-use Rattle.blif_write.proofs.Told.{as-held, held-run, cover-none}
+use Rattle.blif_write.proofs.Told.{held-run, cover-none}
 use borrow.Author.Needs.{needs}
 use Rattle.blif_write.proofs.cover_at.Statement.{statement}
 use Rattle.blif_write.proofs.cover_at.Tie as tie
@@ -28,13 +28,13 @@ returns-2 : tie.Need-returns-2
 returns-2 c = absurd (read-bad (c .before .before .before .before .before .before .before .before .pre .0) (c .before .before .gate-at .ensures) (c .enum-told .given .1))
 
 write-cover-requires : tie.Need-write-cover-requires
-write-cover-requires c κs = (c .before .before .before .before .before .before .before .before .before .before .pre .0 .low, ap wide (as-held (c .before .before .before .before .before .before .before .before .before .before .args .gates .now) (c .before .before .before .before .before .before .before .before .before .before .args .pins .now) (c .before .before .before .before .before .before .before .before .before .before .args .g) (read-good (c .before .before .before .before .before .before .before .before .before .before .args .gates .now) (c .before .before .before .before .before .before .before .before .before .before .args .pins .now) (c .before .before .before .before .before .before .before .before .before .before .args .g) (c .before .before .before .before .gate-at .ensures) (c .before .before .gate .given .1))) ∙ c .before .before .before .before .before .before .before .before .before .before .pre .1)
+write-cover-requires c κs = (c .before .before .before .before .before .before .before .before .before .before .pre .0 .low, ap wide (read-good (c .before .before .before .before .before .before .before .before .before .before .args .gates .now) (c .before .before .before .before .before .before .before .before .before .before .args .pins .now) (c .before .before .before .before .before .before .before .before .before .before .args .g) (c .before .before .before .before .gate-at .ensures) (c .before .before .gate .given .1)) ∙ c .before .before .before .before .before .before .before .before .before .before .pre .1)
 
 same-length : tie.Need-same-length
 same-length c = search needs
 
 returns-3 : tie.Need-returns-3
-returns-3 c = as-wrote (ap (coverText (c .before .before .before .before .before .before .before .before .before .before .before .before .before .args .g)) (as-held (c .before .before .before .before .before .before .before .before .before .before .before .before .before .args .gates .now) (c .before .before .before .before .before .before .before .before .before .before .before .before .before .args .pins .now) (c .before .before .before .before .before .before .before .before .before .before .before .before .before .args .g) (read-good (c .before .before .before .before .before .before .before .before .before .before .before .before .before .args .gates .now) (c .before .before .before .before .before .before .before .before .before .before .before .before .before .args .pins .now) (c .before .before .before .before .before .before .before .before .before .before .before .before .before .args .g) (c .before .before .before .before .before .before .before .gate-at .ensures) (c .before .before .before .before .before .gate .given .1)))) (c .before .before .write-cover .ensures)
+returns-3 c = as-wrote (ap (coverText (c .before .before .before .before .before .before .before .before .before .before .before .before .before .args .g)) (read-good (c .before .before .before .before .before .before .before .before .before .before .before .before .before .args .gates .now) (c .before .before .before .before .before .before .before .before .before .before .before .before .before .args .pins .now) (c .before .before .before .before .before .before .before .before .before .before .before .before .before .args .g) (c .before .before .before .before .before .before .before .gate-at .ensures) (c .before .before .before .before .before .gate .given .1))) (c .before .before .write-cover .ensures)
 
 pub cover-at-spec : {M : Type 1} → statement M
 cover-at-spec =

@@ -3,7 +3,7 @@ use native.Mathlib.Omega.{arith}
 use borrow.Author.Needs.{needs}
 use mathlib.Core.Path.{_∙_}
 use Prim.Native.Nat.{_-_}
-use Rattle.blif_write.proofs.Told.{held-at, held-is}
+use Rattle.blif_write.proofs.Told.{held-is}
 use Rattle.blif_inverters.proofs.Marking.{marked-both, gates-kept, inputs-kept}
 use Rattle.blif_write.proofs.GateMarks.{GatesMarked, gates-marked-start, gates-marked-next, gates-marked-done}
 use Rattle.blif_write.proofs.get_inverted_signals.Statement.{statement}
@@ -22,7 +22,7 @@ loop-holds : tie.Need-loop-holds Inv-loop μ-loop
 loop-holds c = gates-marked-start
 
 mark-gate-requires : tie.Need-mark-gate-requires Inv-loop μ-loop
-mark-gate-requires c κs = held-at (c .before .before .before .before .before .before .before .before .before .before .before .before .before .before .before .before .pre) (c .before .before .loop-test .taken)
+mark-gate-requires c κs = c .before .before .before .before .before .before .before .before .before .before .before .before .before .before .before .before .pre .read _ (c .before .before .loop-test .taken)
 
 add-g : tie.Need-add-g Inv-loop μ-loop
 add-g c = omega (arith, c .before .before .before .before .before .before .before .loop-test .taken)
@@ -31,7 +31,7 @@ loop-less : tie.Need-loop-less Inv-loop μ-loop
 loop-less c = omega (arith, c .before .before .before .before .before .before .before .loop-test .taken)
 
 loop-again : tie.Need-loop-again Inv-loop μ-loop
-loop-again c = gates-marked-next (c .before .before .before .before .before .before .before .before .loop .inv) (c .before .before .before .before .before .before .before .loop-test .taken) (held-is (held-at (c .before .before .before .before .before .before .before .before .before .before .before .before .before .before .before .before .before .before .before .before .before .pre) (c .before .before .before .before .before .before .before .loop-test .taken))) (c .before .before .before .before .mark-gate .ensures)
+loop-again c = gates-marked-next (c .before .before .before .before .before .before .before .before .loop .inv) (c .before .before .before .before .before .before .before .loop-test .taken) (held-is (c .before .before .before .before .before .before .before .before .before .before .before .before .before .before .before .before .before .before .before .before .before .pre .read _ (c .before .before .before .before .before .before .before .loop-test .taken))) (c .before .before .before .before .mark-gate .ensures)
 
 same-length : tie.Need-same-length Inv-loop μ-loop
 same-length c = gates-kept (c .before .loop .inv .marking .marks) ∙ gates-kept (c .before .before .before .before .before .before .mark-signals .ensures)

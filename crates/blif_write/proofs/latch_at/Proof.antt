@@ -3,7 +3,7 @@ use mathlib.Core.Path.{_∙_, ap}
 use Rattle.blif_names.proofs.Laws.{as-wrote, wrote-nothing}
 use Rattle.blif_write.specs.Parts.{latchText}
 use Rattle.blif_write.proofs.Walks.{read-bad, read-good, latch-any}
-use Rattle.blif_write.proofs.Told.{as-held, held-run, latch-none}
+use Rattle.blif_write.proofs.Told.{held-run, latch-none}
 use borrow.Author.Needs.{needs}
 use Rattle.blif_write.proofs.latch_at.Statement.{statement}
 use Rattle.blif_write.proofs.latch_at.Tie as tie
@@ -33,7 +33,7 @@ same-length : tie.Need-same-length
 same-length c = search needs
 
 returns-3 : tie.Need-returns-3
-returns-3 c = as-wrote (latch-any (c .before .before .before .before .before .before .before .before .before .before .before .before .before .args .g) (c .before .before .before .before .before .gate .given .0 .0) (c .before .before .before .before .before .before .before .before .before .before .before .before .before .args .pins .now) ∙ ap (latchText (c .before .before .before .before .before .before .before .before .before .before .before .before .before .args .g)) (as-held (c .before .before .before .before .before .before .before .before .before .before .before .before .before .args .gates .now) (c .before .before .before .before .before .before .before .before .before .before .before .before .before .args .pins .now) (c .before .before .before .before .before .before .before .before .before .before .before .before .before .args .g) (read-good (c .before .before .before .before .before .before .before .before .before .before .before .before .before .args .gates .now) (c .before .before .before .before .before .before .before .before .before .before .before .before .before .args .pins .now) (c .before .before .before .before .before .before .before .before .before .before .before .before .before .args .g) (c .before .before .before .before .before .before .before .gate-at .ensures) (c .before .before .before .before .before .gate .given .1)))) (c .before .before .write-latch .ensures)
+returns-3 c = as-wrote (latch-any (c .before .before .before .before .before .before .before .before .before .before .before .before .before .args .g) (c .before .before .before .before .before .gate .given .0 .0) (c .before .before .before .before .before .before .before .before .before .before .before .before .before .args .pins .now) ∙ ap (latchText (c .before .before .before .before .before .before .before .before .before .before .before .before .before .args .g)) (read-good (c .before .before .before .before .before .before .before .before .before .before .before .before .before .args .gates .now) (c .before .before .before .before .before .before .before .before .before .before .before .before .before .args .pins .now) (c .before .before .before .before .before .before .before .before .before .before .before .before .before .args .g) (c .before .before .before .before .before .before .before .gate-at .ensures) (c .before .before .before .before .before .gate .given .1))) (c .before .before .write-latch .ensures)
 
 pub latch-at-spec : {M : Type 1} → statement M
 latch-at-spec =

@@ -1,13 +1,11 @@
 -- `write_blif` refuses by the layout, then by the gates' inputs, then by the length. Assumes nothing.
 use native.Mathlib.Omega.{arith}
 use borrow.Author.Needs.{needs}
-use mathlib.Core.Path.{sym, _∙_, ap}
+use mathlib.Core.Path.{sym, _∙_}
 use lib.ListN.{length}
 use borrow.Author.Tests.{not-true, not-false}
-use Rattle.lists.specs.Lists.{any}
-use Rattle.network.specs.Cells.{lent}
-use Rattle.blif_write.specs.Into.{wide}
-use Rattle.blif_write.proofs.Whole.{network-read, held-gates, answers-layout, answers-wide}
+use Rattle.network.specs.Cells.{netOf}
+use Rattle.blif_write.proofs.Whole.{network-read, answers-layout, answers-wide}
 use Rattle.blif_write.proofs.write_blif.Statement.{statement}
 use Rattle.blif_write.proofs.write_blif.Tie as tie
 
@@ -21,10 +19,10 @@ same-length : tie.Need-same-length
 same-length c = search needs
 
 returns : tie.Need-returns
-returns c = c .before .before .refuse .ensures ∙ answers-layout (lent (c .before .before .before .before .before .before .before .before .before .before .args .counts) (c .before .before .before .before .before .before .before .before .before .before .args .gates .now) (c .before .before .before .before .before .before .before .before .before .before .args .pins .now) (c .before .before .before .before .before .before .before .before .before .before .args .outputs .now)) (length (c .before .before .before .before .before .before .before .before .before .before .args .out .now)) (sym (c .before .before .before .before .before .check-layout .ensures) ∙ not-true _ (c .before .before .before .before .if1 .taken))
+returns c = c .before .before .refuse .ensures ∙ answers-layout _ (length (c .before .before .before .before .before .before .before .before .before .before .args .out .now)) (sym (c .before .before .before .before .before .check-layout .ensures) ∙ not-true _ (c .before .before .before .before .if1 .taken))
 
 any-wide-requires : tie.Need-any-wide-requires
-any-wide-requires c κs = network-read (lent (c .before .before .before .before .before .before .args .counts) (c .before .before .before .before .before .before .args .gates .now) (c .before .before .before .before .before .before .args .pins .now) (c .before .before .before .before .before .before .args .outputs .now)) (λ i. omega (arith, c .before .before .before .before .shared-slice-known2 .given i)) (λ i. omega (arith, c .before .before .before .shared-slice-known3 .given i)) (sym (c .before .check-layout .ensures) ∙ not-false _ (c .if1 .left))
+any-wide-requires c κs = network-read _ (λ i. omega (arith, c .before .before .before .before .shared-slice-known2 .given i)) (λ i. omega (arith, c .before .before .before .shared-slice-known3 .given i)) (sym (c .before .check-layout .ensures) ∙ not-false _ (c .if1 .left))
 
 refuse-requires-2 : tie.Need-refuse-requires-2
 refuse-requires-2 c κs = search needs
@@ -33,10 +31,12 @@ same-length-2 : tie.Need-same-length-2
 same-length-2 c = search needs
 
 returns-2 : tie.Need-returns-2
-returns-2 c = c .before .before .refuse2 .ensures ∙ answers-wide (lent (c .before .before .before .before .before .before .before .before .before .before .before .before .args .counts) (c .before .before .before .before .before .before .before .before .before .before .before .before .args .gates .now) (c .before .before .before .before .before .before .before .before .before .before .before .before .args .pins .now) (c .before .before .before .before .before .before .before .before .before .before .before .before .args .outputs .now)) (length (c .before .before .before .before .before .before .before .before .before .before .before .before .args .out .now)) (sym (c .before .before .before .before .before .before .before .check-layout .ensures) ∙ not-false _ (c .before .before .before .before .before .before .if1 .left)) (ap (any wide) (sym (held-gates (lent (c .before .before .before .before .before .before .before .before .before .before .before .before .args .counts) (c .before .before .before .before .before .before .before .before .before .before .before .before .args .gates .now) (c .before .before .before .before .before .before .before .before .before .before .before .before .args .pins .now) (c .before .before .before .before .before .before .before .before .before .before .before .before .args .outputs .now)))) ∙ sym (c .before .before .before .before .before .any-wide .ensures) ∙ c .before .before .before .before .if2 .taken)
+unfolding netOf
+returns-2 c = c .before .before .refuse2 .ensures ∙ answers-wide _ (length (c .before .before .before .before .before .before .before .before .before .before .before .before .args .out .now)) (sym (c .before .before .before .before .before .before .before .check-layout .ensures) ∙ not-false _ (c .before .before .before .before .before .before .if1 .left)) (sym (c .before .before .before .before .before .any-wide .ensures) ∙ c .before .before .before .before .if2 .taken)
 
 write-network-requires : tie.Need-write-network-requires
-write-network-requires c κs = record { network = (sym (c .before .before .before .before .check-layout .ensures) ∙ not-false _ (c .before .before .before .if1 .left)); narrow = ap (any wide) (sym (held-gates (lent (c .before .before .before .before .before .before .before .before .before .args .counts) (c .before .before .before .before .before .before .before .before .before .args .gates .now) (c .before .before .before .before .before .before .before .before .before .args .pins .now) (c .before .before .before .before .before .before .before .before .before .args .outputs .now)))) ∙ sym (c .before .before .any-wide .ensures) ∙ c .before .if2 .left; readable = network-read (lent (c .before .before .before .before .before .before .before .before .before .args .counts) (c .before .before .before .before .before .before .before .before .before .args .gates .now) (c .before .before .before .before .before .before .before .before .before .args .pins .now) (c .before .before .before .before .before .before .before .before .before .args .outputs .now)) (λ i. omega (arith, c .before .before .before .before .before .before .before .shared-slice-known2 .given i)) (λ i. omega (arith, c .before .before .before .before .before .before .shared-slice-known3 .given i)) (sym (c .before .before .before .before .check-layout .ensures) ∙ not-false _ (c .before .before .before .if1 .left)) }
+unfolding netOf
+write-network-requires c κs = record { network = (sym (c .before .before .before .before .check-layout .ensures) ∙ not-false _ (c .before .before .before .if1 .left)); narrow = sym (c .before .before .any-wide .ensures) ∙ c .before .if2 .left; readable = network-read _ (λ i. omega (arith, c .before .before .before .before .before .before .before .shared-slice-known2 .given i)) (λ i. omega (arith, c .before .before .before .before .before .before .shared-slice-known3 .given i)) (sym (c .before .before .before .before .check-layout .ensures) ∙ not-false _ (c .before .before .before .if1 .left)) }
 
 same-length-3 : tie.Need-same-length-3
 same-length-3 c = search needs

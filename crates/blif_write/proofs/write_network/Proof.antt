@@ -1,13 +1,11 @@
 -- `write_network` lends the room and looks at the length. Assumes nothing.
 use native.Mathlib.Omega.{arith}
 use borrow.Author.Needs.{needs}
-use mathlib.Core.Path.{sym, _∙_, ap}
+use mathlib.Core.Path.{sym, _∙_}
 use lib.Seq.{length-take-le}
-use Rattle.lists.specs.Lists.{any}
-use Rattle.network.specs.Cells.{lent}
+use Rattle.network.specs.Cells.{netOf}
 use Rattle.network.proofs.Lent.{network-sizes}
-use Rattle.blif_write.specs.Into.{wide}
-use Rattle.blif_write.proofs.Whole.{held-gates, ends-long, ends-written}
+use Rattle.blif_write.proofs.Whole.{ends-long, ends-written}
 use Rattle.blif_write.proofs.write_network.Statement.{statement}
 use Rattle.blif_write.proofs.write_network.Tie as tie
 
@@ -21,10 +19,11 @@ slice-aggregate-write-text : tie.Need-slice-aggregate-write-text
 slice-aggregate-write-text c = sym (length-take-le _ (c .before .before .before .before .before .before .args .out .now) (omega (arith, c .before .room-in .ensures)))
 
 slice-aggregate-write-text-2 : tie.Need-slice-aggregate-write-text-2
-slice-aggregate-write-text-2 c = sym (length-take-le _ (c .before .before .before .before .before .before .before .args .outputs .now) (network-sizes (lent (c .before .before .before .before .before .before .before .args .counts) (c .before .before .before .before .before .before .before .args .gates .now) (c .before .before .before .before .before .before .before .args .pins .now) (c .before .before .before .before .before .before .before .args .outputs .now)) (c .before .before .before .before .before .before .before .pre .network) .outs-lent))
+slice-aggregate-write-text-2 c = sym (length-take-le _ (c .before .before .before .before .before .before .before .args .outputs .now) (network-sizes _ (c .before .before .before .before .before .before .before .pre .network) .outs-lent))
 
 write-text-requires : tie.Need-write-text-requires
-write-text-requires c κs = (c .before .before .before .before .before .before .before .pre .readable, network-sizes (lent (c .before .before .before .before .before .before .before .args .counts) (c .before .before .before .before .before .before .before .args .gates .now) (c .before .before .before .before .before .before .before .args .pins .now) (c .before .before .before .before .before .before .before .args .outputs .now)) (c .before .before .before .before .before .before .before .pre .network) .few-inputs, ap (any wide) (held-gates (lent (c .before .before .before .before .before .before .before .args .counts) (c .before .before .before .before .before .before .before .args .gates .now) (c .before .before .before .before .before .before .before .args .pins .now) (c .before .before .before .before .before .before .before .args .outputs .now))) ∙ c .before .before .before .before .before .before .before .pre .narrow)
+unfolding netOf
+write-text-requires c κs = (c .before .before .before .before .before .before .before .pre .readable, network-sizes _ (c .before .before .before .before .before .before .before .pre .network) .few .inputs, c .before .before .before .before .before .before .before .pre .narrow)
 
 refuse-requires : tie.Need-refuse-requires
 refuse-requires c κs = search needs
@@ -33,7 +32,8 @@ same-length : tie.Need-same-length
 same-length c = search needs
 
 returns : tie.Need-returns
-returns c = c .before .before .refuse .ensures ∙ ends-long (lent (c .before .before .before .before .before .before .before .before .before .before .before .before .before .before .before .args .counts) (c .before .before .before .before .before .before .before .before .before .before .before .before .before .before .before .args .gates .now) (c .before .before .before .before .before .before .before .before .before .before .before .before .before .before .before .args .pins .now) (c .before .before .before .before .before .before .before .before .before .before .before .before .before .before .before .args .outputs .now)) (c .before .before .before .before .before .before .before .before .before .before .before .before .before .before .before .args .out .now) (c .before .before .before .before .before .before .before .before .before .before .before .before .before .before .before .pre) (c .before .before .before .before .before .before .before .before .before .before .room-in .ensures) (c .before .before .before .before .before .before .before .write-text .ensures) (c .before .before .before .before .if1 .taken)
+unfolding netOf
+returns c = c .before .before .refuse .ensures ∙ ends-long _ (c .before .before .before .before .before .before .before .before .before .before .before .before .before .before .before .args .out .now) (c .before .before .before .before .before .before .before .before .before .before .before .before .before .before .before .pre) (c .before .before .before .before .before .before .before .before .before .before .room-in .ensures) (c .before .before .before .before .before .before .before .write-text .ensures) (c .before .before .before .before .if1 .taken)
 
 sub-fill-zero-bytes : tie.Need-sub-fill-zero-bytes
 sub-fill-zero-bytes c = search needs
@@ -51,7 +51,8 @@ same-length-2 : tie.Need-same-length-2
 same-length-2 c = search needs
 
 returns-2 : tie.Need-returns-2
-returns-2 c = ends-written (lent (c .before .before .before .before .before .before .before .before .before .before .before .before .before .before .before .args .counts) (c .before .before .before .before .before .before .before .before .before .before .before .before .before .before .before .args .gates .now) (c .before .before .before .before .before .before .before .before .before .before .before .before .before .before .before .args .pins .now) (c .before .before .before .before .before .before .before .before .before .before .before .before .before .before .before .args .outputs .now)) (c .before .before .before .before .before .before .before .before .before .before .before .before .before .before .before .args .out .now) (c .before .before .before .before .before .before .before .before .before .before .before .before .before .before .before .pre) (c .before .before .before .before .before .before .before .before .before .before .room-in .ensures) (c .before .before .before .before .before .before .before .write-text .ensures) (c .before .before .before .before .if1 .left) (c .before .before .fill-zero-bytes .ensures)
+unfolding netOf
+returns-2 c = ends-written _ (c .before .before .before .before .before .before .before .before .before .before .before .before .before .before .before .args .out .now) (c .before .before .before .before .before .before .before .before .before .before .before .before .before .before .before .pre) (c .before .before .before .before .before .before .before .before .before .before .room-in .ensures) (c .before .before .before .before .before .before .before .write-text .ensures) (c .before .before .before .before .if1 .left) (c .before .before .fill-zero-bytes .ensures)
 
 pub write-network-spec : {M : Type 1} → statement M
 write-network-spec =

@@ -21,7 +21,7 @@ returns c = no-sizes _ _ _ _ (sym (not-true _ (c .if1 .taken)) ∙ c .before .si
 records-fit-requires : tie.Need-records-fit-requires
 records-fit-requires c κs =
     let s = sizes-give (sym (c .before .sizes-fit .ensures) ∙ not-false _ (c .if1 .left)) in
-    (s .few-gates, s .gates-lent)
+    (s .few .gates, s .gates-lent)
 
 returns-2 : tie.Need-returns-2
 returns-2 c = no-records _ _ _ _ (sym (not-true _ (c .if2 .taken)) ∙ c .before .records-fit .ensures)

@@ -4,8 +4,6 @@ use Rattle.round_trip.specs.Trip.{readAnswer}
 use borrow.Author.Needs.{needs}
 use Rattle.round_trip.proofs.read_answer.Statement.{statement}
 use Rattle.round_trip.proofs.read_answer.Tie as tie
-use Rattle.round_trip.proofs.read_answer.Reads as reads
-use Rattle.round_trip.proofs.read_answer.Lts as lts
 
 enum-known-answer : tie.Need-enum-known-answer
 enum-known-answer c = search needs

@@ -4,9 +4,6 @@ use Rattle.round_trip.specs.Trip.{answerOf}
 use borrow.Author.Needs.{needs}
 use Rattle.round_trip.proofs.trip_answer.Statement.{statement}
 use Rattle.round_trip.proofs.trip_answer.Tie as tie
-use Rattle.round_trip.proofs.trip_answer.Reads as reads
-use Rattle.round_trip.proofs.trip_answer.Lts as lts
-use Rattle.round_trip.proofs.read_answer.Reads as read-answer-reads
 
 enum-known-written : tie.Need-enum-known-written
 enum-known-written c = search needs

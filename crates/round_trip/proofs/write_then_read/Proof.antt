@@ -6,12 +6,6 @@ use Rattle.round_trip.proofs.Determined.{written-within, trip-holds}
 use borrow.Author.Needs.{needs}
 use Rattle.round_trip.proofs.write_then_read.Statement.{statement}
 use Rattle.round_trip.proofs.write_then_read.Tie as tie
-use Rattle.round_trip.proofs.write_then_read.Reads as reads
-use Rattle.round_trip.proofs.write_then_read.Lts as lts
-use Rattle.blif_read.proofs.read_blif.Reads as read-blif-reads
-use Rattle.blif_write.proofs.write_blif.Reads as write-blif-reads
-use Rattle.round_trip.proofs.trip_answer.Reads as trip-answer-reads
-use Rattle.round_trip.proofs.written_length.Reads as written-length-reads
 
 write-blif-requires : tie.Need-write-blif-requires
 write-blif-requires c κs = search needs

@@ -1,5 +1,5 @@
 -- `binary_bit` goes by the count of ones. Assumes nothing.
-use Rattle.simulate.proofs.Bits.{binary-and, binary-xor}
+use Rattle.simulate.proofs.GateBits.{binary-and, binary-xor}
 use borrow.Author.Needs.{needs}
 use Rattle.simulate.proofs.binary_bit.Statement.{statement}
 use Rattle.simulate.proofs.binary_bit.Tie as tie

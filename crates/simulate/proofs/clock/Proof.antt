@@ -1,4 +1,4 @@
--- `clock` is a clock of the network in the cells, once the bits have settled. Assumes nothing.
+-- `clock` is a clock of the network in the cells, once the bits have settled, and without a loop they do. Assumes nothing.
 use Rattle.simulate.proofs.Clocked.{clocks}
 use borrow.Author.Needs.{needs}
 use Rattle.simulate.proofs.clock.Statement.{statement}
@@ -34,8 +34,7 @@ returns c =
     let s = c .before .before .before .before .before .before .before .show in
     let t = c .before .before .step in
     let b = c .before .before .before .before .before .before .before .before .before .before .before .settle in
-    clocks (a .counts) (a .gates .now) (a .pins .now) (a .outputs .now) (a .line .now) (s .last .1 .1 .1 .1 .0) (a .row .now) (a .held .now)
-    (t .last .1 .1 .1 .1 .1 .0) (b .last .1 .1 .1 .1 .1 .1 .0) (b .ensures) (s .ensures) (s .kept .1 .1 .1 .1 .0) (t .ensures)
+    clocks (a .counts) (a .gates .now) (a .pins .now) (a .outputs .now) (b .ensures) (s .ensures) (s .kept .1 .1 .1 .1 .0) (t .ensures)
 
 pub clock-spec : {M : Type 1} → statement M
 clock-spec =

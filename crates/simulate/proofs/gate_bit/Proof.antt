@@ -1,5 +1,5 @@
 -- `gate_bit` cuts the run out of the pins and goes by the kind. Assumes nothing.
-use Rattle.simulate.proofs.Bits.{bit-no-record, bit-no-run, bit-read}
+use Rattle.simulate.proofs.GateBits.{bit-no-record, bit-no-run, bit-read}
 use borrow.Author.Needs.{needs}
 use Rattle.simulate.proofs.gate_bit.Statement.{statement}
 use Rattle.simulate.proofs.gate_bit.Tie as tie

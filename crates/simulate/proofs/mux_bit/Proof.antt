@@ -1,6 +1,6 @@
 -- `mux_bit` selects by the first pin. Assumes nothing.
 use Rattle.simulate.specs.Bits.{pinBits}
-use Rattle.simulate.proofs.Bits.{mux-second, mux-third}
+use Rattle.simulate.proofs.GateBits.{mux-second, mux-third}
 use borrow.Author.Needs.{needs}
 use Rattle.simulate.proofs.mux_bit.Statement.{statement}
 use Rattle.simulate.proofs.mux_bit.Tie as tie

@@ -1,5 +1,5 @@
 -- `nary_bit` goes by the count of ones. Assumes nothing.
-use Rattle.simulate.proofs.Bits.{nary-and, nary-or, nary-nand, nary-nor, nary-xor, nary-xnor}
+use Rattle.simulate.proofs.GateBits.{nary-and, nary-or, nary-nand, nary-nor, nary-xor, nary-xnor}
 use borrow.Author.Needs.{needs}
 use Rattle.simulate.proofs.nary_bit.Statement.{statement}
 use Rattle.simulate.proofs.nary_bit.Tie as tie

@@ -1,5 +1,5 @@
 -- `next_bit` decodes the gate. Assumes nothing.
-use Rattle.simulate.proofs.Bits.{next-good, next-bad}
+use Rattle.simulate.proofs.GateBits.{next-good, next-bad}
 use borrow.Author.Needs.{needs}
 use Rattle.simulate.proofs.next_bit.Statement.{statement}
 use Rattle.simulate.proofs.next_bit.Tie as tie

@@ -1,5 +1,5 @@
 -- `next_of` goes by the forms. Assumes nothing.
-use Rattle.simulate.proofs.Bits.{next-binary, next-ternary, next-nary, next-buf, next-dff}
+use Rattle.simulate.proofs.GateBits.{next-binary, next-ternary, next-nary, next-buf, next-dff}
 use borrow.Author.Needs.{needs}
 use Rattle.simulate.proofs.next_of.Statement.{statement}
 use Rattle.simulate.proofs.next_of.Tie as tie

@@ -1,31 +1,30 @@
--- `settle` sweeps until nothing changes. Assumes nothing.
-use mathlib.Core.Path.{_≡_, refl}
-use mathlib.Core.Bool.{false≢true}
+-- `settle` sweeps until nothing changes, and without a loop nothing does in the end. Assumes nothing.
+use mathlib.Core.Path.{_∙_}
 use Prim.Native.Nat.{_-_}
-use lib.ListN.{length}
-use borrow.Author.Tests.{not-true}
+use Rattle.simulate.proofs.Sweeping.{Settling, settling-start, settling-next, settled-now, settled-never}
+use borrow.Author.Tests.{not-true, not-false}
 use borrow.Author.Needs.{needs}
 use native.Mathlib.Omega.{arith}
 use Rattle.simulate.proofs.settle.Statement.{statement}
 use Rattle.simulate.proofs.settle.Tie as tie
 
 abbrev Inv-loop : tie.InvT-loop
-Inv-loop n most gates pins row held bits₀ counter₀ bits counter = length bits ≡ length bits₀
+Inv-loop n most gates pins row held bits₀ counter₀ bits counter = Settling n gates pins row held bits₀ bits counter
 
 abbrev μ-loop : tie.MeasureT-loop
 μ-loop n most gates pins row held bits₀ counter₀ bits counter = most - counter
 
 loop-holds : tie.Need-loop-holds Inv-loop μ-loop
-loop-holds c = refl
+loop-holds c = settling-start
 
 sweep-requires : tie.Need-sweep-requires Inv-loop μ-loop
 sweep-requires c κs = search needs
 
 same-length : tie.Need-same-length Inv-loop μ-loop
-same-length c = search needs
+same-length c = c .before .before .before .sweep .kept .1 .1 .1 .1 .1 .0 ∙ c .before .before .before .before .before .before .loop .inv .same
 
 returns : tie.Need-returns Inv-loop μ-loop
-returns c = λ e. c .before .before .before .sweep .ensures (not-true _ (c .if1 .taken))
+returns c = settled-now (c .before .before .before .sweep .ensures) (not-true _ (c .if1 .taken))
 
 add-counter : tie.Need-add-counter Inv-loop μ-loop
 add-counter c = omega arith
@@ -34,13 +33,15 @@ loop-less : tie.Need-loop-less Inv-loop μ-loop
 loop-less c = omega arith
 
 loop-again : tie.Need-loop-again Inv-loop μ-loop
-loop-again c = search needs
+loop-again c =
+    let sweep = c .before .before .before .sweep in
+    settling-next (sweep .ensures) (c .before .before .before .before .before .before .loop .inv) (sweep .kept .1 .1 .1 .1 .1 .0) (not-false _ (c .if1 .left))
 
 same-length-2 : tie.Need-same-length-2 Inv-loop μ-loop
-same-length-2 c = search needs
+same-length-2 c = c .before .loop .inv .same
 
 returns-2 : tie.Need-returns-2 Inv-loop μ-loop
-returns-2 c = λ e. absurd (false≢true e)
+returns-2 c = settled-never (c .before .loop .inv) (c .loop-test .left)
 
 pub settle-spec : {M : Type 1} → statement M
 settle-spec =

@@ -18,8 +18,8 @@ abbrev μ-loop : tie.MeasureT-loop
 loop-holds : tie.Need-loop-holds Inv-loop μ-loop
 loop-holds c = (refl, λ j h l. absurd (omega (arith, h)))
 
-word-at-requires : tie.Need-word-at-requires Inv-loop μ-loop
-word-at-requires c κs = search needs
+cell-at-requires : tie.Need-cell-at-requires Inv-loop μ-loop
+cell-at-requires c κs = search needs
 
 sig-bit-requires : tie.Need-sig-bit-requires Inv-loop μ-loop
 sig-bit-requires c κs = search needs
@@ -41,7 +41,7 @@ loop-again c =
     let a = c .before .before .before .before .before .before .before .before .before .before .before .before .before .args in
     let l = c .before .before .before .before .before .before .before .before .loop in (
       search needs,
-      shown-next (a .outputs .now) (a .row .now) (a .bits .now) (l .line) _ (l .inv .1) (c .before .before .before .before .before .before .word-at .ensures) (c .before .before .before .before .sig-bit .ensures) (c .before .before .before .digit .ensures)
+      shown-next (a .outputs .now) (a .row .now) (a .bits .now) (l .line) _ (l .inv .1) (c .before .before .before .before .before .before .cell-at .ensures) (c .before .before .before .before .sig-bit .ensures) (c .before .before .before .digit .ensures)
           (c .before .before .put-byte .ensures),
     )
 
@@ -58,7 +58,7 @@ show-spec =
     Inv-loop
     μ-loop
     loop-holds
-    word-at-requires
+    cell-at-requires
     sig-bit-requires
     digit-requires
     put-byte-requires

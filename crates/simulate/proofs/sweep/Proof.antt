@@ -1,24 +1,20 @@
--- `sweep` tells a bit that changed, and without one leaves bits that fit. Assumes nothing.
-use mathlib.Core.Path.{_≡_, refl, sym, _∙_}
-use mathlib.Core.Bool.{false, true≢false}
+-- `sweep` tells a bit that changed, without one leaves bits that fit, and makes the gates of one rank more right. Assumes nothing.
 use mathlib.Core.Logic.{⊎-elim}
 use Prim.Native.Nat.{_-_}
-use lib.ListN.{length}
-use Rattle.simulate.specs.Bits.{FitWhen}
-use Rattle.simulate.proofs.Clocked.{fit-same}
+use Rattle.simulate.proofs.Sweeping.{Sweeping, sweeping-start, sweeping-same, sweeping-changed, sweeping-done}
 use borrow.Author.Needs.{needs}
 use native.Mathlib.Omega.{arith}
 use Rattle.simulate.proofs.sweep.Statement.{statement}
 use Rattle.simulate.proofs.sweep.Tie as tie
 
 abbrev Inv-loop : tie.InvT-loop
-Inv-loop n gates pins row held bits₀ changed₀ g₀ bits changed g = (length bits ≡ length bits₀) × FitWhen false changed g gates pins row held bits
+Inv-loop n gates pins row held bits₀ changed₀ g₀ bits changed g = Sweeping n gates pins row held bits₀ bits changed g
 
 abbrev μ-loop : tie.MeasureT-loop
 μ-loop n gates pins row held bits₀ changed₀ g₀ bits changed g = n - g
 
 loop-holds : tie.Need-loop-holds Inv-loop μ-loop
-loop-holds c = (refl, λ e j h. absurd (omega (arith, h)))
+loop-holds c = sweeping-start
 
 bit-at-requires : tie.Need-bit-at-requires Inv-loop μ-loop
 bit-at-requires c κs = search needs
@@ -41,19 +37,19 @@ loop-less c = omega arith
 loop-again : tie.Need-loop-again Inv-loop μ-loop
 loop-again c =
     let l = c .before .before .before .before .before .before .before .before .before .before .before .loop in
-    let a = c .before .before .before .before .before .before .before .before .before .before .before .before .before .before .before .before .before .args in (
-      search needs,
-      ⊎-elim (λ w f. absurd (true≢false (sym (w .1) ∙ f)))
-          (λ w. fit-same (a .gates .now) (a .pins .now) (a .row .now) (a .held .now) (l .bits) (l .g) (l .inv .1) (c .before .before .before .before .before .before .before .before .bit-at .ensures) (c .before .before .before .before .before .before .before .gate-bit .ensures)
-          (c .before .before .before .before .before .bit-at2 .ensures) (w .0 .left) (c .before .before .put-bit .ensures) (w .1))
-          (c .before .before .before .before .if1 .came),
-    )
+    let below = c .before .before .before .before .before .before .before .before .before .before .loop-test .taken in
+    let h = c .before .before .before .before .before .before .before .before .bit-at .ensures in
+    let b = c .before .before .before .before .before .before .before .gate-bit .ensures in
+    let x = c .before .before .before .before .before .bit-at2 .ensures in
+    let put = c .before .before .put-bit .ensures in
+    ⊎-elim (λ w. sweeping-changed (l .inv) below h b x put (w .0 .taken) (w .1)) (λ w. sweeping-same (l .inv) below h b x put (w .0 .left) (w .1))
+    (c .before .before .before .before .if1 .came)
 
 same-length : tie.Need-same-length Inv-loop μ-loop
-same-length c = c .before .loop .inv .0
+same-length c = c .before .loop .inv .same
 
 returns : tie.Need-returns Inv-loop μ-loop
-returns c = λ e j l. c .before .loop .inv .1 e j (omega (arith, l, c .loop-test .left))
+returns c = sweeping-done (c .before .loop .inv) (c .loop-test .left)
 
 pub sweep-spec : {M : Type 1} → statement M
 sweep-spec =

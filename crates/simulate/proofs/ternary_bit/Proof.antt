@@ -1,5 +1,5 @@
 -- `ternary_bit` goes by the count of ones, or takes the bit chosen. Assumes nothing.
-use Rattle.simulate.proofs.Bits.{ternary-and, ternary-xor, ternary-maj, ternary-mux}
+use Rattle.simulate.proofs.GateBits.{ternary-and, ternary-xor, ternary-maj, ternary-mux}
 use borrow.Author.Needs.{needs}
 use Rattle.simulate.proofs.ternary_bit.Statement.{statement}
 use Rattle.simulate.proofs.ternary_bit.Tie as tie

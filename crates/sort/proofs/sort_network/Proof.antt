@@ -18,7 +18,7 @@ returns : tie.Need-returns
 returns c = no-network _ _ _ (sym (c .before .check-layout .ensures) ∙ not-true _ (c .if1 .taken))
 
 mul-if2 : tie.Need-mul-if2
-mul-if2 c = omega (arith, network-sizes _ (sym (c .before .before .check-layout .ensures) ∙ not-false _ (c .before .if1 .left)) .few-gates)
+mul-if2 c = omega (arith, network-sizes _ (sym (c .before .before .check-layout .ensures) ∙ not-false _ (c .before .if1 .left)) .few .gates)
 
 same-length-2 : tie.Need-same-length-2
 same-length-2 c = search needs

@@ -1,7 +1,7 @@
 -- `visit_all` visits until the stack is empty. Assumes nothing.
 use mathlib.Core.Path.{sym, _∙_}
 use native.Mathlib.Omega.{arith}
-use Rattle.sort_order.specs.Walk.{budget}
+use Rattle.sort_order.proofs.Walk.{budget}
 use Rattle.sort.specs.Steps.{cellGraph, down}
 use Rattle.sort.proofs.Visiting.{Walking, walking-start, walking-next, walking-end, next-budget}
 use Rattle.sort.proofs.visit_all.Statement.{statement}

@@ -5,8 +5,6 @@ use Rattle.vumneath.specs.Handed.{textFor}
 use borrow.Author.Needs.{needs}
 use Rattle.vumneath.proofs.text_of.Statement.{statement}
 use Rattle.vumneath.proofs.text_of.Tie as tie
-use Rattle.vumneath.proofs.text_of.Reads as reads
-use Rattle.vumneath.proofs.text_of.Lts as lts
 
 enum-known-answer : tie.Need-enum-known-answer
 enum-known-answer c = search needs

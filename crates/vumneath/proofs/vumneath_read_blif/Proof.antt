@@ -3,10 +3,6 @@ use Rattle.vumneath.proofs.Handing.{counts-fit, read-handed}
 use borrow.Author.Needs.{needs}
 use Rattle.vumneath.proofs.vumneath_read_blif.Statement.{statement}
 use Rattle.vumneath.proofs.vumneath_read_blif.Tie as tie
-use Rattle.vumneath.proofs.vumneath_read_blif.Reads as reads
-use Rattle.vumneath.proofs.vumneath_read_blif.Lts as lts
-use Rattle.blif_read.proofs.read_blif.Reads as read-blif-reads
-use Rattle.vumneath.proofs.network_of.Reads as network-of-reads
 
 read-blif-requires : tie.Need-read-blif-requires
 read-blif-requires c κs = search needs

@@ -3,10 +3,6 @@ use Rattle.vumneath.proofs.Handing.{length-fits, write-handed}
 use borrow.Author.Needs.{needs}
 use Rattle.vumneath.proofs.vumneath_write_blif.Statement.{statement}
 use Rattle.vumneath.proofs.vumneath_write_blif.Tie as tie
-use Rattle.vumneath.proofs.vumneath_write_blif.Reads as reads
-use Rattle.vumneath.proofs.vumneath_write_blif.Lts as lts
-use Rattle.blif_write.proofs.write_blif.Reads as write-blif-reads
-use Rattle.vumneath.proofs.text_of.Reads as text-of-reads
 
 write-blif-requires : tie.Need-write-blif-requires
 write-blif-requires c κs = search needs

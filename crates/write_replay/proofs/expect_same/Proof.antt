@@ -14,11 +14,11 @@ abbrev μ-loop : tie.MeasureT-loop
 loop-holds : tie.Need-loop-holds Inv-loop μ-loop
 loop-holds c = tt
 
-word-at-requires : tie.Need-word-at-requires Inv-loop μ-loop
-word-at-requires c κs = search needs
+cell-at-requires : tie.Need-cell-at-requires Inv-loop μ-loop
+cell-at-requires c κs = search needs
 
-word-at-requires-2 : tie.Need-word-at-requires-2 Inv-loop μ-loop
-word-at-requires-2 c κs = search needs
+cell-at-requires-2 : tie.Need-cell-at-requires-2 Inv-loop μ-loop
+cell-at-requires-2 c κs = search needs
 
 slice-aggregate-write-all : tie.Need-slice-aggregate-write-all Inv-loop μ-loop
 slice-aggregate-write-all c = search needs
@@ -48,8 +48,8 @@ expect-same-spec =
     Inv-loop
     μ-loop
     loop-holds
-    word-at-requires
-    word-at-requires-2
+    cell-at-requires
+    cell-at-requires-2
     slice-aggregate-write-all
     write-all-requires
     returns

@@ -1,9 +1,9 @@
--- `word_at` reads a cell, or zero past the end. Assumes nothing.
+-- `cell_at` reads a cell, or zero past the end. Assumes nothing.
 use mathlib.Core.Path.{sym}
 use lib.ListN.{List·getD-eq-default}
 use borrow.Author.Needs.{needs}
-use Rattle.simulate.proofs.word_at.Statement.{statement}
-use Rattle.simulate.proofs.word_at.Tie as tie
+use Rattle.lists.proofs.cell_at.Statement.{statement}
+use Rattle.lists.proofs.cell_at.Tie as tie
 
 mul-result : tie.Need-mul-result
 mul-result c = search needs
@@ -17,5 +17,5 @@ returns c = search needs
 returns-2 : tie.Need-returns-2
 returns-2 c = sym (List·getD-eq-default (c .before .args .cells .now) 0 (c .if1 .left))
 
-pub word-at-spec : {M : Type 1} → statement M
-word-at-spec = tie.close (tie.spec mul-result shared-slice-read-result returns returns-2)
+pub cell-at-spec : {M : Type 1} → statement M
+cell-at-spec = tie.close (tie.spec mul-result shared-slice-read-result returns returns-2)
