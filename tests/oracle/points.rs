@@ -171,9 +171,11 @@ const COVERS: &[(u32, &str)] = &[
     (0, ".inputs a\n.outputs q\n.latch a q re c 1"),
     (0, ".inputs a\n.outputs q\n.latch a q"),
     (11, ".inputs q\n.latch a b q"),
-    // names of equal hashes and names that begin alike
+    // names of one tree of the index, names of one hash, and names that begin alike
     (0, ".inputs aa xh a aab aaa\n.outputs xh aa aaa a aab"),
     (11, ".inputs aa\n.outputs xh"),
+    (0, ".inputs PPPPPPPPPPPP EMNSIHPSVDHK CUPKXKP^PXTN\n.outputs CUPKXKP^PXTN EMNSIHPSVDHK PPPPPPPPPPPP"),
+    (11, ".inputs PPPPPPPPPPPP EMNSIHPSVDHK\n.outputs CUPKXKP^PXTN"),
 ];
 
 const SORT: &[(u32, &str)] = &[

@@ -160,17 +160,16 @@ fn whole(r: &mut Numbers, k: usize) -> Vec<u8> {
     all.concat().into_bytes()
 }
 
-// Distinct long names that are hard to tell apart: of the pieces `Aa` and `BB`, which one hash of names does not tell apart, or alike
-// but for one byte.
+// Distinct long names that are hard to tell apart: of pieces that the index's hash does not tell apart, or alike but for one byte.
 fn alike(r: &mut Numbers, n: usize) -> Vec<String> {
-    let length = 8 + r.below(60);
     let pieces = r.below(2) == 0;
+    let length = if pieces { 4 + r.below(5) } else { 8 + r.below(60) };
     let mut all: Vec<String> = Vec::new();
     while all.len() < n {
         let place = r.below(length);
         let letter = (b'a' + r.below(26) as u8) as char;
         let piece = |k: usize, r: &mut Numbers| match pieces {
-            true => pick(r, &["Aa", "BB"]).to_string(),
+            true => pick(r, &["PPPPPPPPPPPP", "EMNSIHPSVDHK", "CUPKXKP^PXTN"]).to_string(),
             false => if k == place { letter } else { '_' }.to_string(),
         };
         let name: String = (0..length).map(|k| piece(k, r)).collect();
