@@ -72,8 +72,8 @@ fn definitions(size: usize) -> String {
     text + ".end\n"
 }
 
-// Names of four letters or digits that the part's index puts into one chain.
-fn one_chain() -> impl Iterator<Item = String> {
+// Names of four letters or digits that the part's index puts into one tree.
+fn one_tree() -> impl Iterator<Item = String> {
     let signs = b"abcdefghijklmnopqrstuvwxyz0123456789";
     let names = (0..36usize.pow(4)).map(|k| [k / 46656, k / 1296 % 36, k / 36 % 36, k % 36].map(|d| signs[d]));
     names.filter(|n| n.iter().fold(0, |h, c| (h * 623 + *c as usize) % 1024) == 0).map(|n| String::from_utf8_lossy(&n).into_owned())
@@ -103,15 +103,55 @@ fn xor(inputs: usize) -> String {
     text + ".end\n"
 }
 
-// The worst text for the index: as many gates as there are names of one chain, each with two of them as inputs.
-pub fn worst() -> Input {
+// Changes to a name of twelve letters that leave its hash as it is: short vectors d with d[0] * 623^11 + .. + d[11] = 0 modulo 2^54, found
+// by lattice reduction.
+const NO_CHANGE: [[i32; 12]; 12] = [
+    [-11, -3, -2, 3, -7, -8, 0, 3, 6, -12, -8, -5],
+    [-13, 5, 0, -5, 8, -5, 0, 14, 0, 8, 4, -2],
+    [7, 4, 2, -13, -10, 13, 6, -8, 4, 1, -3, 9],
+    [-3, -2, 3, -5, -9, -15, 8, 5, -3, 14, 0, -1],
+    [5, -2, -8, -4, 4, 0, 8, 0, 1, -21, -13, 8],
+    [-2, 11, -8, -2, -10, 1, 14, -5, -9, 6, -9, -3],
+    [3, 15, 8, -4, -8, -5, -3, -15, -8, 0, 2, 3],
+    [-7, 1, 7, -13, 10, -21, 2, -2, 9, 1, -10, -3],
+    [-15, 4, 6, -9, -2, 10, -9, 8, -2, 3, -19, -9],
+    [1, 2, 7, 5, 2, 6, 15, 3, -3, 8, 16, -18],
+    [-6, -7, 11, 4, 10, 8, 16, 3, -10, -1, -5, 9],
+    [-4, 13, 4, 18, -13, -4, 4, 8, 2, 10, -5, 7],
+];
+
+// Names of one hash: sums of some of the changes to a name of twelve letters, where each letter is one that a name may have.
+fn one_hash() -> impl Iterator<Item = String> {
+    (0..1u32 << NO_CHANGE.len()).filter_map(|some| {
+        let mut name = [80i32; 12];
+        for (_, change) in NO_CHANGE.iter().enumerate().filter(|(i, _)| some >> i & 1 == 1) {
+            name.iter_mut().zip(change).for_each(|(c, d)| *c += d);
+        }
+        if name.iter().all(|c| (36..127).contains(c) && *c != 92) {
+            Some(name.iter().map(|c| *c as u8 as char).collect())
+        } else {
+            None
+        }
+    })
+}
+
+// A text made against the index: as many gates as there is room for, or names, each with two earlier names as inputs.
+fn against_the_index(name: &str, names: Vec<String>) -> Input {
     let mut numbers = Numbers(1);
-    let names: Vec<String> = one_chain().take(1027).collect();
     let mut text = format!(".model m\n.inputs {}\n", names[..3].join(" "));
     for g in 3..names.len() {
-        let _ = write!(text, ".names {} {} {}\n11 1\n", names[numbers.below(g)], names[numbers.below(g)], names[g]);
+        let gate = format!(".names {} {} {}\n11 1\n", names[numbers.below(g)], names[numbers.below(g)], names[g]);
+        if text.len() + gate.len() > 32768 {
+            break;
+        }
+        text += &gate;
     }
-    Input { name: "one-chain".to_string(), text: text.into_bytes(), file: false }
+    Input { name: name.to_string(), text: text.into_bytes(), file: false }
+}
+
+// Names that share a tree of the index, and names that share a whole hash.
+pub fn worst() -> [Input; 2] {
+    [against_the_index("one-tree", one_tree().take(1027).collect()), against_the_index("one-hash", one_hash().take(1027).collect())]
 }
 
 // A text of one piece, as often as 32,768 bytes have room for.

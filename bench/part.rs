@@ -49,6 +49,11 @@ impl Lent {
         }
     }
 
+    // Whether every cell is zero, without a stop at one that is not, so that the compiler looks at several at once.
+    pub fn all_zero(&self) -> bool {
+        [&self.gates, &self.pins, &self.outputs, &self.work_gates, &self.work_pins].iter().all(|cells| cells.iter().fold(0, |all, c| all | c) == 0)
+    }
+
     pub fn read(&mut self, text: &[u8]) -> NetworkAnswer {
         unsafe {
             vumneath_read_blif(

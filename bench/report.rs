@@ -1,5 +1,5 @@
 // The table, the plot and the page docs/speed.md.
-use crate::{Measured, Pair};
+use crate::{Measured, Pair, Rule};
 use std::collections::HashMap;
 use std::fmt::Write;
 
@@ -93,7 +93,14 @@ fn svg(rows: &[Measured]) -> String {
     s + "<text x=\"60\" y=\"424\">whole lines: this part; broken lines: Quaigh, in Rust</text>\n</svg>\n"
 }
 
-pub fn report(rows: &[Measured], made: usize, worst: &Measured, folder: &str, docs: &str) {
+// The inputs on which the Rust is ahead: both times, and what the rule costs by itself.
+fn slower(rows: &[Measured], what: &str, alone: f64, f: fn(&Measured) -> Option<Pair>) -> String {
+    let slow = pairs(rows, f).into_iter().filter(|(_, p)| ratio(p) < 1.0);
+    slow.map(|(name, p)| format!("| {what} {name} | {:.2} | {:.2} | {:.2} |\n", p.part / 1e3, p.rust / 1e3, alone / 1e3)).collect()
+}
+
+pub fn report(rows: &[Measured], made: usize, worst: &[Measured], rule: &Rule, folder: &str, docs: &str) {
+    let behind = slower(rows, "reading", rule.look, |m| m.read) + &slower(rows, "writing", rule.clear, |m| m.write);
     let cores = std::thread::available_parallelism().map_or(1, |n| n.get());
     let (made, given) = rows.split_at(made);
     let mut lines = vec![summary("reading", made, |m| m.read), summary("writing", made, |m| m.write)];
@@ -106,11 +113,17 @@ pub fn report(rows: &[Measured], made: usize, worst: &Measured, folder: &str, do
     let filled: String = made.iter().filter(|m| m.name.starts_with("small-gates-")).map(|m| format!("| {} | {:.2} | {:.2} |\n", m.bytes, m.read.unwrap().part / 1e3, m.read_filled / 1e3)).collect();
     print!("{}", table(rows, folder));
     println!("{}", lines.join("\n"));
-    let w = worst.read.expect("the worst text is read");
-    let chain = format!("{} bytes, {:.0} µs here and {:.0} µs in the Rust", worst.bytes, w.part / 1e3, w.rust / 1e3);
-    println!("names of one chain: {chain}");
+    let told: Vec<String> = worst
+        .iter()
+        .map(|m| {
+            let p = m.read.expect("a text made against the index is read");
+            format!("{} bytes, {:.0} µs here and {:.0} µs in the Rust", m.bytes, p.part / 1e3, p.rust / 1e3)
+        })
+        .collect();
+    println!("names of one tree: {}\nnames of one hash: {}", told[0], told[1]);
+    print!("{behind}");
     let points: String = lines.iter().map(|l| format!("- {l}\n")).collect();
-    let page = include_str!("speed.template").replace("@CORES@", &cores.to_string()).replace("@SUMMARY@", points.trim_end()).replace("@TABLE@", table(made, folder).trim_end()).replace("@FILLED@", filled.trim_end()).replace("@CHAIN@", &chain);
+    let page = include_str!("speed.template").replace("@CORES@", &cores.to_string()).replace("@SUMMARY@", points.trim_end()).replace("@TABLE@", table(made, folder).trim_end()).replace("@FILLED@", filled.trim_end()).replace("@TREE@", &told[0]).replace("@HASH@", &told[1]).replace("@LOOK@", &format!("{:.2}", rule.look / 1e3)).replace("@CLEAR@", &format!("{:.2}", rule.clear / 1e3)).replace("@SLOWER@", behind.trim_end());
     std::fs::write(format!("{docs}/speed.md"), page).unwrap();
     std::fs::write(format!("{docs}/speed.svg"), svg(made)).unwrap();
 }
