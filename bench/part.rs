@@ -49,9 +49,10 @@ impl Lent {
         }
     }
 
-    // Whether every cell is zero, without a stop at one that is not, so that the compiler looks at several at once.
+    // Whether every cell is zero, block by block, without a stop within a block, so that the compiler looks at several cells at once.
     pub fn all_zero(&self) -> bool {
-        [&self.gates, &self.pins, &self.outputs, &self.work_gates, &self.work_pins].iter().all(|cells| cells.iter().fold(0, |all, c| all | c) == 0)
+        let blocks = |cells: &[u32]| cells.chunks_exact(256).all(|b| b.iter().fold(0, |all, c| all | *c) == 0);
+        blocks(&self.gates) && blocks(&self.pins) && blocks(&self.outputs) && blocks(&self.work_gates) && blocks(&self.work_pins)
     }
 
     pub fn read(&mut self, text: &[u8]) -> NetworkAnswer {
