@@ -14,8 +14,8 @@ use Rattle.lists.proofs.Same.{same-is}
 use Rattle.blif_text.specs.Places.{tokenOf, tokensOf}
 use Rattle.blif_text.specs.Decls.{columns, output, isOne}
 use Rattle.blif_text.proofs.ColumnLaws.{row-count, last-output}
-use Rattle.blif_model.specs.Read.{_then_, when, goodLine}
-use Rattle.blif_covers.specs.Pass.{isColumn, outputOf, withOutput, right, fits}
+use Rattle.blif_model.specs.Read.{_then_, when, goodLine, isColumn}
+use Rattle.blif_covers.specs.Pass.{outputOf, withOutput, right, fits}
 use Rattle.blif_covers.specs.declared.Output.{Output}
 use Rattle.blif_covers.specs.declared.Output.the-variants.{Zero, One, Wrong}
 use Rattle.blif_covers.specs.declared.Outputs.{Outputs}

@@ -14,12 +14,12 @@ use Rattle.lists.specs.Lists.{Bytes, all, range}
 use Rattle.lists.proofs.Tests.{by-order}
 use Rattle.blif_text.specs.Places.{maxTokens, InText, tokenOf, tokensOf}
 use Rattle.blif_text.specs.Decls.{columns}
-use Rattle.blif_text.specs.Keywords.{RowTo}
+use Rattle.blif_text.specs.PlacedStatements.{RowTo}
 use Rattle.blif_text.specs.Walk.{rowsFrom, Inside, RowsAt}
 use Rattle.blif_text.specs.Blocks.{firstName, nameCount, lineCount, defFrom, defAt, defsAt, BlockIn, Blocks}
 use Rattle.blif_text.proofs.RowWalk.{inside-less, rows-end, rows-next, rows-are}
-use Rattle.blif_model.specs.Read.{_then_, when, coverFault, coverFaults}
-use Rattle.blif_covers.specs.Pass.{isColumn, outputOf, withOutput, differ, fits, linesIn}
+use Rattle.blif_model.specs.Read.{_then_, when, coverFault, coverFaults, isColumn}
+use Rattle.blif_covers.specs.Pass.{outputOf, withOutput, differ, fits, linesIn}
 use Rattle.blif_covers.specs.declared.Output.{Output}
 use Rattle.blif_covers.specs.declared.Outputs.{Outputs}
 use Rattle.blif_covers.proofs.CoverLaws.{noOutput, block-fault, latch-none, cover-lines, none-left}

@@ -9,10 +9,6 @@ use Rattle.blif_covers.specs.declared.Output.{Output}
 use Rattle.blif_covers.specs.declared.Output.the-variants.{Zero, One, Wrong}
 use Rattle.blif_covers.specs.declared.Outputs.{Outputs}
 
--- "a column other than 0, 1, dash" is wrong
-abbrev pub isColumn : ℕ → Bool
-isColumn c = elem c (48 ∷ 49 ∷ 45 ∷ [])
-
 -- "an output other than 0, 1" is wrong
 abbrev pub outputOf : Bytes → Output
 outputOf t = if same t (48 ∷ []) then Zero else if same t (49 ∷ []) then One else Wrong

@@ -8,8 +8,8 @@ use lists::equal;
 ghost use mathlib.Core.Path.{_≡_};
 ghost use Prim.Native.Nat.{_-_, _<_};
 ghost use Rattle.blif_text.specs.Blocks.{defsAt, Blocks};
-ghost use Rattle.blif_model.specs.Read.{coverFaults};
-ghost use Rattle.blif_covers.specs.Pass.{isColumn, outputOf, withOutput, differ, fits, linesIn};
+ghost use Rattle.blif_model.specs.Read.{coverFaults, isColumn};
+ghost use Rattle.blif_covers.specs.Pass.{outputOf, withOutput, differ, fits, linesIn};
 
 // What a line's last token says of its output.
 enum Output {

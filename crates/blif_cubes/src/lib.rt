@@ -9,7 +9,7 @@ ghost use mathlib.Core.List.{[], _++_};
 ghost use Prim.Native.Nat.{_≤_, _<_};
 ghost use lib.ListN.{length, getD, replicate};
 ghost use Rattle.gates.specs.Forms.{binaryForm, ternaryForm, naryForm};
-ghost use Rattle.blif_model.specs.Write.{linesOf};
+ghost use Rattle.blif_model.specs.Write.{linesOf, maxExclusive};
 ghost use Rattle.blif_names.specs.Text.{Wrote, Appended};
 ghost use Rattle.blif_cubes.specs.Lines.{outputText, maskColumns, cubeOf, sameCube, mintermAt, maskLines, linesText, rowsOf, Narrow};
 
@@ -83,7 +83,7 @@ fn write_minterm(out: &mut [u8], mask: u32, num_vars: usize, parity: u32) -> usi
 
 // Writes the lines of all masks of that parity, in rising order.
 fn write_masks(out: &mut [u8], num_vars: usize, parity: u32) -> usize
-    requires { ⌜ «num_vars» ≤ 12 ⌝ }
+    requires { ⌜ «num_vars» ≤ maxExclusive ⌝ }
     ensures { λ r. ⌜ Wrote (maskLines parity «num_vars») (now (out .entry)) (now (out .exit)) r ⌝ }
 {
     let count = 1u32 << (num_vars as u32);

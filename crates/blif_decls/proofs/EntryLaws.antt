@@ -19,8 +19,8 @@ use Rattle.signal.specs.Signal.{Signal, Input, Gated, plain}
 use Rattle.signal.specs.Cell.{sigCell}
 use Rattle.blif_text.specs.Decls.{Def, Decl, model, end, inputs, outputs, gate, insOf, defsOf, ins, defs, defines}
 use Rattle.name_index.specs.Search.{Entry, signalIn}
-use Rattle.blif_model.specs.Names.{byte-names}
-use Rattle.blif_model.specs.Render.{blockOf, modelOf}
+use Rattle.blif_model.specs.Lookup.{byte-names}
+use Rattle.blif_model.specs.Model.{blockOf, modelOf}
 use Rattle.blif_model.specs.Read.{tooLarge, naming, look}
 use Rattle.blif_model.proofs.Lookups.{looks}
 use Rattle.blif_model.proofs.Passed.{target-of, once-of}

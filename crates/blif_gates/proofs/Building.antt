@@ -14,7 +14,7 @@ use Rattle.gates.specs.Gate.{Gate}
 use Rattle.blif_text.specs.Decls.{Def}
 use Rattle.blif_model.specs.Blif.{Block}
 use Rattle.blif_model.specs.Build.{blockGate, moreGates, mains, extras}
-use Rattle.blif_model.specs.Render.{blockOf}
+use Rattle.blif_model.specs.Model.{blockOf}
 use Rattle.blif_model.specs.Working.{GateIn, GatesIn, placed}
 use Rattle.blif_model.proofs.Reading.{mains-length}
 use Rattle.blif_gates.specs.declared.Built.{Built}
@@ -149,21 +149,21 @@ building-done {ds} {gates₀} {pins₀} {used} {g} {j} {gates} {pinsIn} r size b
     let t : take j ds ≡ ds = take-all j ds (omega arith) in
     let next : r .gates ≡ g + sumOf addedOf ds = rw t at (w .counted) in
     let at : r .pins ≤ used + sumOf addedPins ds = rw t at (w .few) in
-    let main-count : (look : Bytes → Signal) → length (mains look (length ds) (map blockOf ds)) ≡ length ds =
-    λ look. mains-length look (length ds) (map blockOf ds) ∙ length-map ds blockOf in
+    let main-count : (look : Bytes → Signal) → length (mains look (length (map blockOf ds)) (map blockOf ds)) ≡ length ds =
+    λ look. mains-length look (length (map blockOf ds)) (map blockOf ds) ∙ length-map ds blockOf in
     record {
       counted = λ look.
           next
           ∙ ap₂ (λ (a c : ℕ). a + c) (sym (main-count look ∙ size)) (sym (extras-long look ds))
-          ∙ sym (length-append (mains look (length ds) (map blockOf ds)) (extras look (map blockOf ds)));
+          ∙ sym (length-append (mains look (length (map blockOf ds)) (map blockOf ds)) (extras look (map blockOf ds)));
       fewGates = omega (arith, next, gates-split ds, size, b .fewGates);
       fewPins = omega (arith, at, pins-split ds, b .start, b .fewPins);
       gates-in = λ look first k x e.
           let s = w .stands look first in
           ⊎-elim
-          (λ q. s .mainsIn k x (rw (t, ← size) q))
+          (λ q. s .mainsIn k x (rw (t, ← size) (rw (length-map ds blockOf) at q)))
           (λ q.
           let a : g + q .0 ≡ k = omega (arith, q .1, main-count look, size) in
           subst (λ (i : ℕ). GateIn gates pinsIn (r .pins) i x) a (s .extrasIn (q .0) x (rw t (q .2))))
-          (append-place (mains look (length ds) (map blockOf ds)) (extras look (map blockOf ds)) k x e);
+          (append-place (mains look (length (map blockOf ds)) (map blockOf ds)) (extras look (map blockOf ds)) k x e);
     }

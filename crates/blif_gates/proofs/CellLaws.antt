@@ -17,7 +17,7 @@ use Rattle.gates.specs.Gate.{pins}
 use Rattle.gates.specs.Forms.{formCell}
 use Rattle.blif_model.specs.Blif.{Col, C0, C1, Dash}
 use Rattle.blif_model.specs.Build.{literals, literalGate}
-use Rattle.blif_model.specs.Render.{colOfByte}
+use Rattle.blif_model.specs.Model.{colOfByte}
 use Rattle.blif_gates.specs.Steps.{turnCell, columnCells, literalCells, lineCells, lineForm}
 
 -- ---- lists with the same front

@@ -17,7 +17,7 @@ use Rattle.blif_text.specs.Blocks.{defAt, defsAt}
 use Rattle.blif_model.specs.Blif.{Block, Line}
 use Rattle.blif_model.specs.Build.{lineGate, lineGates, blockGate, moreGates, mains, extras}
 use Rattle.blif_model.specs.Read.{_then_, gateCount, pinCount, added, coverFault, coverFaults}
-use Rattle.blif_model.specs.Render.{lineOf, blockOf}
+use Rattle.blif_model.specs.Model.{lineOf, blockOf}
 use Rattle.blif_model.specs.Working.{placed, placedCount}
 use Rattle.blif_gates.specs.Steps.{addedOf, addedPins}
 use Rattle.blif_gates.proofs.CoverLaws.{added-many}

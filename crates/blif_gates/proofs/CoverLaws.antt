@@ -17,12 +17,12 @@ use Rattle.gates.specs.Gate.{OrN, AndN, Buf, Gate, Comb}
 use Rattle.gates.specs.Forms.{formNumber, formCell}
 use Rattle.network.specs.Cells.{gateWidth, maxGates, maxPins, firstAt, countAt}
 use Rattle.blif_text.specs.Decls.{columns, isOne}
-use Rattle.blif_text.specs.Keywords.{RowTo}
+use Rattle.blif_text.specs.PlacedStatements.{RowTo}
 use Rattle.blif_text.specs.Walk.{rowsFrom}
 use Rattle.blif_text.proofs.RowWalk.{inside-less, row-there, rows-are}
 use Rattle.blif_model.specs.Build.{lineGate, gateRun, coverGate, lineGates}
 use Rattle.blif_model.specs.Read.{goodLine, added}
-use Rattle.blif_model.specs.Render.{lineOf}
+use Rattle.blif_model.specs.Model.{lineOf}
 use Rattle.blif_model.specs.Working.{GateIn}
 use Rattle.blif_gates.specs.Steps.{joinForm, LineRoom, LinePut, rowTokens, GoodRow, GatesKept, GoodRows, LinesRoom, LinesPut, CoverRoom, CoverBuilt}
 use Rattle.blif_gates.proofs.CellLaws.{run-front}

@@ -13,7 +13,7 @@ use Rattle.gates.specs.Gate.{Buf, Gate, pins}
 use Rattle.gates.specs.Forms.{formNumber, formCell}
 use Rattle.network.specs.Cells.{gateWidth, maxGates, maxPins}
 use Rattle.blif_model.specs.Build.{literals, literalGate}
-use Rattle.blif_model.specs.Render.{colOfByte}
+use Rattle.blif_model.specs.Model.{colOfByte}
 use Rattle.blif_model.specs.Working.{GateIn}
 use Rattle.blif_model.proofs.WorkingLaws.{record-kept, run-kept, used-more, gate-written}
 use Rattle.blif_gates.specs.Steps.{literalCells, literalsAt, singleCell, lineCells, lineForm, manyForm, LineRoom, LinePut, GatesKept}

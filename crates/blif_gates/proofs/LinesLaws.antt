@@ -16,12 +16,12 @@ use Rattle.signal.specs.Signal.{Signal}
 use Rattle.signal.specs.Cell.{sigCell}
 use Rattle.gates.specs.Gate.{Gate}
 use Rattle.blif_text.specs.Decls.{columns, isOne}
-use Rattle.blif_text.specs.Keywords.{RowTo}
+use Rattle.blif_text.specs.PlacedStatements.{RowTo}
 use Rattle.blif_text.specs.Walk.{rowsFrom, RowsAt}
 use Rattle.blif_text.proofs.RowWalk.{inside-less, row-there, rows-next, rows-are}
 use Rattle.blif_model.specs.Build.{lineGate}
 use Rattle.blif_model.specs.Read.{goodLine}
-use Rattle.blif_model.specs.Render.{lineOf}
+use Rattle.blif_model.specs.Model.{lineOf}
 use Rattle.blif_model.specs.Working.{GateIn}
 use Rattle.blif_gates.specs.Steps.{LineRoom, LinePut, rowTokens, GoodRow, GoodRows, LinesRoom, LinesPut}
 use Rattle.blif_gates.proofs.CellLaws.{run-front}

@@ -19,7 +19,7 @@ use Rattle.blif_text.specs.Places.{tokensOf}
 use Rattle.blif_text.specs.Walk.{rowsFrom, Inside, RowsAt}
 use Rattle.blif_model.specs.Build.{lineGate, coverGate, lineGates, blockGate, moreGates}
 use Rattle.blif_model.specs.Read.{goodLine, added, coverFault}
-use Rattle.blif_model.specs.Render.{lineOf, blockOf}
+use Rattle.blif_model.specs.Model.{lineOf, blockOf}
 use Rattle.blif_model.specs.Working.{GateIn, placed, placedCount, WorkRoom}
 
 -- ---- cells of literals

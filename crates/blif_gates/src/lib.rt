@@ -2,6 +2,10 @@
 use blif_text::block_at;
 use blif_text::line_columns;
 use blif_text::row_end;
+use gates::BUF;
+use gates::NARY_AND;
+use gates::NARY_NAND;
+use gates::NARY_OR;
 use lists::equal;
 use network::count_at;
 use network::first_at;
@@ -23,15 +27,6 @@ ghost use Rattle.blif_model.specs.Read.{added};
 ghost use Rattle.blif_gates.specs.Covers.{Buildable, BuiltBy};
 ghost use Rattle.blif_gates.specs.Steps.{columnCells, literalsAt, singleCell, manyForm, joinForm, LineRoom, LinePut};
 ghost use Rattle.blif_gates.specs.Steps.{rowTokens, GoodRow, GoodRows, LinesRoom, LinesPut, CoverRoom, CoverBuilt, BlockRoom, BlockBuilt};
-
-// Form numbers of the gates that are built.
-const AND: u32 = 7;
-
-const OR: u32 = 8;
-
-const NAND: u32 = 9;
-
-const BUF: u32 = 13;
 
 // How many gates are built, and how many pins are in use.
 pub struct Built {
@@ -104,9 +99,9 @@ fn many_form(one: bool) -> u32
     ensures { λ r. ⌜ r ≡ manyForm one ⌝ }
 {
     if one {
-        return AND;
+        return NARY_AND;
     }
-    NAND
+    NARY_NAND
 }
 
 // The form that joins lines.
@@ -114,9 +109,9 @@ fn join_form(one: bool) -> u32
     ensures { λ r. ⌜ r ≡ joinForm one ⌝ }
 {
     if one {
-        return OR;
+        return NARY_OR;
     }
-    AND
+    NARY_AND
 }
 
 // Puts a line's gate into a record, its pins from pin at on. Answers the pins' end.

@@ -14,12 +14,12 @@ use Rattle.network.specs.Settle.{run}
 use Rattle.sort_order.specs.Sorted.{sorted}
 use Rattle.sort_order.proofs.Sorting.{sorted-free}
 use Rattle.blif_text.specs.Statements.{parsed, firstBad, stmts}
-use Rattle.blif_text.specs.Decls.{Decl, decls, defs}
+use Rattle.blif_text.specs.Decls.{Decl, decls, defs, declsOf}
 use Rattle.blif_model.specs.Blif.{BlifRuns}
 use Rattle.blif_model.specs.Build.{build, GoodBlock}
-use Rattle.blif_model.specs.Names.{byte-names}
-use Rattle.blif_model.specs.Render.{blockOf, modelOf, modelOfText}
-use Rattle.blif_model.specs.Read.{_then_, when, declFault, declsOf, readFault, read, answer, look, builtFrom, readText}
+use Rattle.blif_model.specs.Lookup.{byte-names}
+use Rattle.blif_model.specs.Model.{blockOf, modelOf, modelOfText}
+use Rattle.blif_model.specs.Read.{_then_, when, declFault, readFault, read, answer, look, builtFrom, readText}
 use Rattle.blif_model.specs.Demand.{Accepts}
 use Rattle.blif_model.proofs.Meaning.{builtOf, sorted-means}
 use Rattle.blif_model.proofs.Passed.{then-right, Passed, passed, passed-valid, closed-of, once-of, good-of, goods-of}

@@ -10,12 +10,14 @@ use lib.Seq.{take-append-seam, getD-append-seam}
 use Rattle.lists.specs.Lists.{Bytes, bytes, same}
 use Rattle.lists.proofs.Every.{Every, every-nil, every-cons, every-append, every-map}
 use Rattle.blif_text.specs.Lines.{split, consFirst, cut, isBlank, nonEmpty, tokens}
+use Rattle.blif_text.specs.Keywords.{keywordOf}
 use Rattle.blif_text.specs.Statements.{Stmt, Parsed, ok, stmtOf, parsedLine}
 use Rattle.blif_text.specs.Decls.{Def, latch, cover, Decl, gate, cubes, decls, insOf, outsOf, defsOf, coverOut, coverIns, columns, output, isOne}
 use Rattle.blif_text.proofs.Saying.{WordByte, IsWord, quoted, says, Single, words-single, says-words, stmt-names, stmt-latch}
 use Rattle.blif_model.specs.Blif.{Col, C0, C1, Dash, Line, Feed, Block, Latch, Cover}
 use Rattle.blif_model.specs.Write.{written}
-use Rattle.blif_model.specs.Render.{spaced, line, colByte, outByte, cubeLine, latchLine, storedLine, blockLines, allLines, colOfByte, lineOf, blockOf}
+use Rattle.blif_model.specs.Render.{spaced, line, colByte, outByte, cubeLine, latchLine, storedLine, blockLines, allLines}
+use Rattle.blif_model.specs.Model.{colOfByte, lineOf, blockOf}
 
 -- ---- lines of words
 
@@ -52,13 +54,13 @@ unfolding nonEmpty
 out-word o = every-cons (every-cons (out-byte o) every-nil, refl) every-nil
 
 pub cube-stmt : (c : Col) (k : Bytes) (ts : List Bytes) → stmtOf (colByte c ∷ k) ts ≡ ok (Stmt.cube ((colByte c ∷ k) ∷ ts))
-unfolding stmtOf same headD
+unfolding stmtOf keywordOf same headD
 cube-stmt C0 k ts = refl
 cube-stmt C1 k ts = refl
 cube-stmt Dash k ts = refl
 
 pub says-none : (o : Bool) → says (spaced ((outByte o ∷ []) ∷ [])) ≡ ok (Stmt.cube ((outByte o ∷ []) ∷ [])) ∷ []
-unfolding spaced flatMap parsedLine tokens split consFirst isBlank nonEmpty stmtOf same headD cut
+unfolding spaced flatMap parsedLine tokens split consFirst isBlank nonEmpty stmtOf keywordOf same headD cut
 says-none true = refl
 says-none false = refl
 

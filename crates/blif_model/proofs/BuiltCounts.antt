@@ -18,7 +18,7 @@ use Rattle.network.specs.Cells.{pinCells}
 use Rattle.blif_text.specs.Decls.{Def, latch, cover, coverIns}
 use Rattle.blif_model.specs.Blif.{Col, C0, C1, Dash, Line}
 use Rattle.blif_model.specs.Build.{literals, literalGate, lineGate, gateRun, coverGate, lineGates, blockGate, moreGates, mains, extras}
-use Rattle.blif_model.specs.Render.{lineOf, blockOf}
+use Rattle.blif_model.specs.Model.{lineOf, blockOf}
 use Rattle.blif_model.specs.Read.{added, gateCount, pinCount}
 use Rattle.blif_model.specs.Working.{builtGates}
 use Rattle.blif_model.proofs.Reading.{mains-length}
@@ -166,14 +166,14 @@ module _ (look : Bytes → Signal) where
   pub built-gates : (gs : List Def) → length (builtGates look gs) ≡ sumOf gateCount gs
   built-gates gs =
       omega
-      (arith, length-append (mains look (length gs) (map blockOf gs)) (extras look (map blockOf gs)), mains-length look (length gs) (map blockOf gs), length-map gs blockOf, both-gates gs)
+      (arith, length-append (mains look (length (map blockOf gs)) (map blockOf gs)) (extras look (map blockOf gs)), mains-length look (length (map blockOf gs)) (map blockOf gs), length-map gs blockOf, both-gates gs)
 
   -- and no more pins
   pub built-pins : (gs : List Def) → length (pinCells (builtGates look gs)) ≤ sumOf pinCount gs
   built-pins gs =
       omega
-      (arith, pins-sum (builtGates look gs), sum-append pinsOf (mains look (length gs) (map blockOf gs)) (extras look (map blockOf gs)), both-pins (length gs) gs)
+      (arith, pins-sum (builtGates look gs), sum-append pinsOf (mains look (length (map blockOf gs)) (map blockOf gs)) (extras look (map blockOf gs)), both-pins (length (map blockOf gs)) gs)
 
   -- the form of each can have its pins
   pub built-formed : (gs : List Def) → AllFormed (builtGates look gs)
-  built-formed gs = every-append (mains-formed (length gs) gs) (extras-formed gs)
+  built-formed gs = every-append (mains-formed (length (map blockOf gs)) gs) (extras-formed gs)

@@ -1,5 +1,5 @@
 -- The gates as built, in working cells, are a network that the sort takes. Assumes nothing.
-use mathlib.Core.Path.{_≡_, sym, ap, _∙_, subst}
+use mathlib.Core.Path.{_≡_, refl, sym, ap, _∙_, subst}
 use mathlib.Core.Bool.{Bool, true, false, _||_}
 use mathlib.Core.List.{List, _++_, map, List·Memᴰ}
 use mathlib.Core.Option.{some}
@@ -26,8 +26,6 @@ use Rattle.network.specs.declared.Counts.{Counts}
 use Rattle.network.proofs.Lent.{valid-small}
 use Rattle.sort_order.specs.Sortable.{Sortable}
 use Rattle.blif_text.specs.Decls.{Decl, ins, outs, defs}
-use Rattle.blif_model.specs.Build.{mains, extras}
-use Rattle.blif_model.specs.Render.{blockOf}
 use Rattle.blif_model.specs.Read.{gateCount, pinCount, declFault, look, builtFrom}
 use Rattle.blif_model.specs.Working.{GateIn, GatesIn, builtGates}
 use Rattle.blif_model.proofs.SizeLimits.{Sized, sizes-within}
@@ -60,8 +58,7 @@ gate-held gates pinsIn used h x c r u f s =
 -- the gates in the cells are those of the network
 pub gates-are : (ds : List Decl) → builtGates (look ds) (defs ds) ≡ builtFrom ds .gates
 unfolding builtFrom
-gates-are ds =
-    ap (λ (k : ℕ). mains (look ds) k (map blockOf (defs ds)) ++ extras (look ds) (map blockOf (defs ds))) (sym (length-map (defs ds) blockOf))
+gates-are ds = refl
 
 module _ {ds : List Decl} {c : Counts} {gates pinsIn outsIn : List ℕ} {used : ℕ} (fault : declFault ds ≡ 0) (b : BuiltIn ds c gates pinsIn outsIn used) where
   -- the gates in the cells

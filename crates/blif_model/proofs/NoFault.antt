@@ -15,14 +15,14 @@ use Rattle.lists.proofs.Once.{dup-left, dup-both}
 use Rattle.gates.specs.Gate.{FlipFlop, Dff}
 use Rattle.network.specs.Net.{Net, GateIs}
 use Rattle.signal.specs.Signal.{oneS, zeroS}
-use Rattle.blif_text.specs.Decls.{Decl, gate, cover, defs, defines, usedNames, columns, output, isOne}
+use Rattle.blif_text.specs.Decls.{Decl, gate, cover, defs, defines, usedNames, columns, output, isOne, declsOf}
 use Rattle.blif_model.specs.Blif.{Col, C0, C1, Dash, Line, Block, Latch, Cover, Model, target}
 use Rattle.blif_model.specs.Build.{sources, optName, Defined, GoodLines, GoodBlock}
-use Rattle.blif_model.specs.Lookup.{defined}
+use Rattle.blif_model.specs.Lookup.{defined, byte-names}
 use Rattle.blif_model.specs.Write.{written}
-use Rattle.blif_model.specs.Names.{nameBytes, byte-names}
+use Rattle.blif_model.specs.Names.{nameBytes}
 use Rattle.blif_model.specs.Render.{colByte, textOf}
-use Rattle.blif_model.specs.Read.{_then_, when, tooLarge, twice, naming, undefined, goodLine, coverFault, coverFaults, declFault, declsOf, readFault}
+use Rattle.blif_model.specs.Read.{_then_, when, tooLarge, twice, naming, undefined, goodLine, coverFault, coverFaults, declFault, readFault}
 use Rattle.blif_model.specs.Demand.{Accepts}
 use Rattle.blif_model.proofs.BlocksSaid.{tok, tokOf, defOf, gateOf, last-at, cover-ins, cover-out, tok-columns, tok-one}
 use Rattle.blif_model.proofs.Rendered.{textDecls, text-ascii, text-sound, decls-of, ins-are, outs-are, defs-are}
@@ -172,7 +172,6 @@ module _ (net : Net) (plainFlops : (g : ℕ) (s : FlipFlop) → GateIs net g (Df
   no-cover-fault = ap coverFaults (defs-are net plainFlops) ∙ covers-good (w .blocks) (acc .good)
 
   decls-are : declsOf (textOf net) ≡ dl
-  unfolding declsOf
   decls-are = decls-of net plainFlops
 
   -- within our sizes: no refusal at all

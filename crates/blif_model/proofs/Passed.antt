@@ -19,9 +19,8 @@ use Rattle.network.specs.Net.{Valid}
 use Rattle.blif_text.specs.Decls.{Def, latch, cover, Decl, model, end, inputs, outputs, gate, insOf, defsOf, ins, outs, defs, coverOut, coverIns, defines, usedNames, columns, output, isOne}
 use Rattle.blif_model.specs.Blif.{Model, target}
 use Rattle.blif_model.specs.Build.{sources, Defined, Closed, GoodLines, GoodBlock}
-use Rattle.blif_model.specs.Lookup.{defined}
-use Rattle.blif_model.specs.Names.{byte-names}
-use Rattle.blif_model.specs.Render.{colOfByte, lineOf, blockOf, modelOf}
+use Rattle.blif_model.specs.Lookup.{defined, byte-names}
+use Rattle.blif_model.specs.Model.{colOfByte, lineOf, blockOf, modelOf}
 use Rattle.blif_model.specs.Read.{_then_, when, tooLarge, twice, naming, undefined, goodLine, coverFault, coverFaults, declFault, look, builtFrom}
 use Rattle.blif_model.proofs.Lookups.{looks}
 use Rattle.blif_model.proofs.BuiltValid.{built-valid}

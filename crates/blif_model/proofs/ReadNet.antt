@@ -12,8 +12,8 @@ use Rattle.network.specs.Net.{Net, Valid, Formed, Feeds, Way, last, more, Loop}
 use Rattle.network.specs.Cells.{WithinSizes, pinCells}
 use Rattle.sort_order.specs.Sorted.{sorted}
 use Rattle.sort_order.proofs.Summary.{sorted-keeps, inputs-lower}
-use Rattle.blif_text.specs.Decls.{Decl, ins, outs, defs}
-use Rattle.blif_model.specs.Read.{declsOf, read, look, builtFrom, readText}
+use Rattle.blif_text.specs.Decls.{Decl, ins, outs, defs, declsOf}
+use Rattle.blif_model.specs.Read.{read, look, builtFrom, readText}
 use Rattle.blif_model.proofs.BuiltCounts.{built-gates, built-pins, built-formed}
 use Rattle.blif_model.proofs.BuiltNet.{gates-are}
 use Rattle.blif_model.proofs.SizeLimits.{sizes-within}

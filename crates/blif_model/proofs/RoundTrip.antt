@@ -12,9 +12,12 @@ use Rattle.sort_order.specs.Sorted.{sorted}
 use Rattle.sort_order.proofs.Sorting.{none-loop}
 use Rattle.blif_model.specs.Blif.{Model}
 use Rattle.blif_model.specs.Write.{written}
-use Rattle.blif_model.specs.Names.{nameBytes, byte-names}
-use Rattle.blif_model.specs.Render.{textOf, modelOfText}
-use Rattle.blif_model.specs.Read.{tooLarge, declsOf, read, answer, builtFrom, readText}
+use Rattle.blif_model.specs.Names.{nameBytes}
+use Rattle.blif_model.specs.Lookup.{byte-names}
+use Rattle.blif_model.specs.Render.{textOf}
+use Rattle.blif_model.specs.Model.{modelOfText}
+use Rattle.blif_model.specs.Read.{tooLarge, read, answer, builtFrom, readText}
+use Rattle.blif_text.specs.Decls.{declsOf}
 use Rattle.blif_model.specs.Demand.{Good, SameOutputs, Accepts}
 use Rattle.blif_model.proofs.NamesDiffer.{unname, unname-name}
 use Rattle.blif_model.proofs.Meaning.{builtOf, accepted-valid}

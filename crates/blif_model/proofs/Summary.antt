@@ -15,12 +15,14 @@ use Rattle.network.specs.Clock.{NetRuns}
 use Rattle.network.specs.Settle.{run}
 use Rattle.blif_text.specs.Places.{maxText}
 use Rattle.blif_model.specs.Blif.{Model, coverBit, BlifRuns}
-use Rattle.blif_model.specs.Lookup.{lookup}
+use Rattle.blif_model.specs.Lookup.{lookup, byte-names}
 use Rattle.blif_model.specs.Build.{build}
 use Rattle.blif_model.specs.Write.{masks, linesOf, written}
-use Rattle.blif_model.specs.Names.{nameBytes, byte-names}
-use Rattle.blif_model.specs.Render.{textOf, modelOfText}
-use Rattle.blif_model.specs.Read.{tooLarge, declsOf, read, readText}
+use Rattle.blif_model.specs.Names.{nameBytes}
+use Rattle.blif_model.specs.Render.{textOf}
+use Rattle.blif_model.specs.Model.{modelOfText}
+use Rattle.blif_model.specs.Read.{tooLarge, read, readText}
+use Rattle.blif_text.specs.Decls.{declsOf}
 use Rattle.blif_model.specs.Demand.{Good, SameOutputs, Accepts}
 use Rattle.blif_model.proofs.FormLines as forms
 use Rattle.blif_model.proofs.Masks as order

@@ -85,12 +85,16 @@ module _ {Name : Type 0} where
     extras [] = []
     extras (b ∷ bs) = moreGates b ++ extras bs
 
+    -- the gates as built
+    abbrev pub gatesFor : List (Block Name) → List Gate
+    gatesFor bs = mains (length bs) bs ++ extras bs
+
     -- the network as built
     abbrev pub build : Model Name → Net
     build m =
         record {
           inputs = length (m .inputs);
-          gates = mains (length (m .blocks)) (m .blocks) ++ extras (m .blocks);
+          gates = gatesFor (m .blocks);
           outputs = map look (m .outputs);
         }
 

@@ -14,7 +14,8 @@ use Rattle.blif_model.specs.Lookup.{defined, lookup}
 use Rattle.blif_model.specs.Build.{build, Closed, GoodBlock}
 use Rattle.blif_model.specs.Write.{wide, PlainGate}
 
--- "a valid, loop-free network with no exclusive gate over 12 inputs and plain flip-flops"
+-- a network of demand 3, "without a loop": "Its networks have the layout and signals that 20 asks for, its exclusive gates are those of
+-- 21", and its flip-flops are plain
 pub record Good (net : Net) : Type 0 where
   -- every signal is valid
   pub valid : Valid net

@@ -1,10 +1,11 @@
 pub mod Blif
 pub mod Lookup
 pub mod Build
+pub mod Model
+pub mod Read
+pub mod Working
 pub mod Write
 pub mod Names
 pub mod Render
-pub mod Read
-pub mod Working
 pub mod Demand
 pub mod Cases

@@ -12,12 +12,11 @@ use Rattle.network.specs.Net.{Net}
 use Rattle.network.specs.Cells.{maxInputs, maxOutputs, maxGates, maxPins}
 use Rattle.sort_order.specs.Sorted.{sorted}
 use Rattle.blif_text.specs.Places.{maxText}
-use Rattle.blif_text.specs.Statements.{parsed, firstBad, stmts}
-use Rattle.blif_text.specs.Decls.{Def, latch, cover, Decl, model, end, inputs, outputs, gate, decls, ins, outs, defs, coverOut, defines, usedNames, columns, output, isOne}
-use Rattle.blif_model.specs.Lookup.{lookup}
+use Rattle.blif_text.specs.Statements.{parsed, firstBad}
+use Rattle.blif_text.specs.Decls.{Def, latch, cover, Decl, model, end, inputs, outputs, gate, declsOf, ins, outs, defs, coverOut, defines, usedNames, columns, output, isOne}
+use Rattle.blif_model.specs.Lookup.{lookup, byte-names}
 use Rattle.blif_model.specs.Build.{build}
-use Rattle.blif_model.specs.Names.{byte-names}
-use Rattle.blif_model.specs.Render.{modelOf}
+use Rattle.blif_model.specs.Model.{modelOf}
 
 -- ---- a refusal's number, or 0 for none: the first one counts
 
@@ -81,11 +80,17 @@ naming seen earlier (gate (cover (n ∷ ns) ls) ∷ ds) =
 unfoldable pub undefined : List Decl → Bool
 undefined ds = not (all (λ n. known n (ins ds ++ map defines (defs ds))) (outs ds ++ flatMap usedNames (defs ds)))
 
+-- ---- 12 and 13: covers
+
+-- "a column other than 0, 1, dash" is wrong
+abbrev pub isColumn : ℕ → Bool
+isColumn c = elem c (48 ∷ 49 ∷ 45 ∷ [])
+
 -- "12 when a line has neither one nor two tokens, or the wrong number of columns, a column other than 0, 1, dash, or an output
 -- other than 0, 1"
 unfoldable pub goodLine : ℕ → List Bytes → Bool
 goodLine n ts =
-    elem (length ts) (1 ∷ 2 ∷ []) && eqb n (length (columns ts)) && all (λ c. elem c (48 ∷ 49 ∷ 45 ∷ [])) (columns ts)
+    elem (length ts) (1 ∷ 2 ∷ []) && eqb n (length (columns ts)) && all isColumn (columns ts)
     && known (output ts) ((48 ∷ []) ∷ (49 ∷ []) ∷ [])
 
 -- "13 when its lines are all good but differ in output"
@@ -105,10 +110,6 @@ coverFaults (g ∷ gs) = coverFault g then coverFaults gs
 -- 6 to 13
 unfoldable pub declFault : List Decl → ℕ
 declFault ds = when (tooLarge ds) 6 then naming false [] ds then when (undefined ds) 11 then coverFaults (defs ds)
-
--- the declarations of a text
-unfoldable pub declsOf : Bytes → List Decl
-declsOf s = decls (stmts (parsed s))
 
 -- "2 when the text is over 32,768 bytes. 3 when it has a byte of 128 or more", then 4 and 5, then 6 to 13
 unfoldable pub readFault : Bytes → ℕ

@@ -12,8 +12,8 @@ use Rattle.gates.specs.Gate.{AndN, Gate, Comb, Dff, pins}
 use Rattle.gates.specs.Forms.{formCell}
 use Rattle.network.specs.Cells.{gateWidth, maxGates, maxPins, formAt, firstAt, countAt, runAt}
 use Rattle.blif_text.specs.Decls.{Def, latch, cover, coverIns}
-use Rattle.blif_model.specs.Build.{mains, extras}
-use Rattle.blif_model.specs.Render.{blockOf}
+use Rattle.blif_model.specs.Build.{gatesFor}
+use Rattle.blif_model.specs.Model.{blockOf}
 
 -- record h and its run of pins, within the first `used` pins, are those of the gate x
 pub record GateIn (gates pinsIn : List ℕ) (used h : ℕ) (x : Gate) : Type 0 where
@@ -40,9 +40,9 @@ abbrev pub placedCount : Def → ℕ
 placedCount (latch d q) = 3
 placedCount (cover ns ls) = length ns - 1
 
--- the gates as built: "Each `.latch` and `.names` is a gate in text order"; the new gates of lines "at the end of the list"
+-- the gates as built for definitions
 abbrev pub builtGates : (Bytes → Signal) → List Def → List Gate
-builtGates look ds = mains look (length ds) (map blockOf ds) ++ extras look (map blockOf ds)
+builtGates look ds = gatesFor look (map blockOf ds)
 
 -- the working cells have room for what is counted of the definitions (refusal 6), and for the gates placed first
 pub record WorkRoom (gates pinsIn : List ℕ) : Type 0 where

@@ -158,15 +158,19 @@ module _ {Name : Type 0} (name : Signal → Name) where
   abbrev pub constBlocks : List (Block Name)
   constBlocks = Cover [] (name oneS) (coverRow true [] ∷ []) ∷ Cover [] (name zeroS) [] ∷ []
 
+  -- the names of k inputs from input i on
+  abbrev pub inputNames : ℕ → ℕ → List Name
+  inputNames i k = map (λ (j : ℕ). name (plain (Input j))) (range i k)
+
   -- "inputs, outputs, latches, gates, inverters, `vdd`, `gnd`"
   abbrev pub written : Net → Model Name
   written net = record {
-    inputs = map (λ (i : ℕ). name (plain (Input i))) (range 0 (net .inputs));
+    inputs = inputNames 0 (net .inputs);
     outputs = map name (net .outputs);
     blocks = latchBlocks 0 (net .gates) ++ (combBlocks 0 (net .gates) ++ (map inverterBlock (inverters net) ++ constBlocks));
   }
 
--- ---- refusal 21, and demand 3
+-- ---- refusal 21, and demand 3's gates
 
 -- the form of this number is "an Xor or Xnor of the Nary form"
 abbrev pub exclusive : ℕ → Bool
@@ -180,11 +184,11 @@ maxExclusive = 12
 abbrev pub tooWide : ℕ → ℕ → Bool
 tooWide form n = exclusive form && ltb maxExclusive n
 
--- the gate is such a one
+-- the gate is "an Xor or Xnor of the Nary form" with "over 12 inputs"
 abbrev pub wide : Gate → Bool
 wide x = tooWide (formCell x) (length (pins x))
 
--- a gate of demand 3: a pin count that the form can have, and a flip-flop "with enable one and reset zero"
+-- a gate of demand 3: a pin count that its form can have, and a plain flip-flop, one whose enable is one and whose reset is zero
 abbrev pub PlainGate : Gate → Type 0
 PlainGate (Comb f ps) = canHave f (length ps) ≡ true
 PlainGate (Dff s) = (s .enable ≡ oneS) × (s .reset ≡ zeroS)

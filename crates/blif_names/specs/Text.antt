@@ -11,7 +11,7 @@ use Rattle.blif_model.specs.Names.{decimal}
 pub record Wrote (t o p : Bytes) (r : ℕ) : Type 0 where
   -- the text is laid over the front of the slice, cut where the slice ends
   pub out : p ≡ over t o
-  -- "gives back the length": the text's, or one more than the slice's where the text is longer
+  -- "give back the length": the text's, or one more than the slice's where the text is longer
   pub len : r ≡ min (length t) (length o + 1)
 
 -- a writer of the text t at place a of the slice o left p in it and gave back the place r after the text

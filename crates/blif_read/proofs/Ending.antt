@@ -23,9 +23,9 @@ use Rattle.sort.specs.declared.Sorted.the-variants.{Order, Loop}
 use Rattle.sort_order.proofs.Summary.{sorted-keeps}
 use Rattle.blif_text.specs.Statements.{parsed, firstBad}
 use Rattle.blif_text.specs.Places.{maxText}
-use Rattle.blif_text.specs.Decls.{Def, outs}
+use Rattle.blif_text.specs.Decls.{Def, outs, declsOf}
 use Rattle.blif_text.specs.Blocks.{defsAt}
-use Rattle.blif_model.specs.Read.{when, declFault, declsOf, readFault, Result, read, refused, answer, look, builtFrom, readText}
+use Rattle.blif_model.specs.Read.{when, declFault, readFault, Result, read, refused, answer, look, builtFrom, readText}
 use Rattle.blif_model.specs.Working.{GatesIn, placed, builtGates, WorkRoom}
 use Rattle.blif_gates.specs.Covers.{Buildable, BuiltBy}
 use Rattle.blif_gates.specs.declared.Built.{Built}

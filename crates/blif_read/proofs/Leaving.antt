@@ -10,8 +10,8 @@ use Rattle.network.specs.Cells.{countsOf}
 use Rattle.network.specs.declared.Counts.{Counts}
 use Rattle.network.proofs.Laying.{length-gateCells}
 use Rattle.blif_model.specs.Read.{Result, read, refused, readText}
-use Rattle.blif_read.specs.Into.{Lengths, enough, outcome, leaving, filled, readInto}
-use Rattle.blif_read.specs.Stages.{answered, countsIn, Holds}
+use Rattle.blif_read.specs.Into.{Lengths, enough, outcome, leaving, filled, readInto, answered}
+use Rattle.blif_read.specs.Stages.{countsIn, Holds}
 use Rattle.blif_read.specs.declared.ReadAnswer.{ReadAnswer}
 use Rattle.blif_read.specs.declared.ReadAnswer.the-variants.{Read, Refused}
 

@@ -10,13 +10,13 @@ use Rattle.lists.specs.Lists.{Bytes, all, known, over, sumOf}
 use Rattle.lists.proofs.Over.{take-over}
 use Rattle.signal.specs.Cell.{sigCell}
 use Rattle.network.specs.Cells.{maxPins}
-use Rattle.blif_text.specs.Decls.{Def, latch, cover, Decl, decls, ins, outs, defs, defines, usedNames}
+use Rattle.blif_text.specs.Decls.{Def, latch, cover, Decl, decls, ins, outs, defs, defines, usedNames, declsOf}
 use Rattle.blif_text.specs.Places.{InText, tokensOf}
 use Rattle.blif_text.specs.Walk.{stmtsFrom, Inside}
 use Rattle.blif_text.specs.Blocks.{defsAt}
 use Rattle.name_index.specs.Search.{Entry, signalIn}
 use Rattle.name_index.specs.Index.{entriesOf}
-use Rattle.blif_model.specs.Read.{_then_, when, pinCount, tooLarge, naming, undefined, coverFaults, declsOf, readFault, refused, look, readText}
+use Rattle.blif_model.specs.Read.{_then_, when, pinCount, tooLarge, naming, undefined, coverFaults, readFault, refused, look, readText}
 use Rattle.blif_model.specs.Working.{GatesIn, placed, placedCount}
 use Rattle.blif_decls.specs.Entries.{entries}
 use Rattle.blif_decls.specs.Tables.{Tables, DefinedBy}

@@ -9,11 +9,11 @@ use lib.ListN.{length}
 use Rattle.lists.specs.Lists.{Bytes, any}
 use Rattle.sort_order.specs.Sorted.{sorted}
 use Rattle.blif_text.specs.Statements.{parsed, firstBad}
-use Rattle.blif_text.specs.Decls.{decls, defs}
+use Rattle.blif_text.specs.Decls.{decls, defs, declsOf}
 use Rattle.blif_text.specs.Places.{maxText, TokensMarked}
 use Rattle.blif_text.specs.Walk.{stmtsFrom}
 use Rattle.blif_text.proofs.RefusalLaws.{stmts-start, stmts-all}
-use Rattle.blif_model.specs.Read.{_then_, when, tooLarge, naming, undefined, coverFaults, declFault, declsOf, readFault, Result, refused, answer, builtFrom, readText}
+use Rattle.blif_model.specs.Read.{_then_, when, tooLarge, naming, undefined, coverFaults, declFault, readFault, Result, refused, answer, builtFrom, readText}
 use Rattle.blif_read.specs.Stages.{Holds, PlainText, Sized}
 use Rattle.blif_read.specs.declared.ReadAnswer.the-variants.{Refused}
 

@@ -9,7 +9,7 @@ use Rattle.network.specs.Net.{Net}
 use Rattle.network.specs.Cells.{countsOf}
 use Rattle.network.specs.Settle.{run}
 use Rattle.blif_model.specs.Blif.{BlifRuns}
-use Rattle.blif_model.specs.Render.{modelOfText}
+use Rattle.blif_model.specs.Model.{modelOfText}
 use Rattle.blif_model.specs.Read.{Result, read, refused, readText}
 use Rattle.blif_model.proofs.Summary as model
 use Rattle.blif_read.specs.Into.{Lengths, enough, Outcome, filled, readInto}

@@ -65,6 +65,10 @@ abbrev pub filled : Result → Lengths → Outcome
 filled (refused k) n = leaving (Refused k) [] [] [] n
 filled (read net) n = leaving (Read (countsOf net)) (gateCells 0 (net .gates)) (pinCells (net .gates)) (map sigCell (net .outputs)) n
 
+-- the result for slices of these lengths: refusal 1 comes first
+abbrev pub answered : Bytes → Lengths → Result
+answered text n = if enough n then readText text else refused 1
+
 -- what reading a text answers and leaves in lent slices of these lengths
 unfoldable pub readInto : Bytes → Lengths → Outcome
-readInto text n = filled (if enough n then readText text else refused 1) n
+readInto text n = filled (answered text n) n

@@ -5,26 +5,21 @@ use mathlib.Core.Bool.{true, false}
 use mathlib.Core.List.{List, [], _++_, map}
 use Prim.Native.Nat.{ℕ, _*_, _≤_}
 use lib.ListN.{length, take}
-use Rattle.lists.specs.Lists.{if_then_else_, Bytes, all, known, sumOf}
+use Rattle.lists.specs.Lists.{Bytes, all, known, sumOf}
 use Rattle.signal.specs.Cell.{sigCell}
 use Rattle.network.specs.declared.Counts.{Counts}
 use Rattle.network.specs.Cells.{maxGates, maxPins, maxOutputs, gateWidth, lent, countsOf, Laid}
 use Rattle.blif_text.specs.Statements.{parsed, firstBad}
-use Rattle.blif_text.specs.Decls.{decls, ins, defs, defines}
+use Rattle.blif_text.specs.Decls.{decls, ins, defs, defines, declsOf}
 use Rattle.blif_text.specs.Decls as names
 use Rattle.blif_text.specs.Places.{maxText, maxTokens}
 use Rattle.blif_text.specs.Walk.{stmtsFrom, StmtsAt}
 use Rattle.blif_text.specs.Blocks.{Blocks, defsAt}
-use Rattle.blif_model.specs.Read.{_then_, when, tooLarge, naming, undefined, coverFaults, declFault, declsOf, readFault, Result, read, refused, look, readText}
+use Rattle.blif_model.specs.Read.{_then_, when, tooLarge, naming, undefined, coverFaults, declFault, readFault, Result, read, refused, look, readText}
 use Rattle.blif_model.specs.Working.{GatesIn, placed, placedCount}
 use Rattle.blif_decls.specs.Tables.{Named}
-use Rattle.blif_read.specs.Into.{Lengths, enough}
 use Rattle.blif_read.specs.declared.ReadAnswer.{ReadAnswer}
 use Rattle.blif_read.specs.declared.ReadAnswer.the-variants.{Read, Refused}
-
--- the result for slices of these lengths
-abbrev pub answered : Bytes → Lengths → Result
-answered text n = if enough n then readText text else refused 1
 
 -- the counts in an answer, none in a refusal
 abbrev pub countsIn : ReadAnswer → Counts

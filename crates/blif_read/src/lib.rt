@@ -22,8 +22,8 @@ ghost use lib.Dec.{leb};
 ghost use lib.ListN.{length, take};
 ghost use Rattle.lists.specs.Lists.{any, over, zeros};
 ghost use Rattle.blif_model.specs.Read.{readText};
-ghost use Rattle.blif_read.specs.Into.{lengths, enough, outcome, readInto};
-ghost use Rattle.blif_read.specs.Stages.{answered, countsIn, Holds, Enough, PlainText, Sized, Resolving, Placing};
+ghost use Rattle.blif_read.specs.Into.{lengths, enough, outcome, readInto, answered};
+ghost use Rattle.blif_read.specs.Stages.{countsIn, Holds, Enough, PlainText, Sized, Resolving, Placing};
 
 // The network's counts, or a refusal's number.
 pub enum ReadAnswer {

@@ -7,16 +7,17 @@ use native.Mathlib.Numerals.{add-one}
 use lib.ListN.{length, getD, length-map}
 use lib.Seq.{slice, slice-cons, slice-empty, length-slice}
 use Rattle.lists.specs.Lists.{Bytes}
-use Rattle.blif_text.specs.Statements.{Stmt, Parsed, ok, bad, modelStmt, latchStmt, firstBad, stmts}
+use Rattle.blif_text.specs.Statements.{Stmt, Parsed, ok, bad, modelStmt, latchStmt, firstBad, stmts, byKeyword}
 use Rattle.blif_text.specs.Rows.{rowStmt}
 use Rattle.blif_text.specs.Places.{tokenOf, tokensOf, grouped}
-use Rattle.blif_text.specs.Keywords.{keywordOf, said, RowTo}
+use Rattle.blif_text.specs.Keywords.{keywordOf}
+use Rattle.blif_text.specs.PlacedStatements.{said, RowTo}
 use Rattle.blif_text.specs.Walk.{stmtsFrom, RowsAt, StmtsAt}
 use Rattle.blif_text.specs.declared.Keyword.{Keyword}
 use Rattle.blif_text.specs.declared.Keyword.the-variants as key
 use Rattle.blif_text.specs.declared.Statement.{Statement}
 use Rattle.blif_text.specs.declared.Statement.the-variants as place
-use Rattle.blif_text.proofs.StatementLaws.{byKeyword, row-by-keyword}
+use Rattle.blif_text.proofs.StatementLaws.{row-by-keyword}
 use Rattle.blif_text.proofs.RowWalk.{rows-end, rows-are}
 use Rattle.blif_text.proofs.RefusalLaws.{stmts-are, stmts-said, stmts-next}
 use Rattle.blif_sizes.specs.Rows.{names, Starts, RowIs}

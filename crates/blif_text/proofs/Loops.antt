@@ -9,7 +9,7 @@ use lib.Seq.{length-take-le, getD-take, getD-drop}
 use Rattle.lists.specs.Lists.{Bytes, any}
 use Rattle.lists.proofs.Tests.{by-order, or-left, or-right}
 use Rattle.blif_text.specs.Places.{isFirst}
-use Rattle.blif_text.specs.Keywords.{RowTo}
+use Rattle.blif_text.specs.PlacedStatements.{RowTo}
 use Rattle.blif_text.specs.Scan.{NoneTo, SpacesTo}
 
 -- where none passes, no element does

@@ -6,10 +6,11 @@ use native.Mathlib.Omega.{arith}
 use lib.ListN.{length, getD}
 use lib.Seq.{slice}
 use Rattle.lists.specs.Lists.{Bytes}
-use Rattle.blif_text.specs.Statements.{Parsed, ok, bad, modelStmt, latchStmt, parsed, firstBad, stmts}
+use Rattle.blif_text.specs.Statements.{Parsed, ok, bad, modelStmt, latchStmt, parsed, firstBad, stmts, byKeyword}
 use Rattle.blif_text.specs.Rows.{rowStmt}
 use Rattle.blif_text.specs.Places.{tokenOf, tokensOf, TokensMarked}
-use Rattle.blif_text.specs.Keywords.{keywordOf, said, RowTo, refusal}
+use Rattle.blif_text.specs.Keywords.{keywordOf}
+use Rattle.blif_text.specs.PlacedStatements.{said, RowTo, refusal}
 use Rattle.blif_text.specs.Walk.{rowsFrom, stmtsFrom, RowsAt, StmtsAt}
 use Rattle.blif_text.specs.declared.Keyword.{Keyword}
 use Rattle.blif_text.specs.declared.Keyword.the-variants as key
@@ -17,7 +18,7 @@ use Rattle.blif_text.specs.declared.Statement.{Statement}
 use Rattle.blif_text.specs.declared.Statement.the-variants as place
 use Rattle.blif_text.proofs.RowLaws.{parsed-rows}
 use Rattle.blif_text.proofs.RowWalk.{rows-start, rows-end, rows-next, rows-are}
-use Rattle.blif_text.proofs.StatementLaws.{byKeyword, row-by-keyword}
+use Rattle.blif_text.proofs.StatementLaws.{row-by-keyword}
 
 -- ---- a refusal's number is not 0
 

@@ -11,7 +11,7 @@ use Rattle.lists.proofs.Tests.{by-test, by-order}
 use Rattle.blif_text.specs.Rows.{textRows}
 use Rattle.blif_text.specs.Places.{isFirst, tokenOf, tokensOf, withToken, grouped, TokensMarked}
 use Rattle.blif_text.specs.Scan.{NoneFirst}
-use Rattle.blif_text.specs.Keywords.{RowTo}
+use Rattle.blif_text.specs.PlacedStatements.{RowTo}
 use Rattle.blif_text.specs.Walk.{rowsFrom, Inside, RowsAt}
 use Rattle.blif_text.proofs.WordLaws.{drop-take}
 use Rattle.blif_text.proofs.RowLaws.{grouped-append, grouped-none}

@@ -11,6 +11,7 @@ use Rattle.lists.specs.Lists.{Bytes, bytes, same, all, any}
 use Rattle.lists.proofs.Tests.{and-left, and-right, and-false}
 use Rattle.lists.proofs.Every.{Every, every-nil, every-cons, every-append, every-of, every-test, every-no, any-append}
 use Rattle.blif_text.specs.Lines.{cut, continues, joined, isBlank, nonEmpty, tokens}
+use Rattle.blif_text.specs.Keywords.{keywordOf}
 use Rattle.blif_text.specs.Statements.{Stmt, Parsed, ok, stmtOf, latchStmt, parsedLine, parsed, stmts, firstBad}
 use Rattle.blif_text.proofs.Splitting.{ended, spread, lines-each, Word, tokens-spread}
 
@@ -133,19 +134,19 @@ module _ (w : Bytes) (ws : List Bytes) (h : Every WordByte w) (hs : Every IsWord
 -- ---- keywords
 
 pub stmt-names : (ns : List Bytes) → stmtOf (bytes ".names") ns ≡ ok (Stmt.names ns)
-unfolding stmtOf same
+unfolding stmtOf keywordOf same
 stmt-names ns = refl
 
 pub stmt-inputs : (ns : List Bytes) → stmtOf (bytes ".inputs") ns ≡ ok (Stmt.inputs ns)
-unfolding stmtOf same
+unfolding stmtOf keywordOf same
 stmt-inputs ns = refl
 
 pub stmt-outputs : (ns : List Bytes) → stmtOf (bytes ".outputs") ns ≡ ok (Stmt.outputs ns)
-unfolding stmtOf same
+unfolding stmtOf keywordOf same
 stmt-outputs ns = refl
 
 pub stmt-latch : (d q : Bytes) (ts : List Bytes) → stmtOf (bytes ".latch") (d ∷ q ∷ ts) ≡ ok (Stmt.latch d q)
-unfolding stmtOf same latchStmt
+unfolding stmtOf keywordOf same latchStmt
 stmt-latch d q ts = refl
 
 -- ---- statements that are all good

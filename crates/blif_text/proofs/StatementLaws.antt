@@ -1,19 +1,18 @@
 -- The statement of a row by its first token's keyword, and what each statement of places says. Assumes nothing.
 use mathlib.Core.Path.{_≡_, refl, sym, ap, _∙_}
-use mathlib.Core.Bool.{Bool, true, false}
-use mathlib.Core.List.{List, [], _∷_, headD}
+use mathlib.Core.List.{List, [], _∷_}
 use Prim.Native.Nat.{ℕ, _+_, _-_, _≤_, _<_}
 use native.Mathlib.Omega.{arith}
 use native.Mathlib.Numerals.{add-one}
-use lib.Dec.{eqb}
 use lib.ListN.{length, getD, take, drop, drop-of-length-le}
 use lib.Seq.{slice, slice-cons, length-take-le}
-use Rattle.lists.specs.Lists.{if_then_else_, Bytes, bytes, same}
-use Rattle.blif_text.specs.Statements.{Parsed, ok, bad, modelStmt, latchStmt, stmtOf}
+use Rattle.lists.specs.Lists.{Bytes}
+use Rattle.blif_text.specs.Statements.{ok, bad, modelStmt, latchStmt, byKeyword, stmtOf}
 use Rattle.blif_text.specs.Statements as stmt
 use Rattle.blif_text.specs.Rows.{rowStmt}
 use Rattle.blif_text.specs.Places.{tokenOf, tokensOf}
-use Rattle.blif_text.specs.Keywords.{keywordOf, StatementOf}
+use Rattle.blif_text.specs.Keywords.{keywordOf}
+use Rattle.blif_text.specs.PlacedStatements.{StatementOf}
 use Rattle.blif_text.specs.declared.Keyword.{Keyword}
 use Rattle.blif_text.specs.declared.Keyword.the-variants as key
 use Rattle.blif_text.specs.declared.Statement.the-variants as place
@@ -22,67 +21,9 @@ use Rattle.blif_text.proofs.WordLaws.{drop-take}
 
 -- ---- by the keyword
 
--- the statement of a first token with this keyword, and the others
-abbrev pub byKeyword : Keyword → Bytes → List Bytes → Parsed
-byKeyword key.Model k ts = modelStmt ts
-byKeyword key.Inputs k ts = ok (stmt.Stmt.inputs ts)
-byKeyword key.Outputs k ts = ok (stmt.Stmt.outputs ts)
-byKeyword key.Latch k ts = latchStmt ts
-byKeyword key.Names k ts = ok (stmt.Stmt.names ts)
-byKeyword key.End k ts = ok stmt.Stmt.end
-byKeyword key.Exdc k ts = ok stmt.Stmt.exdc
-byKeyword key.Unsupported k ts = bad 5
-byKeyword key.Cube k ts = ok (stmt.Stmt.cube (k ∷ ts))
-
--- the tests that find the statement are those that find the keyword
-stmt-by-keyword : (k : Bytes) (ts : List Bytes) → stmtOf k ts ≡ byKeyword (keywordOf k) k ts
-unfolding stmtOf keywordOf
-stmt-by-keyword k ts =
-    go
-    (same k (bytes ".model"))
-    (same k (bytes ".inputs"))
-    (same k (bytes ".outputs"))
-    (same k (bytes ".latch"))
-    (same k (bytes ".names"))
-    (same k (bytes ".end"))
-    (same k (bytes ".exdc"))
-    (eqb 46 (headD k 0))
-  where
-    go : (a b c d e f g h : Bool)
-        → (if a then modelStmt ts
-        else if b then ok (stmt.Stmt.inputs ts)
-        else if c then ok (stmt.Stmt.outputs ts)
-        else if d then latchStmt ts
-        else if e then ok (stmt.Stmt.names ts)
-        else if f then ok stmt.Stmt.end
-        else if g then ok stmt.Stmt.exdc
-        else if h then bad 5
-        else ok (stmt.Stmt.cube (k ∷ ts)))
-        ≡ byKeyword
-        (if a then key.Model
-        else if b then key.Inputs
-        else if c then key.Outputs
-        else if d then key.Latch
-        else if e then key.Names
-        else if f then key.End
-        else if g then key.Exdc
-        else if h then key.Unsupported
-        else key.Cube)
-        k
-        ts
-    go true b c d e f g h = refl
-    go false true c d e f g h = refl
-    go false false true d e f g h = refl
-    go false false false true e f g h = refl
-    go false false false false true f g h = refl
-    go false false false false false true g h = refl
-    go false false false false false false true h = refl
-    go false false false false false false false true = refl
-    go false false false false false false false false = refl
-
 -- a row's first token and the others
-row-is : (k : Bytes) (ts : List Bytes) → rowStmt (k ∷ ts) ≡ stmtOf k ts
-unfolding rowStmt
+row-is : (k : Bytes) (ts : List Bytes) → rowStmt (k ∷ ts) ≡ byKeyword (keywordOf k) k ts
+unfolding rowStmt stmtOf
 row-is k ts = refl
 
 -- `.model` without a name
@@ -133,7 +74,6 @@ module _ (text cells : List ℕ) where
   row-by-keyword at end h r =
       ap rowStmt (tokens-cons at end h r)
       ∙ row-is (tokenOf text (getD cells at 0)) (tokensOf text (slice (at + 1) end cells))
-      ∙ stmt-by-keyword (tokenOf text (getD cells at 0)) (tokensOf text (slice (at + 1) end cells))
 
 -- ---- what each statement of places says
 

@@ -5,7 +5,7 @@ use mathlib.Core.List.{List, [], _∷_, flatMap}
 use Prim.Native.Nat.{_-_}
 use lib.ListN.{length, getD, take}
 use Rattle.lists.specs.Lists.{Bytes, same}
-use Rattle.blif_text.specs.Statements.{Stmt}
+use Rattle.blif_text.specs.Statements.{Stmt, parsed, stmts}
 
 -- what defines a gate: a latch's input and output, or a cover's names and the tokens of its lines
 pub data Def : Type 0 where
@@ -41,6 +41,10 @@ decls (Stmt.outputs ns ∷ ss) = outputs ns ∷ decls ss
 decls (Stmt.names ns ∷ ss) = gate (cover ns (cubes ss)) ∷ decls ss
 decls (Stmt.latch d q ∷ ss) = gate (latch d q) ∷ decls ss
 decls (Stmt.cube ts ∷ ss) = decls ss
+
+-- the declarations of a text
+unfoldable pub declsOf : Bytes → List Decl
+declsOf s = decls (stmts (parsed s))
 
 -- what a declaration adds to the inputs' names
 unfoldable pub insOf : Decl → List Bytes

@@ -1,9 +1,10 @@
 pub mod Lines
+pub mod Keywords
 pub mod Statements
 pub mod Decls
 pub mod Rows
 pub mod Places
 pub mod Scan
-pub mod Keywords
+pub mod PlacedStatements
 pub mod Walk
 pub mod Blocks

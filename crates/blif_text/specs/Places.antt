@@ -33,7 +33,7 @@ tokenStart c = c / 2 ^ 16 % 2 ^ 15
 abbrev pub tokenLength : ℕ → ℕ
 tokenLength c = c % 2 ^ 16
 
--- the token of a cell is within the text
+-- the token of a cell is "a part of the caller's text"
 abbrev pub InText : Bytes → ℕ → Type 0
 InText text c = tokenStart c + tokenLength c ≤ length text
 

@@ -11,7 +11,7 @@ unfoldable pub lineRows : List Bytes → List (List Bytes)
 lineRows [] = []
 lineRows (l ∷ ls) = if continues l then before (tokens (take (length l - 1) l)) (lineRows ls) else tokens (cut l) ∷ lineRows ls
 
--- the rows that have a token: "a line without a token is no statement"
+-- the rows that have a token: a line without a token is no statement
 unfoldable pub fullRows : List (List Bytes) → List (List Bytes)
 fullRows rs = filter nonEmpty rs
 

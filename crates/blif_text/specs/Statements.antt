@@ -1,9 +1,11 @@
 -- Statements of a text, and refusals 4 and 5 (document 01, src/io/blif.rs). Assumes nothing: these are definitions.
-use mathlib.Core.List.{List, [], _∷_, map, flatMap, headD}
+use mathlib.Core.List.{List, [], _∷_, map, flatMap}
 use Prim.Native.Nat.{ℕ}
-use lib.Dec.{eqb}
-use Rattle.lists.specs.Lists.{if_then_else_, Bytes, bytes, same}
+use Rattle.lists.specs.Lists.{Bytes}
 use Rattle.blif_text.specs.Lines.{lines, joined, tokens}
+use Rattle.blif_text.specs.Keywords.{keywordOf}
+use Rattle.blif_text.specs.declared.Keyword.{Keyword}
+use Rattle.blif_text.specs.declared.Keyword.the-variants as key
 
 -- a statement with its names, or a cube line with its tokens; the model's name is not kept
 pub data Stmt : Type 0 where
@@ -17,30 +19,32 @@ pub data Parsed : Type 0 where
   ok : Stmt → Parsed
   bad : ℕ → Parsed
 
--- "4 when `.model` lacks a name or `.latch` has fewer than two"; "Extra tokens .. are ignored"
+-- "4 when `.model` lacks a name"; "Extra tokens after `.model` .. are ignored"
 unfoldable pub modelStmt : List Bytes → Parsed
 modelStmt [] = bad 4
 modelStmt (n ∷ ts) = ok model
 
--- the input and the output of a latch; "later tokens are never looked up"
+-- "4 when .. `.latch` has fewer than two"; its input and its output; "Extra tokens after .. `.latch` .. are ignored"
 unfoldable pub latchStmt : List Bytes → Parsed
 latchStmt [] = bad 4
 latchStmt (d ∷ []) = bad 4
 latchStmt (d ∷ q ∷ ts) = ok (latch d q)
 
--- the statement of a first token and the others: "Keywords are compared byte for byte"; "another first token with a leading dot
--- is unsupported; any other statement is a cube line"
+-- the statement of a first token k with this keyword, and the other tokens
+abbrev pub byKeyword : Keyword → Bytes → List Bytes → Parsed
+byKeyword key.Model k ts = modelStmt ts
+byKeyword key.Inputs k ts = ok (inputs ts)
+byKeyword key.Outputs k ts = ok (outputs ts)
+byKeyword key.Latch k ts = latchStmt ts
+byKeyword key.Names k ts = ok (names ts)
+byKeyword key.End k ts = ok end
+byKeyword key.Exdc k ts = ok exdc
+byKeyword key.Unsupported k ts = bad 5
+byKeyword key.Cube k ts = ok (cube (k ∷ ts))
+
+-- the statement of a first token and the others
 unfoldable pub stmtOf : Bytes → List Bytes → Parsed
-stmtOf k ts =
-    if same k (bytes ".model") then modelStmt ts
-    else if same k (bytes ".inputs") then ok (inputs ts)
-    else if same k (bytes ".outputs") then ok (outputs ts)
-    else if same k (bytes ".latch") then latchStmt ts
-    else if same k (bytes ".names") then ok (names ts)
-    else if same k (bytes ".end") then ok end
-    else if same k (bytes ".exdc") then ok exdc
-    else if eqb 46 (headD k 0) then bad 5
-    else ok (cube (k ∷ ts))
+stmtOf k ts = byKeyword (keywordOf k) k ts
 
 -- a line without a token is no statement
 unfoldable pub parsedLine : List Bytes → List Parsed

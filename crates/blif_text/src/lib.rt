@@ -10,7 +10,8 @@ ghost use lib.Seq.{slice};
 ghost use Rattle.lists.specs.Lists.{any, overAt};
 ghost use Rattle.blif_text.specs.Lines.{isBlank};
 ghost use Rattle.blif_text.specs.Places.{maxText, maxTokens, tokenCell, isFirst, tokenStart, tokenLength, InText, tokenOf, tokensOf, TokensMarked};
-ghost use Rattle.blif_text.specs.Keywords.{keywordOf, said, RowTo, StatementOf, refusal};
+ghost use Rattle.blif_text.specs.Keywords.{keywordOf};
+ghost use Rattle.blif_text.specs.PlacedStatements.{said, RowTo, StatementOf, refusal};
 ghost use Rattle.blif_text.specs.Statements.{parsed, firstBad};
 ghost use Rattle.blif_text.specs.Decls.{columns};
 ghost use Rattle.blif_text.specs.Rows.{rowStmt};
@@ -19,8 +20,6 @@ ghost use Rattle.blif_text.specs.Blocks.{blockWidth, firstName, nameCoun
 ghost use Rattle.blif_text.specs.Scan.{endsWord, NoneTo, FirstTo, SpacesTo, LineAfter, StopOf, WordPut, Scanned};
 
 pub const MAX_TEXT: usize = 32768;
-
-pub const MAX_TOKENS: usize = 16384;
 
 // The cells of a block's record: first name, name count, line count.
 pub const BLOCK_CELLS: usize = 3;

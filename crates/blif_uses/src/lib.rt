@@ -1,6 +1,8 @@
 // Names that are used: refusal 11, and the gates first placed (Quaigh's src/io/blif.rs: build_network, its first loop).
 use blif_text::block_at;
 use blif_text::token;
+use gates::DFF;
+use gates::NARY_AND;
 use name_index::find_signal;
 use network::put_record;
 ghost use mathlib.Core.List.{[], _∷_, map};
@@ -18,11 +20,6 @@ ghost use Rattle.blif_uses.specs.Resolve.{Resolved, PlacedBy};
 ghost use Rattle.gates.specs.Gate.{AndN};
 ghost use Rattle.gates.specs.Forms.{formNumber, flopNumber};
 ghost use Rattle.blif_uses.specs.Steps.{NamesAt, GateRoom, GatePlaced, DefPlaced};
-
-// The form numbers of Dff and of Nary And.
-const DFF: u32 = 14;
-
-const NARY_AND: u32 = 7;
 
 // The cells of the constants one and zero.
 const ONE: u32 = 1;

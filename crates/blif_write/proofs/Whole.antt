@@ -17,13 +17,13 @@ use Rattle.network.specs.Cells.{Lent, isNetwork, netOf}
 use Rattle.network.proofs.Lent.{network-readable, network-sizes}
 use Rattle.blif_text.specs.Places.{maxText}
 use Rattle.blif_model.specs.Names.{nameBytes}
-use Rattle.blif_model.specs.Write.{latchBlocks, combBlocks, inverterBlock, inverters, wide}
+use Rattle.blif_model.specs.Write.{latchBlocks, combBlocks, inverterBlock, inverters, wide, inputNames}
 use Rattle.blif_model.specs.Render.{line, allLines, headLines, textOf}
 use Rattle.blif_names.specs.Text.{Wrote}
 use Rattle.blif_names.proofs.Laws.{part-back, part-is}
 use Rattle.blif_write.specs.Into.{outcome, refusedText, writtenText, tooLong, writeInto}
 use Rattle.blif_write.specs.declared.WriteAnswer.the-variants.{Written}
-use Rattle.blif_write.specs.Parts.{latchesText, coversText, inputNames, headText, Readable, invertersText, Writable}
+use Rattle.blif_write.specs.Parts.{latchesText, coversText, headText, Readable, invertersText, Writable}
 use Rattle.blif_put.proofs.Texts.{lines-append}
 
 -- ---- the whole text
@@ -45,7 +45,7 @@ whole-text net =
     ∙ ap (λ (t : Bytes). h ++ (flatMap line ls ++ (bytes "\n" ++ (flatMap line cs ++ t)))) (sym (lines-append is ts))
     ∙ ap (λ (t : Bytes). h ++ (flatMap line ls ++ (bytes "\n" ++ t))) (sym (lines-append cs (is ++ ts)))
     ∙ ap (λ (t : Bytes). h ++ t) (sym (lines-append ls ([] ∷ (cs ++ (is ++ ts)))))
-    ∙ sym (lines-append (headLines (inputNames 0 (net .inputs)) (map nameBytes (net .outputs))) (ls ++ ([] ∷ (cs ++ (is ++ ts)))))
+    ∙ sym (lines-append (headLines (inputNames nameBytes 0 (net .inputs)) (map nameBytes (net .outputs))) (ls ++ ([] ∷ (cs ++ (is ++ ts)))))
 
 -- ---- what refusal 20 leaves
 

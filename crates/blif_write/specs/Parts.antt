@@ -4,27 +4,35 @@ use mathlib.Core.Bool.{true, false}
 use mathlib.Core.List.{List, [], _∷_, map, flatMap}
 use mathlib.Core.Option.{some}
 use Prim.Native.Nat.{ℕ, _≤_, _<_}
-use Rattle.lists.specs.Lists.{Bytes, any, range}
-use Rattle.signal.specs.Signal.{Signal, plain, Input}
+use Rattle.lists.specs.Lists.{Bytes, any}
+use Rattle.signal.specs.Signal.{Signal}
 use Rattle.gates.specs.Gate.{Gate}
 use Rattle.network.specs.Net.{Net}
 use Rattle.network.specs.Cells.{maxGates, gateAt, Lent, isNetwork, netOf}
 use Rattle.blif_model.specs.Blif.{Block}
 use Rattle.blif_model.specs.Names.{nameBytes}
-use Rattle.blif_model.specs.Write.{wide, latchBlocks, combBlocks, inverterBlock, inverters}
+use Rattle.blif_model.specs.Write.{inputNames, wide, latchBlocks, combBlocks, inverterBlock, inverters}
 use Rattle.blif_model.specs.Render.{line, allLines, headLines}
 
 -- the lines of blocks, each with its end
 abbrev pub blocksText : List (Block Bytes) → Bytes
 blocksText bs = flatMap line (allLines bs)
 
+-- "latches": those of the gates, the first of which is gate g
+abbrev pub latchesText : ℕ → List Gate → Bytes
+latchesText g xs = blocksText (latchBlocks nameBytes g xs)
+
+-- "gates": their covers, the first of which is gate g
+abbrev pub coversText : ℕ → List Gate → Bytes
+coversText g xs = blocksText (combBlocks nameBytes g xs)
+
 -- gate g's latch, if it is a flip-flop
 unfoldable pub latchText : ℕ → Gate → Bytes
-latchText g x = blocksText (latchBlocks nameBytes g (x ∷ []))
+latchText g x = latchesText g (x ∷ [])
 
 -- gate g's cover, if it is combinational
 unfoldable pub coverText : ℕ → Gate → Bytes
-coverText g x = blocksText (combBlocks nameBytes g (x ∷ []))
+coverText g x = coversText g (x ∷ [])
 
 -- ---- the gates in lent cells
 
@@ -44,23 +52,11 @@ pub record Readable (cells ps : List ℕ) (n : ℕ) : Type 0 where
   -- each can
   pub read : (g : ℕ) → g < n → HeldAt cells ps g
 
--- "latches": those of the gates, the first of which is gate g
-abbrev pub latchesText : ℕ → List Gate → Bytes
-latchesText g xs = blocksText (latchBlocks nameBytes g xs)
-
--- "gates": their covers, the first of which is gate g
-abbrev pub coversText : ℕ → List Gate → Bytes
-coversText g xs = blocksText (combBlocks nameBytes g xs)
-
 -- ---- inputs and outputs
-
--- the names of k inputs from input i on
-abbrev pub inputNames : ℕ → ℕ → List Bytes
-inputNames i k = map (λ (j : ℕ). nameBytes (plain (Input j))) (range i k)
 
 -- "two comment lines, `.model`, inputs, outputs", of so many inputs and these outputs
 unfoldable pub headText : ℕ → List Signal → Bytes
-headText n os = flatMap line (headLines (inputNames 0 n) (map nameBytes os))
+headText n os = flatMap line (headLines (inputNames nameBytes 0 n) (map nameBytes os))
 
 -- ---- a whole network
 

@@ -4,8 +4,12 @@ use blif_inverters::append_input_inverters;
 use blif_inverters::mark_signals;
 use blif_names::append;
 use blif_names::append_name;
+use gates::BUF;
+use gates::DFF;
 use gates::Decoded;
 use gates::Gate;
+use gates::NARY_XNOR;
+use gates::NARY_XOR;
 use gates::PinRun;
 use network::Counts;
 use signal::Signal;
@@ -19,21 +23,16 @@ ghost use Rattle.signal.specs.Cell.{sigOf};
 ghost use Rattle.gates.specs.Decode.{gateIn};
 ghost use Rattle.network.specs.Cells.{maxGates, maxInputs, gateAt, orBuf, cellGates, cellNet, lent};
 ghost use Rattle.blif_text.specs.Places.{maxText};
-ghost use Rattle.blif_model.specs.Write.{named, tooWide, wide};
+ghost use Rattle.blif_model.specs.Names.{nameBytes};
+ghost use Rattle.blif_model.specs.Write.{inputNames, named, tooWide, wide};
 ghost use Rattle.blif_model.specs.Render.{spaced, textOf};
 ghost use Rattle.blif_names.specs.Text.{Wrote, Appended};
 ghost use Rattle.blif_write.specs.Into.{outcome, refusedText, writeInto};
-ghost use Rattle.blif_write.specs.Parts.{latchText, coverText, latchesText, coversText, inputNames, headText, HeldAt, Readable, invertersText, Writable};
+ghost use Rattle.blif_write.specs.Parts.{latchText, coverText, latchesText, coversText, headText, HeldAt, Readable, invertersText, Writable};
 ghost use Rattle.blif_inverters.specs.Marks.{SignalsMarked, namedIn};
 
-// Form numbers of gates that are looked at before they are read.
-const NARY_XOR: u32 = 11;
-
-const NARY_XNOR: u32 = 12;
-
-const BUF: u32 = 13;
-
-const DFF: u32 = 14;
+// How many inputs an Xor or Xnor of the Nary form may have to be written.
+const MAX_EXCLUSIVE: usize = 12;
 
 // The text's length, or a refusal's number.
 pub enum WriteAnswer {
@@ -165,7 +164,7 @@ fn append_covers(out: &mut [u8], at: usize, gates: &[u32], pins: &[u32], n: usiz
 // Writes the names of n inputs, each behind a blank.
 fn append_inputs(out: &mut [u8], at: usize, n: usize) -> usize
     requires { ⌜ n ≤ maxInputs ⌝ }
-    ensures { λ r. ⌜ Appended (spaced (inputNames 0 n)) (now (out .entry)) at (now (out .exit)) r ⌝ }
+    ensures { λ r. ⌜ Appended (spaced (inputNames nameBytes 0 n)) (now (out .entry)) at (now (out .exit)) r ⌝ }
 {
     if at > out.len() {
         return out.len() + 1;
@@ -201,7 +200,7 @@ fn write_head(out: &mut [u8], inputs: usize, outputs: &[u32]) -> usize
 fn is_wide(form: u32, count: usize) -> bool
     ensures { λ r. ⌜ r ≡ tooWide form count ⌝ }
 {
-    if count <= 12 {
+    if count <= MAX_EXCLUSIVE {
         return false;
     }
     if form == NARY_XOR {

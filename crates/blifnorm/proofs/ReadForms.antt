@@ -13,12 +13,12 @@ use Rattle.gates.specs.Forms.{formNumber, formCell}
 use Rattle.network.specs.Net.{Net}
 use Rattle.network.specs.Renumber.{remapGate, placeOf, gateOr, permuted}
 use Rattle.sort_order.proofs.Sorting.{sorted-order}
-use Rattle.blif_text.specs.Decls.{Decl, defs}
+use Rattle.blif_text.specs.Decls.{Decl, defs, declsOf}
 use Rattle.blif_model.specs.Blif.{Line, Block, Latch, Cover}
 use Rattle.blif_model.specs.Build.{literals, literalGate, lineGate, coverGate, lineGates, blockGate, moreGates, mains, extras}
-use Rattle.blif_model.specs.Render.{blockOf}
+use Rattle.blif_model.specs.Model.{blockOf}
 use Rattle.blif_model.specs.Write.{exclusive, maxExclusive, wide}
-use Rattle.blif_model.specs.Read.{declsOf, read, look, builtFrom, readText}
+use Rattle.blif_model.specs.Read.{read, look, builtFrom, readText}
 use Rattle.blif_model.proofs.Passed.{passed-valid}
 use Rattle.blif_model.proofs.Accepted.{passed-read}
 

@@ -4,6 +4,21 @@ ghost use mathlib.Core.Path.{_≡_};
 ghost use Rattle.gates.specs.Forms.{kindOf, kindNumber, kindTakes};
 ghost use Rattle.gates.specs.Decode.{kindOfGate, kindComb, cellSignal, kindGate, withPins};
 
+// Form numbers, for those who write a gate's record or look at its form alone.
+pub const NARY_AND: u32 = 7;
+
+pub const NARY_OR: u32 = 8;
+
+pub const NARY_NAND: u32 = 9;
+
+pub const NARY_XOR: u32 = 11;
+
+pub const NARY_XNOR: u32 = 12;
+
+pub const BUF: u32 = 13;
+
+pub const DFF: u32 = 14;
+
 pub enum BinaryType {
     And,
     Xor,
@@ -104,12 +119,12 @@ fn nary_number(t: NaryType) -> u32
     ensures { λ r. ⌜ r ≡ kindNumber (Kind.Nary t) ⌝ }
 {
     match t {
-        NaryType::And => 7,
-        NaryType::Or => 8,
-        NaryType::Nand => 9,
+        NaryType::And => NARY_AND,
+        NaryType::Or => NARY_OR,
+        NaryType::Nand => NARY_NAND,
         NaryType::Nor => 10,
-        NaryType::Xor => 11,
-        NaryType::Xnor => 12,
+        NaryType::Xor => NARY_XOR,
+        NaryType::Xnor => NARY_XNOR,
     }
 }
 
@@ -122,8 +137,8 @@ impl Kind {
             Kind::Binary(t) => binary_number(t),
             Kind::Ternary(t) => ternary_number(t),
             Kind::Nary(t) => nary_number(t),
-            Kind::Buf => 13,
-            Kind::Dff => 14,
+            Kind::Buf => BUF,
+            Kind::Dff => DFF,
             Kind::Unknown => 0,
         }
     }

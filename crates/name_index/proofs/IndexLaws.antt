@@ -11,9 +11,9 @@ use lib.Seq.{getD-set-same, getD-set-other}
 use Rattle.lists.specs.Lists.{Bytes, same, known, zeros}
 use Rattle.lists.proofs.Same.{same-is}
 use Rattle.lists.proofs.Tests.{by-order}
-use Rattle.blif_text.specs.Places.{tokenStart, tokenLength, tokenOf}
+use Rattle.blif_text.specs.Places.{InText, tokenOf}
 use Rattle.name_index.specs.Search.{Entry, entry, signalIn}
-use Rattle.name_index.specs.Index.{trees, maxNames, entryWidth, indexCells, nameAt, signalAt, branch, entryAt, entriesOf, hashAt, rootOf, bitsOf, Leads, Index, Entered}
+use Rattle.name_index.specs.Index.{trees, maxNames, entryWidth, indexCells, nameAt, signalAt, branch, entryAt, entriesOf, hashAt, rootOf, wayOf, Leads, Index, Entered}
 use Rattle.name_index.specs.Steps.{Sought}
 use Rattle.name_index.proofs.TreeLaws.{TreeCell, root, cell-before, cell-apart, sought-cell, leads-kept, passes-lead}
 use Rattle.name_index.proofs.EntryLaws.{map-range-last, map-range-same, signal-none, signal-at, known-none, known-at}
@@ -115,7 +115,7 @@ stored cells k at cell signal r l s =
 new-or : {X : Type 0} (k e : ℕ) → e < k + 1 → (e ≡ k → X) → (e < k → X) → X
 new-or k e u f g = by-order k e (λ v. f (omega arith)) g
 
-module _ {text cells : List ℕ} {k at cell signal : ℕ} (x : Index text cells k) (l : k < maxNames) (i : tokenStart cell + tokenLength cell ≤ length text)
+module _ {text cells : List ℕ} {k at cell signal : ℕ} (x : Index text cells k) (l : k < maxNames) (i : InText text cell)
     (f : Sought text cells k (tokenOf text cell) at) (empty : getD cells at 0 ≡ 0) {cells′ : List ℕ} (w : Stored cells k at cell signal cells′) where
   name-kept : (e : ℕ) → e < k → nameAt cells′ e ≡ nameAt cells e
   name-kept e u = w .kept (1024 + e * 4) (omega arith) (λ z. cell-apart (sought-cell x f) e 0 (omega arith) (omega arith))
@@ -128,7 +128,7 @@ module _ {text cells : List ℕ} {k at cell signal : ℕ} (x : Index text cells 
   tree-kept : (j e : ℕ) → TreeCell k j → getD cells j 0 ≡ suc e → getD cells′ j 0 ≡ suc e
   tree-kept j e t q = w .kept j (cell-before t) (λ z. let y : getD cells j 0 ≡ 0 = ap (λ (m : ℕ). getD cells m 0) z ∙ empty in omega arith) ∙ q
 
-  inside-new : (e : ℕ) → e < k + 1 → tokenStart (nameAt cells′ e) + tokenLength (nameAt cells′ e) ≤ length text
+  inside-new : (e : ℕ) → e < k + 1 → InText text (nameAt cells′ e)
   inside-new e u =
       new-or k e u
       (λ z. let n : nameAt cells′ e ≡ cell = ap (nameAt cells′) z ∙ w .name in rw n i)
@@ -151,7 +151,7 @@ module _ {text cells : List ℕ} {k at cell signal : ℕ} (x : Index text cells 
         | no z ↦ let r : (e < g) × (g < k) = x .rises e bits g v (sym (w .kept (branch e bits) (omega arith) z) ∙ q) in (r .0, omega (arith, r .1))
       ])
 
-  held-new : (e : ℕ) → e < k + 1 → Leads cells′ (rootOf (hashAt text cells′ e)) (bitsOf (hashAt text cells′ e)) e
+  held-new : (e : ℕ) → e < k + 1 → Leads cells′ (rootOf (hashAt text cells′ e)) (wayOf (hashAt text cells′ e)) e
   held-new e u =
       new-or k e u
       (λ z. rw (z, w .name) (passes-lead x tree-kept (root (omega arith)) (f .way) (w .linked)))
@@ -194,7 +194,7 @@ module _ {text cells : List ℕ} {k cell signal at : ℕ} {name : Bytes} (x : In
         added = λ t. absurd (false≢true t);
       }
 
-  pub entered-new : getD cells at 0 ≡ 0 → k < maxNames → tokenStart cell + tokenLength cell ≤ length text
+  pub entered-new : getD cells at 0 ≡ 0 → k < maxNames → InText text cell
       → Entered text cells k cell signal (withEntry cells k at cell signal) true
   entered-new z l i =
       let g : Sought text cells k (tokenOf text cell) at = rw n at f in

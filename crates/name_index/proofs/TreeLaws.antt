@@ -8,9 +8,9 @@ use lib.ListN.{length, getD}
 use Rattle.lists.specs.Lists.{Bytes, same}
 use Rattle.lists.proofs.Same.{same-is}
 use Rattle.lists.proofs.Tests.{by-test}
-use Rattle.blif_text.specs.Places.{tokenStart, tokenLength, tokenOf}
-use Rattle.name_index.specs.Index.{trees, entryWidth, nameAt, branch, hashOf, rootOf, bitsOf, Leads, here, on, Index}
-use Rattle.name_index.specs.Steps.{Passes, stay, past, Sought}
+use Rattle.blif_text.specs.Places.{InText, tokenOf}
+use Rattle.name_index.specs.Index.{trees, entryWidth, nameAt, branch, hashOf, rootOf, wayOf, Passes, stay, past, Leads, Index}
+use Rattle.name_index.specs.Steps.{Sought}
 
 -- ---- the cells of the trees
 
@@ -52,27 +52,32 @@ module _ {text cells : List ℕ} {k : ℕ} (x : Index text cells k) where
 
   -- ---- other cells in which each entry of the trees stands where it was
   module _ {cells′ : List ℕ} (kept : (at f : ℕ) → TreeCell k at → getD cells at 0 ≡ suc f → getD cells′ at 0 ≡ suc f) where
+    passes-kept : {at bits to : ℕ} → TreeCell k at → Passes cells at bits to → Passes cells′ at bits to
+    passes-kept t stay = stay
+    passes-kept {at} {bits} t (past {f = f} q p) = past (kept at f t q) (passes-kept (cell-next bits t q) p)
+
     pub leads-kept : {at bits e : ℕ} → TreeCell k at → Leads cells at bits e → Leads cells′ at bits e
-    leads-kept {at} {bits} {e} t (here q) = here (kept at e t q)
-    leads-kept {at} {bits} {e} t (on {f = f} q l) = on (kept at f t q) (leads-kept (cell-next bits t q) l)
+    leads-kept {e = e} t l =
+        record { cell = l .cell; way = passes-kept t (l .way); holds = kept (l .cell) e (passes-cell t (l .way)) (l .holds) }
 
     -- a way leads to the entry at its end
     pub passes-lead : {at bits to e : ℕ} → TreeCell k at → Passes cells at bits to → getD cells′ to 0 ≡ suc e → Leads cells′ at bits e
-    passes-lead t stay z = here z
-    passes-lead {at} {bits} t (past {f = f} q p) z = on (kept at f t q) (passes-lead (cell-next bits t q) p z)
+    passes-lead {to = to} t p z = record { cell = to; way = passes-kept t p; holds = z }
 
 -- ---- one step of a way
 
-module _ {cells : List ℕ} {at bits e : ℕ} where
+module _ {cells : List ℕ} {e : ℕ} where
   -- a cell that holds nothing leads to no entry
-  leads-none : getD cells at 0 ≡ 0 → Leads cells at bits e → ⊥
-  leads-none z (here q) = omega (arith, q)
-  leads-none z (on q l) = omega (arith, q)
+  none-on : {at bits to : ℕ} → getD cells at 0 ≡ 0 → Passes cells at bits to → getD cells to 0 ≡ suc e → ⊥
+  none-on z stay h = omega (arith, h)
+  none-on z (past q p) h = omega (arith, q)
 
   -- one that holds another entry leads on
-  leads-on : {f : ℕ} → getD cells at 0 ≡ suc f → (e ≡ f → ⊥) → Leads cells at bits e → Leads cells (branch f bits) (bits / 2) e
-  leads-on q n (here p) = absurd (n (omega arith))
-  leads-on {f} q n (on {f = g} p l) = let z : g ≡ f = omega arith in subst (λ (j : ℕ). Leads cells (branch j bits) (bits / 2) e) z l
+  other-on : {at bits to f : ℕ} → getD cells at 0 ≡ suc f → (e ≡ f → ⊥) → Passes cells at bits to → getD cells to 0 ≡ suc e → Leads cells (branch f bits) (bits / 2) e
+  other-on q n stay h = absurd (n (omega arith))
+  other-on {bits = bits} {to = to} {f = f} q n (past {f = g} r p) h =
+      let z : g ≡ f = omega arith in
+      subst (λ (j : ℕ). Leads cells (branch j bits) (bits / 2) e) z (record { cell = to; way = p; holds = h })
 
 -- ---- the search
 
@@ -80,10 +85,10 @@ module _ {cells : List ℕ} {at bits e : ℕ} where
 pub record Seeking (text cells : List ℕ) (k : ℕ) (name : Bytes) (at bits : ℕ) : Type 0 where
   pub index : Index text cells k
   pub cell : TreeCell k at
-  pub way : (to : ℕ) → Passes cells at bits to → Passes cells (rootOf (hashOf name)) (bitsOf (hashOf name)) to
+  pub way : (to : ℕ) → Passes cells at bits to → Passes cells (rootOf (hashOf name)) (wayOf (hashOf name)) to
   pub left : (e : ℕ) → e < k → same name (tokenOf text (nameAt cells e)) ≡ true → Leads cells at bits e
 
-pub seeking-start : {text cells : List ℕ} {k h : ℕ} {name : Bytes} → Index text cells k → h ≡ hashOf name → Seeking text cells k name (rootOf h) (bitsOf h)
+pub seeking-start : {text cells : List ℕ} {k h : ℕ} {name : Bytes} → Index text cells k → h ≡ hashOf name → Seeking text cells k name (rootOf h) (wayOf h)
 seeking-start {text} {cells} {name = name} x q =
     rw q
     (record {
@@ -105,7 +110,7 @@ module _ {text cells : List ℕ} {k : ℕ} {name : Bytes} {at bits : ℕ} (c : S
         there = seeking-there;
         within = omega arith;
         here = λ p. absurd (omega arith);
-        none = λ u e l. by-test (same name (tokenOf text (nameAt cells e))) (λ t. absurd (leads-none z (c .left e l t))) (λ t. t);
+        none = λ u e l. by-test (same name (tokenOf text (nameAt cells e))) (λ t. let d = c .left e l t in absurd (none-on z (d .way) (d .holds))) (λ t. t);
         way = c .way at stay;
       }
 
@@ -124,7 +129,7 @@ module _ {text cells : List ℕ} {k : ℕ} {name : Bytes} {at bits : ℕ} (c : S
     seeking-room = omega (arith, seeking-within, c .index .few, c .index .room)
 
     -- its name is within the text
-    pub seeking-inside : tokenStart (nameAt cells (getD cells at 0 - 1)) + tokenLength (nameAt cells (getD cells at 0 - 1)) ≤ length text
+    pub seeking-inside : InText text (nameAt cells (getD cells at 0 - 1))
     seeking-inside = c .index .inside (getD cells at 0 - 1) seeking-within
 
     -- it leads on behind the cell, for each bit
@@ -155,5 +160,5 @@ module _ {text cells : List ℕ} {k : ℕ} {name : Bytes} {at bits : ℕ} (c : S
             cell = cell-next (c .index) bits (c .cell) holds;
             way = λ to p. c .way to (past holds p);
             left = λ e l u.
-                leads-on holds (λ z. false≢true (sym (told ∙ t) ∙ sym (ap (λ (j : ℕ). same name (tokenOf text (nameAt cells j))) z) ∙ u)) (c .left e l u);
+                let d = c .left e l u in other-on holds (λ z. false≢true (sym (told ∙ t) ∙ sym (ap (λ (j : ℕ). same name (tokenOf text (nameAt cells j))) z) ∙ u)) (d .way) (d .holds);
           }

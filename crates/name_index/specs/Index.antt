@@ -6,7 +6,7 @@ use mathlib.Core.List.{List, [], _∷_, _++_, map}
 use Prim.Native.Nat.{ℕ, suc, _+_, _*_, _/_, _%_, _^_, _≤_, _<_}
 use lib.ListN.{length, getD}
 use Rattle.lists.specs.Lists.{Bytes, range, same, known}
-use Rattle.blif_text.specs.Places.{tokenStart, tokenLength, tokenOf}
+use Rattle.blif_text.specs.Places.{InText, tokenOf}
 use Rattle.name_index.specs.Search.{Entry, entry}
 
 -- how many trees
@@ -67,13 +67,22 @@ abbrev pub rootOf : ℕ → ℕ
 rootOf h = h % trees
 
 -- the bits of a hash that tell the way through its tree
-abbrev pub bitsOf : ℕ → ℕ
-bitsOf h = h / trees
+abbrev pub wayOf : ℕ → ℕ
+wayOf h = h / trees
 
--- from a cell these bits lead to entry e: a cell holds one more than an entry's number, or 0 where there is none
-pub data Leads (cells : List ℕ) : ℕ → ℕ → ℕ → Type 0 where
-  here : {at bits e : ℕ} → getD cells at 0 ≡ suc e → Leads cells at bits e
-  on : {at bits f e : ℕ} → getD cells at 0 ≡ suc f → Leads cells (branch f bits) (bits / 2) e → Leads cells at bits e
+-- from a cell these bits lead past entries to another cell: a cell holds one more than an entry's number, or 0 where there is none
+pub data Passes (cells : List ℕ) : ℕ → ℕ → ℕ → Type 0 where
+  stay : {at bits : ℕ} → Passes cells at bits at
+  past : {at bits f to : ℕ} → getD cells at 0 ≡ suc f → Passes cells (branch f bits) (bits / 2) to → Passes cells at bits to
+
+-- from a cell these bits lead to entry e
+pub record Leads (cells : List ℕ) (at bits e : ℕ) : Type 0 where
+  -- the cell that holds it
+  pub cell : ℕ
+  -- the way there
+  pub way : Passes cells at bits cell
+  -- it does
+  pub holds : getD cells cell 0 ≡ suc e
 
 -- the cells are an index of k names of the text
 pub record Index (text cells : List ℕ) (k : ℕ) : Type 0 where
@@ -82,13 +91,13 @@ pub record Index (text cells : List ℕ) (k : ℕ) : Type 0 where
   -- no more names than may be defined
   pub few : k ≤ maxNames
   -- each is within the text
-  pub inside : (e : ℕ) → e < k → tokenStart (nameAt cells e) + tokenLength (nameAt cells e) ≤ length text
+  pub inside : (e : ℕ) → e < k → InText text (nameAt cells e)
   -- a tree starts with one of the entries, or with none
   pub roots : (h : ℕ) → h < trees → getD cells h 0 ≤ k
   -- an entry leads on to later ones
   pub rises : (e bits f : ℕ) → e < k → getD cells (branch e bits) 0 ≡ suc f → (e < f) × (f < k)
   -- its hash leads to each entry
-  pub held : (e : ℕ) → e < k → Leads cells (rootOf (hashAt text cells e)) (bitsOf (hashAt text cells e)) e
+  pub held : (e : ℕ) → e < k → Leads cells (rootOf (hashAt text cells e)) (wayOf (hashAt text cells e)) e
   -- no name stands twice
   pub once : (d e : ℕ) → d < e → e < k → same (tokenOf text (nameAt cells e)) (tokenOf text (nameAt cells d)) ≡ false
 

@@ -2,16 +2,11 @@
 use mathlib.Core.Path.{_≡_}
 use mathlib.Core.Bool.{true, false}
 use mathlib.Core.List.{List}
-use Prim.Native.Nat.{ℕ, suc, _-_, _/_, _≤_, _<_}
+use Prim.Native.Nat.{ℕ, _-_, _≤_, _<_}
 use lib.ListN.{length, getD}
 use Rattle.lists.specs.Lists.{Bytes, same}
 use Rattle.blif_text.specs.Places.{tokenOf}
-use Rattle.name_index.specs.Index.{nameAt, branch, hashOf, rootOf, bitsOf}
-
--- from a cell these bits lead past entries to a cell
-pub data Passes (cells : List ℕ) : ℕ → ℕ → ℕ → Type 0 where
-  stay : {at bits : ℕ} → Passes cells at bits at
-  past : {at bits f to : ℕ} → getD cells at 0 ≡ suc f → Passes cells (branch f bits) (bits / 2) to → Passes cells at bits to
+use Rattle.name_index.specs.Index.{nameAt, hashOf, rootOf, wayOf, Passes}
 
 -- the search for a name ends at cell r, which holds one more than the number of the entry that has it, or 0 where none has it
 pub record Sought (text cells : List ℕ) (k : ℕ) (name : Bytes) (r : ℕ) : Type 0 where
@@ -24,4 +19,4 @@ pub record Sought (text cells : List ℕ) (k : ℕ) (name : Bytes) (r : ℕ) : T
   -- or none has it
   pub none : getD cells r 0 ≡ 0 → (e : ℕ) → e < k → same name (tokenOf text (nameAt cells e)) ≡ false
   -- the name's hash leads to the cell
-  pub way : Passes cells (rootOf (hashOf name)) (bitsOf (hashOf name)) r
+  pub way : Passes cells (rootOf (hashOf name)) (wayOf (hashOf name)) r

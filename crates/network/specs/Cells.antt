@@ -33,7 +33,7 @@ maxGates = 1024
 abbrev pub maxPins : ℕ
 maxPins = 16384
 
--- each size is within its limit
+-- each size is within its limit: "Each limit is inclusive"
 pub record WithinSizes (i o g p : ℕ) : Type 0 where
   -- "256 inputs"
   pub inputs : i ≤ maxInputs

@@ -12,7 +12,8 @@ use Rattle.network.specs.Clock.{NetRuns, zeroBits}
 use Rattle.network.specs.Settle.{run}
 use Rattle.network.proofs.Summary.{one-run}
 use Rattle.blif_model.specs.Blif.{BlifRuns}
-use Rattle.blif_model.specs.Render.{textOf, modelOfText}
+use Rattle.blif_model.specs.Render.{textOf}
+use Rattle.blif_model.specs.Model.{modelOfText}
 use Rattle.blif_model.specs.Read.{read, readText}
 use Rattle.blif_model.specs.Demand.{Good}
 use Rattle.blif_model.proofs.ReadNet.{read-net}

@@ -21,11 +21,12 @@ use Rattle.sort_order.specs.Order.{uses, useCount, recorded, order, sortOrder}
 use Rattle.sort_order.specs.Sorted.{sorted}
 use Rattle.sort_order.proofs.Summary.{loop-exactly}
 use Rattle.blif_text.specs.Lines.{consFirst, split, dropCR, lines, cut, continues, before, joined, isBlank, nonEmpty, tokens}
+use Rattle.blif_text.specs.Keywords.{keywordOf}
 use Rattle.blif_text.specs.Statements.{modelStmt, latchStmt, stmtOf, parsedLine, parsed, stmts}
-use Rattle.blif_text.specs.Decls.{cubes, decls, insOf, outsOf, defsOf, ins, outs, defs}
+use Rattle.blif_text.specs.Decls.{cubes, decls, insOf, outsOf, defsOf, ins, outs, defs, declsOf}
 use Rattle.blif_model.specs.Write.{wide}
 use Rattle.blif_model.specs.Render.{spaced, line, textOf}
-use Rattle.blif_model.specs.Read.{added, gateCount, pinCount, tooLarge, declsOf}
+use Rattle.blif_model.specs.Read.{added, gateCount, pinCount, tooLarge}
 use Rattle.blif_read.specs.Into.{enough}
 use Rattle.round_trip.specs.Trip.{Meets}
 use Rattle.round_trip.specs.Witness.{flop, net, witness, cells}
@@ -69,7 +70,7 @@ free l =
 
 -- its text is within the sizes
 sized : tooLarge (declsOf (textOf net)) ≡ false
-unfolding ℕ-discrete flatMap headD same consFirst split dropCR lines cut continues before joined isBlank nonEmpty tokens modelStmt latchStmt stmtOf parsedLine parsed stmts cubes decls insOf outsOf defsOf ins outs defs spaced line added gateCount pinCount tooLarge declsOf
+unfolding ℕ-discrete flatMap headD same consFirst split dropCR lines cut continues before joined isBlank nonEmpty tokens modelStmt latchStmt stmtOf keywordOf parsedLine parsed stmts cubes decls insOf outsOf defsOf ins outs defs spaced line added gateCount pinCount tooLarge declsOf
 sized = refl
 
 -- its one flip-flop is plain

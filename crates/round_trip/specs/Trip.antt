@@ -1,6 +1,7 @@
--- Demand 3: "Write then read: a valid, loop-free network with no exclusive gate over 12 inputs and plain flip-flops, whose written text is
+-- Demand 3, write then read: a valid, loop-free network with no exclusive gate over 12 inputs and plain flip-flops, whose written text is
 -- within the sizes, is written and read back with as many inputs and outputs, and for every list of input rows the two give equal outputs
--- at every clock from zero". Assumes nothing: these are definitions.
+-- at every clock from zero ("Demand 3 is one claim over every list of rows, the empty one too, not one for each clock"). Assumes nothing:
+-- these are definitions.
 use mathlib.Core.Path.{_≡_}
 use mathlib.Core.Bool.{Bool, true, false}
 use mathlib.Core.List.{List}
@@ -18,7 +19,8 @@ use Rattle.network.specs.declared.Counts.{Counts}
 use Rattle.blif_text.specs.Places.{maxText}
 use Rattle.blif_model.specs.Write.{wide}
 use Rattle.blif_model.specs.Render.{textOf}
-use Rattle.blif_model.specs.Read.{tooLarge, declsOf}
+use Rattle.blif_model.specs.Read.{tooLarge}
+use Rattle.blif_text.specs.Decls.{declsOf}
 use Rattle.blif_read.specs.Into.{Lengths, enough, readInto}
 use Rattle.blif_read.specs.declared.ReadAnswer.{ReadAnswer}
 use Rattle.blif_read.specs.declared.ReadAnswer.the-variants as read
@@ -83,7 +85,7 @@ pub record Meets (l : Lent) (n : ℕ) (m : Lengths) : Type 0 where
   pub free : Loop (netOf l) → ⊥
   -- "its exclusive gates are those of 21"
   pub narrow : any wide (netOf l .gates) ≡ false
-  -- "plain flip-flops": enable one, reset zero
+  -- plain flip-flops: enable one, reset zero
   pub plain : (g : ℕ) (s : FlipFlop) → GateIs (netOf l) g (Dff s) → (s .enable ≡ oneS) × (s .reset ≡ zeroS)
   -- the text, counted as a text to be read, is within the sizes
   pub sized : tooLarge (declsOf (textOf (netOf l))) ≡ false

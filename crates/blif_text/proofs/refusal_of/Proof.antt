@@ -7,7 +7,7 @@ use native.Mathlib.Omega.{arith}
 use borrow.Author.Needs.{needs}
 use denote.Enum.Declared.{tagOf}
 use types.Run.{OneOf}
-use Rattle.blif_text.specs.Keywords.{refusal}
+use Rattle.blif_text.specs.PlacedStatements.{refusal}
 use Rattle.blif_text.specs.declared.Statement.{Statement}
 use Rattle.blif_text.specs.declared.Statement.the-variants as place
 use Rattle.blif_text.proofs.Statement.{the-type}
