@@ -40,7 +40,7 @@ gateRun k zero = []
 gateRun k (suc n) = plain (Gated k) ∷ gateRun (suc k) n
 
 -- the cover's own gate: "A cover without lines is Buf(zero)"; of two or more, whose gates start at number k, "the cover's gate joins
--- them: Or for 1", and And for 0 (the last difference: BLIF decides)
+-- them: Or for 1"; "Two or more lines with output 0 are joined by And"
 abbrev pub coverGate : ℕ → List Signal → List Line → Gate
 coverGate k ss [] = Comb Buf (zeroS ∷ [])
 coverGate k ss (l ∷ []) = lineGate ss l

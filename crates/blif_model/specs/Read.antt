@@ -100,7 +100,7 @@ coverFault (cover ns ls) =
     when (not (all (goodLine (length ns - 1)) ls)) 12
     then when (any isOne ls && not (all isOne ls)) 13
 
--- "Then cover by cover"
+-- "Then cover by cover": "The first wrong column of the first wrong cube line ends the whole pass"
 unfoldable pub coverFaults : List Def → ℕ
 coverFaults [] = 0
 coverFaults (g ∷ gs) = coverFault g then coverFaults gs
@@ -120,7 +120,7 @@ pub data Result : Type 0 where
   read : Net → Result
   refused : ℕ → Result
 
--- 14 at a combinational loop among the gates as built
+-- "14 at a combinational loop among the gates as built"
 unfoldable pub answer : ℕ → Option Net → Result
 answer zero none = refused 14
 answer zero (some n) = read n
@@ -134,6 +134,6 @@ look ds = lookup byte-names (modelOf ds)
 unfoldable pub builtFrom : List Decl → Net
 builtFrom ds = build (look ds) (modelOf ds)
 
--- what reading gives, where the cells suffice
+-- what reading gives, where the cells suffice: a refusal, or the gates as built, and "Then the network is sorted"
 unfoldable pub readText : Bytes → Result
 readText s = answer (readFault s) (sorted (builtFrom (declsOf s)))

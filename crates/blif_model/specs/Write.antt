@@ -44,8 +44,9 @@ minterms f (v ∷ vs) = cond (f v) (coverRow true (map colOf v) ∷ minterms f v
 abbrev pub even : List Bool → Bool
 even v = not (odd v)
 
--- the cover lines of a gate of this form with n inputs: "And 11; Xor 10, 01; And 111; Xor 111, 100, 010, 001; Mux 11-, 0-1; Maj 11-, -11,
--- 1-1; all with output 1. Nary And and Nand have one line of ones (output 1, 0), Or and Nor one line of zeros (0, 1)"; Buf `1 1`
+-- the cover lines of a gate of this form with n inputs: "The cover lines of Binary and Ternary gates are a fixed table: And 11; Xor 10, 01;
+-- And 111; Xor 111, 100, 010, 001; Mux 11-, 0-1; Maj 11-, -11, 1-1; all with output 1. Nary And and Nand have one line of ones (output 1,
+-- 0), Or and Nor one line of zeros (0, 1)"; Buf `1 1`
 abbrev pub linesOf : Form → ℕ → List Line
 linesOf And2 n = coverRow true (C1 ∷ C1 ∷ []) ∷ []
 linesOf Xor2 n = coverRow true (C1 ∷ C0 ∷ []) ∷ coverRow true (C0 ∷ C1 ∷ []) ∷ []

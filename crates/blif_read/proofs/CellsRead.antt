@@ -14,7 +14,7 @@ use Rattle.network.proofs.Laying.{laid-over}
 use Rattle.network.proofs.Lent.{laid-network}
 use Rattle.blif_model.specs.Read.{Result, read, readText}
 use Rattle.blif_model.proofs.ReadNet.{NetRead, read-net}
-use Rattle.blif_read.specs.Into.{Lengths, lengths, enough, Outcome, filled, readInto}
+use Rattle.blif_read.specs.Into.{Lengths, lengths, enough, ReadOutcome, filled, readInto}
 use Rattle.blif_read.specs.Stages.{Enough}
 use Rattle.blif_read.proofs.Lending.{enough-cells}
 use Rattle.blif_read.proofs.Summary.{read-answers}
@@ -23,7 +23,7 @@ module _ (text : Bytes) (net : Net) (n : Lengths) (e : enough n ≡ true) (r : r
   known : NetRead net
   known = read-net text net r
 
-  -- the outcome of reading
+  -- the readOutcome of reading
   left : readInto text n ≡ filled (read net) n
   left = read-answers text n e ∙ ap (λ (x : Result). filled x n) r
 
@@ -51,8 +51,8 @@ module _ (text : Bytes) (net : Net) (n : Lengths) (e : enough n ≡ true) (r : r
 
   -- what is left is a network by the layout that refusal 20 asks for
   pub read-layout : isNetwork (lent (countsOf net) (readInto text n .gates) (readInto text n .pins) (readInto text n .outputs)) ≡ true
-  read-layout = ap (λ (o : Outcome). isNetwork (lent (countsOf net) (o .gates) (o .pins) (o .outputs))) left ∙ laid .0
+  read-layout = ap (λ (o : ReadOutcome). isNetwork (lent (countsOf net) (o .gates) (o .pins) (o .outputs))) left ∙ laid .0
 
   -- and it is the network read
   pub read-decodes : netOf (lent (countsOf net) (readInto text n .gates) (readInto text n .pins) (readInto text n .outputs)) ≡ net
-  read-decodes = ap (λ (o : Outcome). netOf (lent (countsOf net) (o .gates) (o .pins) (o .outputs))) left ∙ laid .1
+  read-decodes = ap (λ (o : ReadOutcome). netOf (lent (countsOf net) (o .gates) (o .pins) (o .outputs))) left ∙ laid .1

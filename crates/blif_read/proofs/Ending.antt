@@ -16,7 +16,7 @@ use Rattle.network.specs.Cells.{gateWidth, gateCells, pinCells, lent, netOf, co
 use Rattle.network.specs.declared.Counts.{Counts}
 use Rattle.network.proofs.Laying.{laid-over}
 use Rattle.sort_order.specs.Sorted.{sorted, Preserved}
-use Rattle.sort.specs.Into.{Outcome, outcome, sortInto}
+use Rattle.sort.specs.Into.{SortOutcome, sortOutcome, sortInto}
 use Rattle.sort_order.specs.Sortable.{Sortable}
 use Rattle.sort.specs.declared.Sorted.{Sorted}
 use Rattle.sort.specs.declared.Sorted.the-variants.{Order, Loop}
@@ -135,18 +135,18 @@ module _ {text tokens : List ℕ} {n : ℕ} {blocks : List ℕ} {i g o : ℕ} {g
     sortable newGates newPins = built-sortable (decls-none text (c .none)) cells-built
 
     module _ (gs ps : List ℕ) {gs′ ps′ os′ : List ℕ} {r : Sorted} (ng : 3072 ≤ length gs) (np : 16384 ≤ length ps)
-        (q : outcome r gs′ ps′ os′ ≡ sortInto (sorted (netOf (lent counts gates′ pinsIn′ os))) gs ps os) where
+        (q : sortOutcome r gs′ ps′ os′ ≡ sortInto (sorted (netOf (lent counts gates′ pinsIn′ os))) gs ps os) where
       is-built : netOf (lent counts gates′ pinsIn′ os) ≡ builtFrom (declsOf text)
       is-built = built-net (decls-none text (c .none)) cells-built
 
-      sorts : outcome r gs′ ps′ os′ ≡ sortInto (sorted (builtFrom (declsOf text))) gs ps os
+      sorts : sortOutcome r gs′ ps′ os′ ≡ sortInto (sorted (builtFrom (declsOf text))) gs ps os
       sorts = q ∙ ap (λ (x : Net). sortInto (sorted x) gs ps os) is-built
 
       -- "14 at a combinational loop among the gates as built"
       pub loop-refused : r ≡ Loop → readText text ≡ refused 14
       loop-refused e =
           sorted-or-loop text (c .none)
-          ∙ loop-answer (sorted (builtFrom (declsOf text))) gs ps os (sym (ap (λ (x : Outcome Sorted). x .answer) sorts) ∙ e)
+          ∙ loop-answer (sorted (builtFrom (declsOf text))) gs ps os (sym (ap (λ (x : SortOutcome Sorted). x .answer) sorts) ∙ e)
 
       -- the counts are the sorted network's
       counts-are : (new : Net) (k : ℕ) → Preserved (netOf (lent counts gates′ pinsIn′ os)) new → k ≡ length (pinCells (new .gates))
@@ -162,7 +162,7 @@ module _ {text tokens : List ℕ} {n : ℕ} {blocks : List ℕ} {i g o : ℕ} {g
       pub order-read : (k : ℕ) → r ≡ Order k → Holds (readText text) (Read (record { inputs = i; gates = b .gates; pins = k; outputs = o })) gs′ ps′ os′
       unfolding sortInto gatesIn outputsIn
       order-read k e =
-          let f = order-some (sorted (builtFrom (declsOf text))) gs ps os k (sym (ap (λ (x : Outcome Sorted). x .answer) sorts) ∙ e) in
+          let f = order-some (sorted (builtFrom (declsOf text))) gs ps os k (sym (ap (λ (x : SortOutcome Sorted). x .answer) sorts) ∙ e) in
           let new = f .0 in
           let s = sorts ∙ ap (λ (m : Option Net). sortInto m gs ps os) (f .1) in
           let room = sortable (length gs) (length ps) ng np in
@@ -170,9 +170,9 @@ module _ {text tokens : List ℕ} {n : ℕ} {blocks : List ℕ} {i g o : ℕ} {g
           let hg : length (new .gates) * gateWidth ≤ length gs = omega (arith, ap (λ (a : ReadAnswer). gatesIn a) (counts-are new k kept (f .2)), h .fewGates, ng) in
           let hp : length (pinCells (new .gates)) ≤ length ps = omega (arith, kept .pins, room .pinRoom) in
           let ho : length (new .outputs) ≤ length os = omega (arith, ap (λ (a : ReadAnswer). outputsIn a) (counts-are new k kept (f .2)), outs-room) in
-          let pg : over (gateCells 0 (new .gates)) gs ≡ gs′ = sym (ap (λ (x : Outcome Sorted). x .gates) s) in
-          let pp : over (pinCells (new .gates)) ps ≡ ps′ = sym (ap (λ (x : Outcome Sorted). x .pins) s) in
-          let po : over (map sigCell (new .outputs)) os ≡ os′ = sym (ap (λ (x : Outcome Sorted). x .outs) s) in
+          let pg : over (gateCells 0 (new .gates)) gs ≡ gs′ = sym (ap (λ (x : SortOutcome Sorted). x .gates) s) in
+          let pp : over (pinCells (new .gates)) ps ≡ ps′ = sym (ap (λ (x : SortOutcome Sorted). x .pins) s) in
+          let po : over (map sigCell (new .outputs)) os ≡ os′ = sym (ap (λ (x : SortOutcome Sorted). x .outs) s) in
           let laid : Laid new (lent (countsOf new) gs′ ps′ os′) =
           subst (Laid new) (λ j. lent (countsOf new) (pg j) (pp j) (po j)) (laid-over new gs ps os hg hp ho) in
           subst (λ (x : Result). Holds x (Read (record { inputs = i; gates = b .gates; pins = k; outputs = o })) gs′ ps′ os′)

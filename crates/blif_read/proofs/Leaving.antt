@@ -10,7 +10,7 @@ use Rattle.network.specs.Cells.{countsOf}
 use Rattle.network.specs.declared.Counts.{Counts}
 use Rattle.network.proofs.Laying.{length-gateCells}
 use Rattle.blif_model.specs.Read.{Result, read, refused, readText}
-use Rattle.blif_read.specs.Into.{Lengths, enough, outcome, leaving, filled, readInto, answered}
+use Rattle.blif_read.specs.Into.{Lengths, enough, readOutcome, leaving, filled, readInto, answered}
 use Rattle.blif_read.specs.Stages.{countsIn, Holds}
 use Rattle.blif_read.specs.declared.ReadAnswer.{ReadAnswer}
 use Rattle.blif_read.specs.declared.ReadAnswer.the-variants.{Read, Refused}
@@ -48,12 +48,12 @@ counts-within (read net) a gs ps os h =
 pub all-cleared : (text : Bytes) (n : Lengths) (a : ReadAnswer) (k : Counts) (gs ps os g p o wg wp : List ℕ) → Holds (answered text n) a gs ps os
     → k ≡ countsIn a → length gs ≡ n .gates → length ps ≡ n .pins → length os ≡ n .outputs
     → g ≡ over (take (k .gates * 3) gs) (zeros (length gs)) → p ≡ over (take (k .pins) ps) (zeros (length ps)) → o ≡ over (take (k .outputs) os) (zeros (length os))
-    → wg ≡ zeros (n .workGates) → wp ≡ zeros (n .workPins) → outcome a g p o wg wp ≡ readInto text n
+    → wg ≡ zeros (n .workGates) → wp ≡ zeros (n .workPins) → readOutcome a g p o wg wp ≡ readInto text n
 unfolding readInto
 all-cleared text n a k gs ps os g p o wg wp h q lg lp lo eg ep eo ew ex =
-    (λ j. outcome a (eg j) (ep j) (eo j) (ew j) (ex j))
+    (λ j. readOutcome a (eg j) (ep j) (eo j) (ew j) (ex j))
     ∙ (λ j.
-    outcome a (over (take (q j .gates * 3) gs) (zeros (lg j))) (over (take (q j .pins) ps) (zeros (lp j))) (over (take (q j .outputs) os) (zeros (lo j)))
+    readOutcome a (over (take (q j .gates * 3) gs) (zeros (lg j))) (over (take (q j .pins) ps) (zeros (lp j))) (over (take (q j .outputs) os) (zeros (lo j)))
     (zeros (n .workGates)) (zeros (n .workPins)))
     ∙ kept-filled (answered text n) a gs ps os n h
 

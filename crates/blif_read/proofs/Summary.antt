@@ -12,7 +12,7 @@ use Rattle.blif_model.specs.Blif.{BlifRuns}
 use Rattle.blif_model.specs.Model.{modelOfText}
 use Rattle.blif_model.specs.Read.{Result, read, refused, readText}
 use Rattle.blif_model.proofs.Summary as model
-use Rattle.blif_read.specs.Into.{Lengths, enough, Outcome, filled, readInto}
+use Rattle.blif_read.specs.Into.{Lengths, enough, ReadOutcome, filled, readInto}
 use Rattle.blif_read.specs.declared.ReadAnswer.the-variants.{Read, Refused}
 
 -- demand 2: where a text is read as a network, for every list of input rows the text has just one list of outputs, by the Berkeley text,
@@ -28,8 +28,8 @@ read-answers text n e = ap (λ (b : Bool). filled (if b then readText text else 
 
 -- a network that is read is answered with its counts
 pub read-counts : (text : Bytes) (net : Net) (n : Lengths) → enough n ≡ true → readText text ≡ read net → readInto text n .answer ≡ Read (countsOf net)
-read-counts text net n e r = ap (λ (o : Outcome). o .answer) (read-answers text n e ∙ ap (λ (x : Result). filled x n) r)
+read-counts text net n e r = ap (λ (o : ReadOutcome). o .answer) (read-answers text n e ∙ ap (λ (x : Result). filled x n) r)
 
 -- a refusal is answered with its number
 pub refusal-number : (text : Bytes) (k : ℕ) (n : Lengths) → enough n ≡ true → readText text ≡ refused k → readInto text n .answer ≡ Refused k
-refusal-number text k n e r = ap (λ (o : Outcome). o .answer) (read-answers text n e ∙ ap (λ (x : Result). filled x n) r)
+refusal-number text k n e r = ap (λ (o : ReadOutcome). o .answer) (read-answers text n e ∙ ap (λ (x : Result). filled x n) r)

@@ -36,7 +36,7 @@ enough n =
     && leb (maxGates * gateWidth) (n .workGates) && leb maxPins (n .workPins)
 
 -- an answer, and what the five slices hold then
-pub record Outcome : Type 0 where
+pub record ReadOutcome : Type 0 where
   -- what was answered: the counts, or a refusal's number
   pub answer : ReadAnswer
   -- the gates' cells
@@ -51,17 +51,17 @@ pub record Outcome : Type 0 where
   pub workPins : List ℕ
 
 -- the same, from its parts
-abbrev pub outcome : ReadAnswer → List ℕ → List ℕ → List ℕ → List ℕ → List ℕ → Outcome
-outcome a gs ps os wgs wps = record { answer = a; gates = gs; pins = ps; outputs = os; workGates = wgs; workPins = wps }
+abbrev pub readOutcome : ReadAnswer → List ℕ → List ℕ → List ℕ → List ℕ → List ℕ → ReadOutcome
+readOutcome a gs ps os wgs wps = record { answer = a; gates = gs; pins = ps; outputs = os; workGates = wgs; workPins = wps }
 
 -- an answer with the cells of gates, pins and outputs, "cells beyond them and working cells are zero"
-abbrev pub leaving : ReadAnswer → List ℕ → List ℕ → List ℕ → Lengths → Outcome
+abbrev pub leaving : ReadAnswer → List ℕ → List ℕ → List ℕ → Lengths → ReadOutcome
 leaving a gs ps os n =
-    outcome a (over gs (zeros (n .gates))) (over ps (zeros (n .pins))) (over os (zeros (n .outputs))) (zeros (n .workGates)) (zeros (n .workPins))
+    readOutcome a (over gs (zeros (n .gates))) (over ps (zeros (n .pins))) (over os (zeros (n .outputs))) (zeros (n .workGates)) (zeros (n .workPins))
 
 -- "A refusal gives its number; all lent cells are then zero. Success gives the input, gate, pin and output counts .. Pins here are the
 -- sorted gates' inputs, laid in gate order"
-abbrev pub filled : Result → Lengths → Outcome
+abbrev pub filled : Result → Lengths → ReadOutcome
 filled (refused k) n = leaving (Refused k) [] [] [] n
 filled (read net) n = leaving (Read (countsOf net)) (gateCells 0 (net .gates)) (pinCells (net .gates)) (map sigCell (net .outputs)) n
 
@@ -70,5 +70,5 @@ abbrev pub answered : Bytes → Lengths → Result
 answered text n = if enough n then readText text else refused 1
 
 -- what reading a text answers and leaves in lent slices of these lengths
-unfoldable pub readInto : Bytes → Lengths → Outcome
+unfoldable pub readInto : Bytes → Lengths → ReadOutcome
 readInto text n = filled (answered text n) n

@@ -22,7 +22,7 @@ ghost use lib.Dec.{leb};
 ghost use lib.ListN.{length, take};
 ghost use Rattle.lists.specs.Lists.{any, over, zeros};
 ghost use Rattle.blif_model.specs.Read.{readText};
-ghost use Rattle.blif_read.specs.Into.{lengths, enough, outcome, readInto, answered};
+ghost use Rattle.blif_read.specs.Into.{lengths, enough, readOutcome, readInto, answered};
 ghost use Rattle.blif_read.specs.Stages.{countsIn, Holds, Enough, PlainText, Sized, Resolving, Placing};
 
 // The network's counts, or a refusal's number.
@@ -288,7 +288,7 @@ pub fn read_blif(
     work_gates: &mut [u32],
     work_pins: &mut [u32],
 ) -> ReadAnswer
-    ensures { λ r. ⌜ outcome r (now (gates .exit)) (now (pins .exit)) (now (outputs .exit)) (now («work_gates» .exit)) (now («work_pins» .exit)) ≡ readInto (now (text .entry)) (lengths (length (now (gates .entry))) (length (now (pins .entry))) (length (now (outputs .entry))) (length (now («work_gates» .entry))) (length (now («work_pins» .entry)))) ⌝ }
+    ensures { λ r. ⌜ readOutcome r (now (gates .exit)) (now (pins .exit)) (now (outputs .exit)) (now («work_gates» .exit)) (now («work_pins» .exit)) ≡ readInto (now (text .entry)) (lengths (length (now (gates .entry))) (length (now (pins .entry))) (length (now (outputs .entry))) (length (now («work_gates» .entry))) (length (now («work_pins» .entry)))) ⌝ }
 {
     let answer = read_cells(text, gates, pins, outputs, work_gates, work_pins);
     let counts = counts_of(answer);

@@ -30,7 +30,7 @@ latchStmt [] = bad 4
 latchStmt (d ∷ []) = bad 4
 latchStmt (d ∷ q ∷ ts) = ok (latch d q)
 
--- the statement of a first token k with this keyword, and the other tokens
+-- the statement of a first token k with this keyword, and the other tokens; "5 when the construct is unsupported"
 abbrev pub byKeyword : Keyword → Bytes → List Bytes → Parsed
 byKeyword key.Model k ts = modelStmt ts
 byKeyword key.Inputs k ts = ok (inputs ts)

@@ -11,7 +11,7 @@ use Rattle.network.specs.Cells.{Lent, isNetwork, netOf}
 use Rattle.blif_text.specs.Places.{maxText}
 use Rattle.blif_model.specs.Write.{wide}
 use Rattle.blif_model.specs.Render.{textOf}
-use Rattle.blif_write.specs.Into.{Outcome, refusedText, writtenText, tooLong, writeInto}
+use Rattle.blif_write.specs.Into.{WriteOutcome, refusedText, writtenText, tooLong, writeInto}
 
 -- a text that is not too long is within the slice, and within the bytes of a text
 module _ (t : Bytes) (n : ℕ) (e : tooLong t n ≡ false) where
@@ -22,7 +22,7 @@ module _ (t : Bytes) (n : ℕ) (e : tooLong t n ≡ false) where
   in-text = ltb-false maxText (length t) (or-right (ltb n (length t)) (ltb maxText (length t)) e)
 
 -- the two ways in which the output slice of n bytes is left
-pub data Ways (n : ℕ) (o : Outcome) : Type 0 where
+pub data Ways (n : ℕ) (o : WriteOutcome) : Type 0 where
   refuses : (k : ℕ) → o ≡ refusedText k n → Ways n o
   writes : (t : Bytes) → length t ≤ n → length t ≤ maxText → o ≡ writtenText t n → Ways n o
 
@@ -34,7 +34,7 @@ writer-ways l n =
     by-test (any wide (netOf l .gates)) (λ w. refuses 21 (rw (e, w)))
     (λ w.
     let t : Bytes = textOf (netOf l) in
-    let end : Bool → Outcome = λ b. if b then refusedText 22 n else writtenText t n in
+    let end : Bool → WriteOutcome = λ b. if b then refusedText 22 n else writtenText t n in
     let p : writeInto l n ≡ end (tooLong t n) = rw (e, w) in
     by-test (tooLong t n) (λ q. refuses 22 (p ∙ ap end q)) (λ q. writes t (in-slice t n q) (in-text t n q) (p ∙ ap end q))))
     (λ e. refuses 20 (rw e))

@@ -21,7 +21,7 @@ use Rattle.blif_model.specs.Write.{latchBlocks, combBlocks, inverterBlock, inve
 use Rattle.blif_model.specs.Render.{line, allLines, headLines, textOf}
 use Rattle.blif_names.specs.Text.{Wrote}
 use Rattle.blif_names.proofs.Laws.{part-back, part-is}
-use Rattle.blif_write.specs.Into.{outcome, refusedText, writtenText, tooLong, writeInto}
+use Rattle.blif_write.specs.Into.{writeOutcome, refusedText, writtenText, tooLong, writeInto}
 use Rattle.blif_write.specs.declared.WriteAnswer.the-variants.{Written}
 use Rattle.blif_write.specs.Parts.{latchesText, coversText, headText, Readable, invertersText, Writable}
 use Rattle.blif_put.proofs.Texts.{lines-append}
@@ -146,8 +146,8 @@ module _ (l : Lent) (o : Bytes) {q : Bytes} {room end : ℕ} (w : Writable l) (r
       ap (refusedText 22) (after-length t o q room end r v) ∙ answers-long l (length o) w (wrote-long t o q room end r v h)
 
   pub ends-written : {z : Bytes} → end ≤ room → z ≡ zeros (length (take (length (q ++ drop room o) - end) (drop end (q ++ drop room o))))
-      → outcome (Written end) (take end (q ++ drop room o) ++ (z ++ drop (length (q ++ drop room o) - end) (drop end (q ++ drop room o)))) ≡ writeInto l (length o)
+      → writeOutcome (Written end) (take end (q ++ drop room o) ++ (z ++ drop (length (q ++ drop room o) - end) (drop end (q ++ drop room o)))) ≡ writeInto l (length o)
   ends-written h e =
       let t : Bytes = textOf (netOf l) in
-      ap₂ (λ (n : ℕ) (p : Bytes). outcome (Written n) p) (end-is t o q room end r v h) (zeros-behind t o q room end r v h e)
+      ap₂ (λ (n : ℕ) (p : Bytes). writeOutcome (Written n) p) (end-is t o q room end r v h) (zeros-behind t o q room end r v h e)
       ∙ answers-written l (length o) w (wrote-short t o q room end r v h)

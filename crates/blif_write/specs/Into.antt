@@ -13,30 +13,30 @@ use Rattle.blif_write.specs.declared.WriteAnswer.{WriteAnswer}
 use Rattle.blif_write.specs.declared.WriteAnswer.the-variants.{Written, Refused}
 
 -- an answer, and what the output slice holds then
-pub record Outcome : Type 0 where
+pub record WriteOutcome : Type 0 where
   -- what was answered: the text's length, or a refusal's number
   pub answer : WriteAnswer
   -- the bytes of the output slice
   pub out : Bytes
 
 -- the same, from its parts
-abbrev pub outcome : WriteAnswer → Bytes → Outcome
-outcome a o = record { answer = a; out = o }
+abbrev pub writeOutcome : WriteAnswer → Bytes → WriteOutcome
+writeOutcome a o = record { answer = a; out = o }
 
 -- "A refusal zeroes the output slice"
-abbrev pub refusedText : ℕ → ℕ → Outcome
-refusedText number n = outcome (Refused number) (zeros n)
+abbrev pub refusedText : ℕ → ℕ → WriteOutcome
+refusedText number n = writeOutcome (Refused number) (zeros n)
 
 -- "Success gives the length and zero bytes after it"
-abbrev pub writtenText : Bytes → ℕ → Outcome
-writtenText t n = outcome (Written (length t)) (over t (zeros n))
+abbrev pub writtenText : Bytes → ℕ → WriteOutcome
+writtenText t n = writeOutcome (Written (length t)) (over t (zeros n))
 
 -- "22 when the text is longer than the output slice or than 32,768 bytes"
 abbrev pub tooLong : Bytes → ℕ → Bool
 tooLong t n = ltb n (length t) || ltb maxText (length t)
 
 -- "Writing refuses, in order: 20 .. 21 .. 22"; n is the output slice's length
-unfoldable pub writeInto : Lent → ℕ → Outcome
+unfoldable pub writeInto : Lent → ℕ → WriteOutcome
 writeInto l n =
     if not (isNetwork l) then refusedText 20 n
     else if any wide (netOf l .gates) then refusedText 21 n

@@ -27,7 +27,7 @@ ghost use Rattle.blif_model.specs.Names.{nameBytes};
 ghost use Rattle.blif_model.specs.Write.{inputNames, named, tooWide, wide};
 ghost use Rattle.blif_model.specs.Render.{spaced, textOf};
 ghost use Rattle.blif_names.specs.Text.{Wrote, Appended};
-ghost use Rattle.blif_write.specs.Into.{outcome, refusedText, writeInto};
+ghost use Rattle.blif_write.specs.Into.{writeOutcome, refusedText, writeInto};
 ghost use Rattle.blif_write.specs.Parts.{latchText, coverText, latchesText, coversText, headText, HeldAt, Readable, invertersText, Writable};
 ghost use Rattle.blif_inverters.specs.Marks.{SignalsMarked, namedIn};
 
@@ -299,7 +299,7 @@ fn write_text(
 
 // Clears the output slice and refuses.
 fn refuse(out: &mut [u8], number: u32) -> WriteAnswer
-    ensures { λ r. ⌜ outcome r (now (out .exit)) ≡ refusedText number (length (now (out .entry))) ⌝ }
+    ensures { λ r. ⌜ writeOutcome r (now (out .exit)) ≡ refusedText number (length (now (out .entry))) ⌝ }
 {
     lists::fill_zero_bytes(out);
     WriteAnswer::Refused(number)
@@ -324,7 +324,7 @@ fn write_network(
     out: &mut [u8],
 ) -> WriteAnswer
     requires { ⌜ Writable (lent counts (now gates) (now pins) (now outputs)) ⌝ }
-    ensures { λ r. ⌜ outcome r (now (out .exit)) ≡ writeInto (lent counts (now (gates .entry)) (now (pins .entry)) (now (outputs .entry))) (length (now (out .entry))) ⌝ }
+    ensures { λ r. ⌜ writeOutcome r (now (out .exit)) ≡ writeInto (lent counts (now (gates .entry)) (now (pins .entry)) (now (outputs .entry))) (length (now (out .entry))) ⌝ }
 {
     let n = counts.gates;
     let used = counts.outputs;
@@ -352,7 +352,7 @@ pub fn write_blif(
     outputs: &[u32],
     out: &mut [u8],
 ) -> WriteAnswer
-    ensures { λ r. ⌜ outcome r (now (out .exit)) ≡ writeInto (lent counts (now (gates .entry)) (now (pins .entry)) (now (outputs .entry))) (length (now (out .entry))) ⌝ }
+    ensures { λ r. ⌜ writeOutcome r (now (out .exit)) ≡ writeInto (lent counts (now (gates .entry)) (now (pins .entry)) (now (outputs .entry))) (length (now (out .entry))) ⌝ }
 {
     if !network::check_layout(counts, gates, pins, outputs) {
         return refuse(out, 20);

@@ -15,11 +15,10 @@ use Rattle.blif_model.specs.Write.{wide}
 use Rattle.blif_model.specs.Render.{textOf}
 use Rattle.blif_names.specs.Text.{Wrote}
 use Rattle.blif_names.proofs.Numbers.{decimal-then}
-use Rattle.blif_read.specs.Into.{Lengths, readInto}
-use Rattle.blif_read.specs.Into as reading
+use Rattle.blif_read.specs.Into.{Lengths, readInto, ReadOutcome, readOutcome}
 use Rattle.blif_read.specs.declared.ReadAnswer.{ReadAnswer}
 use Rattle.blif_read.specs.declared.ReadAnswer.the-variants as read
-use Rattle.blif_write.specs.Into.{Outcome, outcome, refusedText, writtenText, tooLong, writeInto}
+use Rattle.blif_write.specs.Into.{WriteOutcome, writeOutcome, refusedText, writtenText, tooLong, writeInto}
 use Rattle.blif_write.specs.declared.WriteAnswer.{WriteAnswer}
 use Rattle.blif_write.specs.declared.WriteAnswer.the-variants.{Written, Refused}
 use Rattle.blif_write.proofs.Answers.{in-slice, Ways, refuses, writes, writer-ways}
@@ -27,17 +26,17 @@ use Rattle.blifnorm.specs.Norm.{refusedLine, writtenFrom, normInto, prin
 
 -- ---- the reader's answer, then the writer's
 
-module _ (text : Bytes) (ls : Lengths) (n : ℕ) {gs ps os wgs wps : List ℕ} {a : ReadAnswer} (e : reading.outcome a gs ps os wgs wps ≡ readInto text ls) where
+module _ (text : Bytes) (ls : Lengths) (n : ℕ) {gs ps os wgs wps : List ℕ} {a : ReadAnswer} (e : readOutcome a gs ps os wgs wps ≡ readInto text ls) where
   -- what follows the reader's answer
-  after : {y : ReadAnswer} → a ≡ y → writtenFrom y (reading.outcome a gs ps os wgs wps) n ≡ normInto text ls n
+  after : {y : ReadAnswer} → a ≡ y → writtenFrom y (readOutcome a gs ps os wgs wps) n ≡ normInto text ls n
   after q =
-      ap (λ (y : ReadAnswer). writtenFrom y (reading.outcome a gs ps os wgs wps) n) (sym q) ∙ ap (λ (o : reading.Outcome). writtenFrom (o .answer) o n) e
+      ap (λ (y : ReadAnswer). writtenFrom y (readOutcome a gs ps os wgs wps) n) (sym q) ∙ ap (λ (o : ReadOutcome). writtenFrom (o .answer) o n) e
 
-  pub norm-read : {c : Counts} {x : Outcome} → a ≡ read.Read c → x ≡ writeInto (lent c gs ps os) n → x ≡ normInto text ls n
+  pub norm-read : {c : Counts} {x : WriteOutcome} → a ≡ read.Read c → x ≡ writeInto (lent c gs ps os) n → x ≡ normInto text ls n
   norm-read q w = w ∙ after q
 
-  pub norm-refused : {k : ℕ} {b : Bytes} → a ≡ read.Refused k → b ≡ zeros n → outcome (Refused k) b ≡ normInto text ls n
-  norm-refused {k} q z = ap (λ (o : Bytes). outcome (Refused k) o) z ∙ after q
+  pub norm-refused : {k : ℕ} {b : Bytes} → a ≡ read.Refused k → b ≡ zeros n → writeOutcome (Refused k) b ≡ normInto text ls n
+  norm-refused {k} q z = ap (λ (o : Bytes). writeOutcome (Refused k) o) z ∙ after q
 
 -- ---- the line of a refusal
 
@@ -52,7 +51,7 @@ pub network-text : (l : Lent) (n : ℕ) → isNetwork l ≡ true → any wide (n
 unfolding writeInto
 network-text l n e w =
     let t = textOf (netOf l) in
-    let end : Bool → Outcome = λ b. if b then refusedText 22 n else writtenText t n in
+    let end : Bool → WriteOutcome = λ b. if b then refusedText 22 n else writtenText t n in
     let line : Bool → Bytes = λ b. if b then refusedLine 22 else t in
     let p : writeInto l n ≡ end (tooLong t n) = rw (e, w) in
     let r = length-replicate {A = ℕ} n 0 in
@@ -60,7 +59,7 @@ network-text l n e w =
     (λ q. ap printed (p ∙ ap end q) ∙ ap line (sym q))
     (λ q. let h = in-slice t n q in ap printed (p ∙ ap end q) ∙ take-over t (zeros n) (omega (arith, h, r)) ∙ ap line (sym q))
 
-from-ways : (a : ReadAnswer) (o : reading.Outcome) (n : ℕ) → Ways n (writtenFrom a o n)
+from-ways : (a : ReadAnswer) (o : ReadOutcome) (n : ℕ) → Ways n (writtenFrom a o n)
 from-ways (read.Refused k) o n = refuses k refl
 from-ways (read.Read c) o n = writer-ways (lent c (o .gates) (o .pins) (o .outputs)) n
 
@@ -75,32 +74,32 @@ textLength (Written n) = n
 textLength (Refused k) = 0
 
 -- a text in the slice is what is printed
-text-laid : (n m : ℕ) (x : Outcome) (b : Bytes) → Ways n x → outcome (Written m) b ≡ x → Wrote (printed x) (zeros n) b m
+text-laid : (n m : ℕ) (x : WriteOutcome) (b : Bytes) → Ways n x → writeOutcome (Written m) b ≡ x → Wrote (printed x) (zeros n) b m
 unfolding isText textLength
-text-laid n m x b (refuses k e) h = absurd (true≢false (ap (λ (o : Outcome). isText (o .answer)) (h ∙ e)))
+text-laid n m x b (refuses k e) h = absurd (true≢false (ap (λ (o : WriteOutcome). isText (o .answer)) (h ∙ e)))
 text-laid n m x b (writes t l short e) h =
     let r = length-replicate {A = ℕ} n 0 in
     let p : printed x ≡ t = ap printed e ∙ take-over t (zeros n) (omega (arith, r)) in
-    let eb : b ≡ over t (zeros n) = ap (λ (o : Outcome). o .out) (h ∙ e) in
-    let em : m ≡ length t = ap (λ (o : Outcome). textLength (o .answer)) (h ∙ e) in
+    let eb : b ≡ over t (zeros n) = ap (λ (o : WriteOutcome). o .out) (h ∙ e) in
+    let em : m ≡ length t = ap (λ (o : WriteOutcome). textLength (o .answer)) (h ∙ e) in
     record { out = eb ∙ ap (λ (s : Bytes). over s (zeros n)) (sym p); len = omega (arith, em, ap length p, r) }
 
 -- and after a refusal the slice is zero, so that its line alone is
-line-laid : (n k : ℕ) (x : Outcome) (b p : Bytes) (r : ℕ) → Ways n x → outcome (Refused k) b ≡ x → Wrote (refusedLine k) b p r
+line-laid : (n k : ℕ) (x : WriteOutcome) (b p : Bytes) (r : ℕ) → Ways n x → writeOutcome (Refused k) b ≡ x → Wrote (refusedLine k) b p r
     → Wrote (printed x) (zeros n) p r
 unfolding isText
 line-laid n k x b p r (refuses j e) h w =
-    let eb : b ≡ zeros n = ap (λ (o : Outcome). o .out) (h ∙ e) in
+    let eb : b ≡ zeros n = ap (λ (o : WriteOutcome). o .out) (h ∙ e) in
     let ex : refusedLine k ≡ printed x = ap printed h in
     subst (λ (s : Bytes). Wrote s (zeros n) p r) ex (subst (λ (s : Bytes). Wrote (refusedLine k) s p r) eb w)
-line-laid n k x b p r (writes t l short e) h w = absurd (false≢true (ap (λ (o : Outcome). isText (o .answer)) (h ∙ e)))
+line-laid n k x b p r (writes t l short e) h w = absurd (false≢true (ap (λ (o : WriteOutcome). isText (o .answer)) (h ∙ e)))
 
-module _ (text : Bytes) (ls : Lengths) (n : ℕ) {b : Bytes} {a : WriteAnswer} (h : outcome a b ≡ normInto text ls n) where
+module _ (text : Bytes) (ls : Lengths) (n : ℕ) {b : Bytes} {a : WriteAnswer} (h : writeOutcome a b ≡ normInto text ls n) where
   ways : Ways n (normInto text ls n)
   ways = from-ways (readInto text ls .answer) (readInto text ls) n
 
   pub prints-text : {m : ℕ} → a ≡ Written m → Wrote (printed (normInto text ls n)) (zeros n) b m
-  prints-text {m} q = text-laid n m (normInto text ls n) b ways (ap (λ (y : WriteAnswer). outcome y b) (sym q) ∙ h)
+  prints-text {m} q = text-laid n m (normInto text ls n) b ways (ap (λ (y : WriteAnswer). writeOutcome y b) (sym q) ∙ h)
 
   pub prints-line : {k : ℕ} {p : Bytes} {r : ℕ} → a ≡ Refused k → Wrote (refusedLine k) b p r → Wrote (printed (normInto text ls n)) (zeros n) p r
-  prints-line {k} {p} {r} q w = line-laid n k (normInto text ls n) b p r ways (ap (λ (y : WriteAnswer). outcome y b) (sym q) ∙ h) w
+  prints-line {k} {p} {r} q w = line-laid n k (normInto text ls n) b p r ways (ap (λ (y : WriteAnswer). writeOutcome y b) (sym q) ∙ h) w

@@ -10,7 +10,7 @@ use Rattle.network.specs.Cells.{gateCells, pinCells, Lent, lent, countsOf, netO
 use Rattle.blif_model.specs.Write.{wide}
 use Rattle.blif_model.specs.Render.{textOf}
 use Rattle.blif_model.specs.Read.{Result, read, refused, readText}
-use Rattle.blif_read.specs.Into.{Lengths, enough, Outcome, filled, readInto}
+use Rattle.blif_read.specs.Into.{Lengths, enough, ReadOutcome, filled, readInto}
 use Rattle.blif_read.proofs.CellsRead.{read-layout, read-decodes}
 use Rattle.blif_write.specs.Into.{tooLong, writeInto}
 use Rattle.blifnorm.specs.Norm.{refusedLine, writtenFrom, normInto, printed}
@@ -25,7 +25,7 @@ module _ (text : Bytes) (ls : Lengths) (n : ℕ) (e : enough ls ≡ true) where
 
   -- a text that is refused is answered by the line with the refusal's number
   pub refusal-printed : (k : ℕ) → readText text ≡ refused k → printed (normInto text ls n) ≡ refusedLine k
-  refusal-printed k q = ap (λ (o : Outcome). printed (writtenFrom (o .answer) o n)) (left q)
+  refusal-printed k q = ap (λ (o : ReadOutcome). printed (writtenFrom (o .answer) o n)) (left q)
 
   -- a text that is read, by what the writer answers for the cells of the network read
   pub network-printed : (net : Net) → readText text ≡ read net
@@ -35,13 +35,13 @@ module _ (text : Bytes) (ls : Lengths) (n : ℕ) (e : enough ls ≡ true) where
       (lent (countsOf net) (over (gateCells 0 (net .gates)) (zeros (ls .gates))) (over (pinCells (net .gates)) (zeros (ls .pins)))
       (over (map sigCell (net .outputs)) (zeros (ls .outputs))))
       n)
-  network-printed net q = ap (λ (o : Outcome). printed (writtenFrom (o .answer) o n)) (left q)
+  network-printed net q = ap (λ (o : ReadOutcome). printed (writtenFrom (o .answer) o n)) (left q)
 
   -- a text that is read is answered by the written text of the network read, or by 22 where that text is too long
   pub text-printed : (net : Net) → readText text ≡ read net
       → printed (normInto text ls n) ≡ (if tooLong (textOf net) n then refusedLine 22 else textOf net)
   text-printed net q =
-      let cells : Outcome → Lent = λ o. lent (countsOf net) (o .gates) (o .pins) (o .outputs) in
+      let cells : ReadOutcome → Lent = λ o. lent (countsOf net) (o .gates) (o .pins) (o .outputs) in
       let l : Lent = cells (filled (read net) ls) in
       let same : l ≡ cells (readInto text ls) = ap cells (sym (left q)) in
       let decodes : netOf l ≡ net = ap netOf same ∙ read-decodes text net ls e q in

@@ -6,11 +6,10 @@ use lib.ListN.{take}
 use Rattle.lists.specs.Lists.{Bytes, bytes}
 use Rattle.network.specs.Cells.{lent}
 use Rattle.blif_model.specs.Names.{decimal}
-use Rattle.blif_read.specs.Into.{Lengths, readInto}
-use Rattle.blif_read.specs.Into as reading
+use Rattle.blif_read.specs.Into.{Lengths, readInto, ReadOutcome}
 use Rattle.blif_read.specs.declared.ReadAnswer.{ReadAnswer}
 use Rattle.blif_read.specs.declared.ReadAnswer.the-variants.{Read, Refused}
-use Rattle.blif_write.specs.Into.{Outcome, refusedText, writeInto}
+use Rattle.blif_write.specs.Into.{WriteOutcome, refusedText, writeInto}
 use Rattle.blif_write.specs.declared.WriteAnswer.the-variants as written
 
 -- "the line `refused=N`", with its line's end
@@ -19,14 +18,14 @@ refusedLine k = bytes "refused=" ++ decimal k (10 ∷ [])
 
 -- after the reader's answer, with the cells that it left: its refusal, or what the writer answers for those cells; n is the output
 -- slice's length
-abbrev pub writtenFrom : ReadAnswer → reading.Outcome → ℕ → Outcome
+abbrev pub writtenFrom : ReadAnswer → ReadOutcome → ℕ → WriteOutcome
 writtenFrom (Refused k) o n = refusedText k n
 writtenFrom (Read counts) o n = writeInto (lent counts (o .gates) (o .pins) (o .outputs)) n
 
 -- "the written text of the network read", or the reader's or else the writer's refusal, for lent slices of these lengths
-abbrev pub normInto : Bytes → Lengths → ℕ → Outcome
+abbrev pub normInto : Bytes → Lengths → ℕ → WriteOutcome
 normInto text n = let o = readInto text n in writtenFrom (o .answer) o
 
 -- "prints the written text .., or the line `refused=N`"
-abbrev pub printed : Outcome → Bytes
+abbrev pub printed : WriteOutcome → Bytes
 printed o = elim (o .answer) [ written.Written n ↦ take n (o .out) | written.Refused k ↦ refusedLine k ]

@@ -13,7 +13,7 @@ ghost use lib.ListN.{length};
 ghost use Rattle.lists.specs.Lists.{zeros};
 ghost use Rattle.blif_names.specs.Text.{Wrote};
 ghost use Rattle.blif_read.specs.Into.{lengths};
-ghost use Rattle.blif_write.specs.Into.{outcome};
+ghost use Rattle.blif_write.specs.Into.{writeOutcome};
 ghost use Rattle.blifnorm.specs.Norm.{refusedLine, normInto, printed};
 
 // Writes the text of the network read into out, or gives the reader's or else the writer's refusal.
@@ -26,7 +26,7 @@ fn normalise(
     work_gates: &mut [u32],
     work_pins: &mut [u32],
 ) -> WriteAnswer
-    ensures { λ r. ⌜ outcome r (now (out .exit)) ≡ normInto (now (text .entry)) (lengths (length (now (gates .entry))) (length (now (pins .entry))) (length (now (outputs .entry))) (length (now («work_gates» .entry))) (length (now («work_pins» .entry)))) (length (now (out .entry))) ⌝ }
+    ensures { λ r. ⌜ writeOutcome r (now (out .exit)) ≡ normInto (now (text .entry)) (lengths (length (now (gates .entry))) (length (now (pins .entry))) (length (now (outputs .entry))) (length (now («work_gates» .entry))) (length (now («work_pins» .entry)))) (length (now (out .entry))) ⌝ }
 {
     match read_blif(text, gates, pins, outputs, work_gates, work_pins) {
         ReadAnswer::Read(counts) => write_blif(counts, gates, pins, outputs, out),

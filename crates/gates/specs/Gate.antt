@@ -67,7 +67,8 @@ two (false ∷ bs) = two bs
 abbrev pub mux : List Bool → Bool
 mux bs = cond (getD bs 0 false) (getD bs 1 false) (getD bs 2 false)
 
--- "a combinational gate's what its form makes of its inputs' bits"
+-- "a combinational gate's what its form makes of its inputs' bits"; "And, Nor and Xnor of nothing are one; Or, Nand and Xor of nothing
+-- are zero"
 abbrev pub formBit : Form → List Bool → Bool
 formBit And2 bs = allOf bs
 formBit Xor2 bs = odd bs

@@ -29,9 +29,8 @@ use Rattle.blif_model.proofs.Summary.{read-back}
 use Rattle.blif_read.specs.Into.{Lengths, readInto}
 use Rattle.blif_read.proofs.Summary.{read-counts}
 use Rattle.blif_read.proofs.CellsRead.{read-decodes}
-use Rattle.blif_write.specs.Into as writing
-use Rattle.blif_write.specs.Into.{writtenText, writeInto}
-use Rattle.round_trip.specs.Trip.{writtenLength, readAnswer, answerOf, Outcome, tripInto, Meets, ReadsBack}
+use Rattle.blif_write.specs.Into.{writtenText, writeInto, WriteOutcome}
+use Rattle.round_trip.specs.Trip.{writtenLength, readAnswer, answerOf, TripOutcome, tripInto, Meets, ReadsBack}
 
 -- ---- the conditions are those of the theorem
 
@@ -69,10 +68,10 @@ module _ {l : Lent} {n : ℕ} {m : Lengths} (w : Words l) (c : Meets l n m) wher
   -- exactly the bytes written are read
   bytes-read : take (writtenLength (writeInto l n .answer)) (writeInto l n .out) ≡ textOf (netOf l)
   bytes-read =
-      ap (λ (o : writing.Outcome). take (writtenLength (o .answer)) (o .out)) written
+      ap (λ (o : WriteOutcome). take (writtenLength (o .answer)) (o .out)) written
       ∙ take-over (textOf (netOf l)) (zeros n) (omega (arith, c .room, length-replicate {A = ℕ} n 0))
 
-  -- the outcome of reading them
+  -- the tripOutcome of reading them
   read-left : readInto (take (writtenLength (writeInto l n .answer)) (writeInto l n .out)) m ≡ readInto (textOf (netOf l)) m
   read-left = ap (λ (t : Bytes). readInto t m) bytes-read
 
@@ -99,11 +98,11 @@ module _ {l : Lent} {n : ℕ} {m : Lengths} (w : Words l) (c : Meets l n m) wher
       let q : o .outputs ≡ readInto (textOf (netOf l)) m .outputs = ap (λ x. x .outputs) read-left in
       let is : netOf (lent (countsOf (back .0)) (o .gates) (o .pins) (o .outputs)) ≡ back .0 =
       (λ i. netOf (lent (countsOf (back .0)) (g i) (p i) (q i))) ∙ decoded in
-      let t : o .text ≡ over (textOf (netOf l)) (zeros n) = ap (λ (x : writing.Outcome). x .out) written in
+      let t : o .text ≡ over (textOf (netOf l)) (zeros n) = ap (λ (x : WriteOutcome). x .out) written in
       record {
         counts = countsOf (back .0);
         answered =
-            ap₂ answerOf (ap (λ (x : writing.Outcome). x .answer) written) (ap (λ x. x .answer) read-left)
+            ap₂ answerOf (ap (λ (x : WriteOutcome). x .answer) written) (ap (λ x. x .answer) read-left)
             ∙ ap (readAnswer (length (textOf (netOf l)))) (read-counts (textOf (netOf l)) (back .0) m (c .cells) (back .1));
         text = t ∙ ap (λ (k : ℕ). over (textOf (netOf l)) (zeros k)) (sym (ap length t ∙ length-over (textOf (netOf l)) (zeros n) ∙ length-replicate {A = ℕ} n 0));
         inputs = back .2 .inputs;

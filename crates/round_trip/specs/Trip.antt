@@ -48,7 +48,7 @@ answerOf (write.Refused k) r = NotWritten k
 answerOf (write.Written n) r = readAnswer n r
 
 -- an answer, and what the slices to be filled hold then
-pub record Outcome : Type 0 where
+pub record TripOutcome : Type 0 where
   -- what was answered
   pub answer : TripAnswer
   -- the text's slice
@@ -65,15 +65,15 @@ pub record Outcome : Type 0 where
   pub workPins : List ℕ
 
 -- the same, from its parts
-abbrev pub outcome : TripAnswer → Bytes → List ℕ → List ℕ → List ℕ → List ℕ → List ℕ → Outcome
-outcome a t gs ps os wgs wps = record { answer = a; text = t; gates = gs; pins = ps; outputs = os; workGates = wgs; workPins = wps }
+abbrev pub tripOutcome : TripAnswer → Bytes → List ℕ → List ℕ → List ℕ → List ℕ → List ℕ → TripOutcome
+tripOutcome a t gs ps os wgs wps = record { answer = a; text = t; gates = gs; pins = ps; outputs = os; workGates = wgs; workPins = wps }
 
 -- writing into so many bytes, then reading exactly the bytes written into slices of these lengths
-unfoldable pub tripInto : Lent → ℕ → Lengths → Outcome
+unfoldable pub tripInto : Lent → ℕ → Lengths → TripOutcome
 tripInto l n m =
     let w = writeInto l n in
     let r = readInto (take (writtenLength (w .answer)) (w .out)) m in
-    outcome (answerOf (w .answer) (r .answer)) (w .out) (r .gates) (r .pins) (r .outputs) (r .workGates) (r .workPins)
+    tripOutcome (answerOf (w .answer) (r .answer)) (w .out) (r .gates) (r .pins) (r .outputs) (r .workGates) (r .workPins)
 
 -- ---- demand 3
 
@@ -97,7 +97,7 @@ pub record Meets (l : Lent) (n : ℕ) (m : Lengths) : Type 0 where
   pub cells : enough m ≡ true
 
 -- what then holds of the network written and of what is left
-pub record ReadsBack (net : Net) (o : Outcome) : Type 0 where
+pub record ReadsBack (net : Net) (o : TripOutcome) : Type 0 where
   -- the counts of the network read back
   pub counts : Counts
   -- it is read back, and the text's length is answered too
@@ -114,7 +114,7 @@ pub record ReadsBack (net : Net) (o : Outcome) : Type 0 where
   pub same : (rows outs : List (List Bool)) → NetRuns (netOf (lent counts (o .gates) (o .pins) (o .outputs))) rows outs ↔ NetRuns net rows outs
 
 -- the contract of `write_then_read`
-pub record WritesThenReads (l : Lent) (n : ℕ) (m : Lengths) (o : Outcome) : Type 0 where
+pub record WritesThenReads (l : Lent) (n : ℕ) (m : Lengths) (o : TripOutcome) : Type 0 where
   -- the answer and every cell and byte are determined, whatever is lent
   pub determined : o ≡ tripInto l n m
   -- demand 3

@@ -8,7 +8,7 @@ ghost use mathlib.Core.Path.{_≡_};
 ghost use lib.ListN.{length};
 ghost use Rattle.network.specs.Cells.{lent};
 ghost use Rattle.blif_read.specs.Into.{lengths};
-ghost use Rattle.round_trip.specs.Trip.{writtenLength, readAnswer, answerOf, outcome, WritesThenReads};
+ghost use Rattle.round_trip.specs.Trip.{writtenLength, readAnswer, answerOf, tripOutcome, WritesThenReads};
 
 // The writer's refusal; the reader's; or the text's length and the counts of the network read back.
 pub enum TripAnswer {
@@ -60,7 +60,7 @@ pub fn write_then_read(
     work_gates: &mut [u32],
     work_pins: &mut [u32],
 ) -> TripAnswer
-    ensures { λ r. ⌜ WritesThenReads (lent counts (now (gates .entry)) (now (pins .entry)) (now (outputs .entry))) (length (now (text .entry))) (lengths (length (now («new_gates» .entry))) (length (now («new_pins» .entry))) (length (now («new_outputs» .entry))) (length (now («work_gates» .entry))) (length (now («work_pins» .entry)))) (outcome r (now (text .exit)) (now («new_gates» .exit)) (now («new_pins» .exit)) (now («new_outputs» .exit)) (now («work_gates» .exit)) (now («work_pins» .exit))) ⌝ }
+    ensures { λ r. ⌜ WritesThenReads (lent counts (now (gates .entry)) (now (pins .entry)) (now (outputs .entry))) (length (now (text .entry))) (lengths (length (now («new_gates» .entry))) (length (now («new_pins» .entry))) (length (now («new_outputs» .entry))) (length (now («work_gates» .entry))) (length (now («work_pins» .entry)))) (tripOutcome r (now (text .exit)) (now («new_gates» .exit)) (now («new_pins» .exit)) (now («new_outputs» .exit)) (now («work_gates» .exit)) (now («work_pins» .exit))) ⌝ }
 {
     let written = write_blif(counts, gates, pins, outputs, text);
     let n = written_length(written);

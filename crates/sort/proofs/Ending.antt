@@ -25,7 +25,7 @@ use Rattle.network.proofs.Renumbering.{pins-remap}
 use Rattle.sort.specs.declared.Sorted.the-variants.{Order, Loop}
 use Rattle.sort_order.specs.Order.{sortOrder}
 use Rattle.sort_order.specs.Sorted.{graph, sorted}
-use Rattle.sort.specs.Into.{outcome, sortInto}
+use Rattle.sort.specs.Into.{sortOutcome, sortInto}
 use Rattle.sort_order.specs.Sortable.{Sortable}
 use Rattle.sort.specs.Steps.{ordered, cellGraph, Numbers, Tabled, movedGates, movedPins, pinsIn, Movable, Renewed}
 use Rattle.sort_order.proofs.Ordering.{place, sort-length}
@@ -67,7 +67,7 @@ found-none r l e q = rw e at q
 -- ---- where there is no order, nothing is written
 
 pub ends-loop : (n : Counts) (gs ps os ng np : List ℕ) → none ≡ sortOrder (cellGraph gs ps (n .gates)) → {a b : ℕ} → Sortable (lent n gs ps os) a b
-    → outcome Loop ng np os ≡ sortInto (sorted (netOf (lent n gs ps os))) ng np os
+    → sortOutcome Loop ng np os ≡ sortInto (sorted (netOf (lent n gs ps os))) ng np os
 unfolding sortInto
 ends-loop n gs ps os ng np e s =
     let net = netOf (lent n gs ps os) in
@@ -219,7 +219,7 @@ module _ (n : Counts) (gs ps os : List ℕ) {a b : ℕ} (s : Sortable (lent n gs
   -- ---- all cells
 
   pub ends-sorted : {ng np os′ ng′ np′ : List ℕ} {r : ℕ} → WordCells ps → WordCells os → Renewed gs ps l (n .outputs) os ng np os′ ng′ np′ r
-      → outcome (Order r) ng′ np′ os′ ≡ sortInto (sorted net) ng np os
+      → sortOutcome (Order r) ng′ np′ os′ ≡ sortInto (sorted net) ng np os
   unfolding sortInto
   ends-sorted {ng} {np} {os′} {ng′} {np′} {r} wp wo d =
       let t = d .table in
@@ -228,4 +228,4 @@ module _ (n : Counts) (gs ps os : List ℕ) {a b : ℕ} (s : Sortable (lent n gs
       let p2 : ng′ ≡ over (gateCells 0 (permuted l net .gates)) ng = d .moved .records ∙ ap (λ (y : List ℕ). over y ng) (records-are t (d .tabled) 0 l mem-below) in
       let p3 : np′ ≡ over (pinCells (permuted l net .gates)) np = d .moved .runs ∙ ap (λ (y : List ℕ). over y np) (runs-are t (d .tabled) wp l mem-below) in
       let p4 : os′ ≡ over (map sigCell (permuted l net .outputs)) os = d .outputs ∙ ap (λ (y : List ℕ). over y os) (outs-renamed t (d .tabled) wo) in
-      (λ i. outcome (Order (p1 i)) (p2 i) (p3 i) (p4 i)) ∙ ap (λ (y : Option Net). sortInto y ng np os) (sym q)
+      (λ i. sortOutcome (Order (p1 i)) (p2 i) (p3 i) (p4 i)) ∙ ap (λ (y : Option Net). sortInto y ng np os) (sym q)

@@ -14,7 +14,7 @@ use Rattle.network.proofs.Lent.{network-laid, network-readable, network-sizes}
 use Rattle.sort.specs.declared.Sorted.{Sorted}
 use Rattle.sort.specs.declared.Attempt.the-variants.{Refused, Done}
 use Rattle.sort_order.specs.Sorted.{sorted}
-use Rattle.sort.specs.Into.{Outcome, outcome, sortInto, canSort, sortLent}
+use Rattle.sort.specs.Into.{SortOutcome, sortOutcome, sortInto, canSort, sortLent}
 use Rattle.sort_order.specs.Sortable.{Sortable}
 
 -- a network that is lent can be sorted into cells that have room
@@ -35,31 +35,31 @@ network-sortable l newGates newPins w e g p =
     }
 
 module _ (l : Lent) (gs ps : List ℕ) where
-  unsorted : canSort l (length gs) (length ps) ≡ false → outcome Refused gs ps (l .outsLent) ≡ sortLent l gs ps
+  unsorted : canSort l (length gs) (length ps) ≡ false → sortOutcome Refused gs ps (l .outsLent) ≡ sortLent l gs ps
   unfolding sortLent
   unsorted e = sym (simp e)
 
   -- no network
-  pub no-network : isNetwork l ≡ false → outcome Refused gs ps (l .outsLent) ≡ sortLent l gs ps
+  pub no-network : isNetwork l ≡ false → sortOutcome Refused gs ps (l .outsLent) ≡ sortLent l gs ps
   unfolding canSort
   no-network e = unsorted (simp e)
 
   -- no room for the gates
-  pub no-gate-room : length gs < l .counts .gates * gateWidth → outcome Refused gs ps (l .outsLent) ≡ sortLent l gs ps
+  pub no-gate-room : length gs < l .counts .gates * gateWidth → sortOutcome Refused gs ps (l .outsLent) ≡ sortLent l gs ps
   unfolding canSort
   no-gate-room h = unsorted (simp (lt-leb (l .counts .gates * gateWidth) (length gs) h, and-false))
 
   -- no room for the pins
-  pub no-pin-room : length ps < l .counts .pins → outcome Refused gs ps (l .outsLent) ≡ sortLent l gs ps
+  pub no-pin-room : length ps < l .counts .pins → sortOutcome Refused gs ps (l .outsLent) ≡ sortLent l gs ps
   unfolding canSort
   no-pin-room h = unsorted (simp (lt-leb (l .counts .pins) (length ps) h, and-false))
 
   -- the sort's answer and cells
   pub sorts : isNetwork l ≡ true → l .counts .gates * gateWidth ≤ length gs → l .counts .pins ≤ length ps
-      → (a : Sorted) (gs′ ps′ os′ : List ℕ) → outcome a gs′ ps′ os′ ≡ sortInto (sorted (netOf l)) gs ps (l .outsLent)
-      → outcome (Done a) gs′ ps′ os′ ≡ sortLent l gs ps
+      → (a : Sorted) (gs′ ps′ os′ : List ℕ) → sortOutcome a gs′ ps′ os′ ≡ sortInto (sorted (netOf l)) gs ps (l .outsLent)
+      → sortOutcome (Done a) gs′ ps′ os′ ≡ sortLent l gs ps
   unfolding sortLent canSort
   sorts e g p a gs′ ps′ os′ q =
       let t : canSort l (length gs) (length ps) ≡ true =
       simp (e, le-leb (l .counts .gates * gateWidth) (length gs) g, le-leb (l .counts .pins) (length ps) p) in
-      ap (λ (o : Outcome Sorted). outcome (Done (o .answer)) (o .gates) (o .pins) (o .outs)) q ∙ sym (simp t)
+      ap (λ (o : SortOutcome Sorted). sortOutcome (Done (o .answer)) (o .gates) (o .pins) (o .outs)) q ∙ sym (simp t)

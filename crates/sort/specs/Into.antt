@@ -17,7 +17,7 @@ use Rattle.sort.specs.declared.Attempt.the-variants.{Refused, Done}
 use Rattle.sort_order.specs.Sorted.{sorted}
 
 -- an answer, and what the cells hold then
-pub record Outcome (A : Type 0) : Type 0 where
+pub record SortOutcome (A : Type 0) : Type 0 where
   -- what was answered
   pub answer : A
   -- the new gate cells
@@ -28,14 +28,14 @@ pub record Outcome (A : Type 0) : Type 0 where
   pub outs : List ℕ
 
 -- the same, from its parts
-abbrev pub outcome : {A : Type 0} → A → List ℕ → List ℕ → List ℕ → Outcome A
-outcome a gs ps os = record { answer = a; gates = gs; pins = ps; outs = os }
+abbrev pub sortOutcome : {A : Type 0} → A → List ℕ → List ℕ → List ℕ → SortOutcome A
+sortOutcome a gs ps os = record { answer = a; gates = gs; pins = ps; outs = os }
 
 -- a sorted network's gates, pins and outputs laid over the cells, with its pin count as the answer; at a loop nothing is written
-unfoldable pub sortInto : Option Net → List ℕ → List ℕ → List ℕ → Outcome Sorted
-sortInto none gs ps os = outcome Loop gs ps os
+unfoldable pub sortInto : Option Net → List ℕ → List ℕ → List ℕ → SortOutcome Sorted
+sortInto none gs ps os = sortOutcome Loop gs ps os
 sortInto (some net) gs ps os =
-    outcome (Order (length (pinCells (net .gates)))) (over (gateCells 0 (net .gates)) gs) (over (pinCells (net .gates)) ps)
+    sortOutcome (Order (length (pinCells (net .gates)))) (over (gateCells 0 (net .gates)) gs) (over (pinCells (net .gates)) ps)
     (over (map sigCell (net .outputs)) os)
 
 -- cells that nothing is known of can be sorted: they are a network, and the new cells have room for it
@@ -43,7 +43,7 @@ unfoldable pub canSort : Lent → ℕ → ℕ → Bool
 canSort l newGates newPins = isNetwork l && leb (l .counts .gates * gateWidth) newGates && leb (l .counts .pins) newPins
 
 -- the sort of such cells; where they cannot be sorted they are refused and nothing is written
-unfoldable pub sortLent : Lent → List ℕ → List ℕ → Outcome Attempt
+unfoldable pub sortLent : Lent → List ℕ → List ℕ → SortOutcome Attempt
 sortLent l gs ps =
     let o = sortInto (sorted (netOf l)) gs ps (l .outsLent) in
-    cond (canSort l (length gs) (length ps)) (outcome (Done (o .answer)) (o .gates) (o .pins) (o .outs)) (outcome Refused gs ps (l .outsLent))
+    cond (canSort l (length gs) (length ps)) (sortOutcome (Done (o .answer)) (o .gates) (o .pins) (o .outs)) (sortOutcome Refused gs ps (l .outsLent))

@@ -12,7 +12,7 @@ ghost use Rattle.signal.specs.Cell.{remapCell};
 ghost use Rattle.network.specs.Cells.{gateWidth, maxGates, runAt, lent, netOf, HasRun};
 ghost use Rattle.sort_order.specs.Order.{uses, sortOrder};
 ghost use Rattle.sort_order.specs.Sorted.{sorted};
-ghost use Rattle.sort.specs.Into.{outcome, sortInto, sortLent};
+ghost use Rattle.sort.specs.Into.{sortOutcome, sortInto, sortLent};
 ghost use Rattle.sort_order.specs.Sortable.{Sortable};
 ghost use Rattle.sort.specs.Steps.{gateNamed, gateIns, formComb, cellGraph, Cells, Raised, Countable, Counted};
 ghost use Rattle.sort.specs.Steps.{down, Lowered, Lowers, Walks, Flopped, Started, Ready, Visited, Begins, Recorded, ordered};
@@ -384,7 +384,7 @@ pub fn topo_sort(
     new_pins: &mut [u32],
 ) -> Sorted
     requires { ⌜ Sortable (lent counts (now gates) (now pins) (now outputs)) (length (now «new_gates»)) (length (now «new_pins»)) ⌝ }
-    ensures { λ r. ⌜ outcome r (now («new_gates» .exit)) (now («new_pins» .exit)) (now (outputs .exit)) ≡ sortInto (sorted (netOf (lent counts (now (gates .entry)) (now (pins .entry)) (now (outputs .entry))))) (now («new_gates» .entry)) (now («new_pins» .entry)) (now (outputs .entry)) ⌝ }
+    ensures { λ r. ⌜ sortOutcome r (now («new_gates» .exit)) (now («new_pins» .exit)) (now (outputs .exit)) ≡ sortInto (sorted (netOf (lent counts (now (gates .entry)) (now (pins .entry)) (now (outputs .entry))))) (now («new_gates» .entry)) (now («new_pins» .entry)) (now (outputs .entry)) ⌝ }
 {
     let n = counts.gates;
     let mut order = [0u32; 1024];
@@ -405,7 +405,7 @@ pub fn sort_network(
     new_gates: &mut [u32],
     new_pins: &mut [u32],
 ) -> Attempt
-    ensures { λ r. ⌜ outcome r (now («new_gates» .exit)) (now («new_pins» .exit)) (now (outputs .exit)) ≡ sortLent (lent counts (now (gates .entry)) (now (pins .entry)) (now (outputs .entry))) (now («new_gates» .entry)) (now («new_pins» .entry)) ⌝ }
+    ensures { λ r. ⌜ sortOutcome r (now («new_gates» .exit)) (now («new_pins» .exit)) (now (outputs .exit)) ≡ sortLent (lent counts (now (gates .entry)) (now (pins .entry)) (now (outputs .entry))) (now («new_gates» .entry)) (now («new_pins» .entry)) ⌝ }
 {
     if !check_layout(counts, gates, pins, outputs) {
         return Attempt::Refused;

@@ -11,12 +11,10 @@ use Rattle.network.specs.declared.Counts.{Counts}
 use Rattle.blif_text.specs.Places.{maxText}
 use Rattle.blif_model.specs.Read.{Result, read, refused, readText}
 use Rattle.blif_model.proofs.ReadNet.{read-net}
-use Rattle.blif_read.specs.Into as reading
-use Rattle.blif_read.specs.Into.{Lengths, enough, filled, readInto}
+use Rattle.blif_read.specs.Into.{Lengths, enough, filled, readInto, ReadOutcome, readOutcome}
 use Rattle.blif_read.specs.declared.ReadAnswer.{ReadAnswer}
 use Rattle.blif_read.specs.declared.ReadAnswer.the-variants as answer
-use Rattle.blif_write.specs.Into as writing
-use Rattle.blif_write.specs.Into.{writeInto}
+use Rattle.blif_write.specs.Into.{writeInto, WriteOutcome, writeOutcome}
 use Rattle.blif_write.specs.declared.WriteAnswer.{WriteAnswer}
 use Rattle.blif_write.specs.declared.WriteAnswer.the-variants as written
 use Rattle.blif_write.proofs.Answers.{Ways, refuses, writes, writer-ways}
@@ -25,10 +23,10 @@ use Rattle.vumneath.specs.declared.VumneathNetwork.{VumneathNetwork}
 use Rattle.vumneath.specs.declared.VumneathText.{VumneathText}
 
 -- whatever reading answers, its counts are within the sizes
-pub counts-fit : (text : Bytes) (n : Lengths) (a : ReadAnswer) (gs ps os wgs wps : List ℕ) → reading.outcome a gs ps os wgs wps ≡ readInto text n → CountsFit a
+pub counts-fit : (text : Bytes) (n : Lengths) (a : ReadAnswer) (gs ps os wgs wps : List ℕ) → readOutcome a gs ps os wgs wps ≡ readInto text n → CountsFit a
 unfolding readInto
 counts-fit text n a gs ps os wgs wps e = record {
-  fits = λ c q. go (enough n) (readText text) refl c (sym q ∙ ap (λ (o : reading.Outcome). o .answer) e);
+  fits = λ c q. go (enough n) (readText text) refl c (sym q ∙ ap (λ (o : ReadOutcome). o .answer) e);
 }
   where
     go : (b : Bool) (r : Result) → readText text ≡ r → (c : Counts) → answer.Read c ≡ filled (if b then r else refused 1) n .answer
@@ -40,33 +38,33 @@ counts-fit text n a gs ps os wgs wps e = record {
         subst (λ (k : Counts). WithinSizes (k .inputs) (k .outputs) (k .gates) (k .pins)) z (read-net text net p .sizes)
 
 -- whatever writing answers, the length is within the sizes
-pub length-fits : (l : Lent) (n : ℕ) (a : WriteAnswer) (t : Bytes) → writing.outcome a t ≡ writeInto l n → LengthFits a
-length-fits l n a t e = record { fits = λ m q. go m (writer-ways l n) (sym q ∙ ap (λ (o : writing.Outcome). o .answer) e) }
+pub length-fits : (l : Lent) (n : ℕ) (a : WriteAnswer) (t : Bytes) → writeOutcome a t ≡ writeInto l n → LengthFits a
+length-fits l n a t e = record { fits = λ m q. go m (writer-ways l n) (sym q ∙ ap (λ (o : WriteOutcome). o .answer) e) }
   where
     go : (m : ℕ) → Ways n (writeInto l n) → written.Written m ≡ writeInto l n .answer → m ≤ maxText
     go m (refuses k p) q =
-        let r : written.Written m ≡ written.Refused k = q ∙ ap (λ (o : writing.Outcome). o .answer) p in
+        let r : written.Written m ≡ written.Refused k = q ∙ ap (λ (o : WriteOutcome). o .answer) p in
         absurd (let z : _≡_ {A = ℕ} 0 1 = cc in omega (arith, z))
     go m (writes s h b p) q =
-        let r : written.Written m ≡ written.Written (length s) = q ∙ ap (λ (o : writing.Outcome). o .answer) p in
+        let r : written.Written m ≡ written.Written (length s) = q ∙ ap (λ (o : WriteOutcome). o .answer) p in
         let k : length s ≡ m = cc in
         subst (λ (i : ℕ). i ≤ maxText) k b
 
 -- an answer handed over in C's struct
-pub read-handed : (o : reading.Outcome) (a : ReadAnswer) (gs ps os wgs wps : List ℕ) (r : VumneathNetwork) → reading.outcome a gs ps os wgs wps ≡ o → r ≡ networkOf a
+pub read-handed : (o : ReadOutcome) (a : ReadAnswer) (gs ps os wgs wps : List ℕ) (r : VumneathNetwork) → readOutcome a gs ps os wgs wps ≡ o → r ≡ networkOf a
     → ReadHanded o r gs ps os wgs wps
 read-handed o a gs ps os wgs wps r e q = record {
-  answer = q ∙ ap (λ (x : reading.Outcome). networkOf (x .answer)) e;
-  gates = ap (λ (x : reading.Outcome). x .gates) e;
-  pins = ap (λ (x : reading.Outcome). x .pins) e;
-  outputs = ap (λ (x : reading.Outcome). x .outputs) e;
-  workGates = ap (λ (x : reading.Outcome). x .workGates) e;
-  workPins = ap (λ (x : reading.Outcome). x .workPins) e;
+  answer = q ∙ ap (λ (x : ReadOutcome). networkOf (x .answer)) e;
+  gates = ap (λ (x : ReadOutcome). x .gates) e;
+  pins = ap (λ (x : ReadOutcome). x .pins) e;
+  outputs = ap (λ (x : ReadOutcome). x .outputs) e;
+  workGates = ap (λ (x : ReadOutcome). x .workGates) e;
+  workPins = ap (λ (x : ReadOutcome). x .workPins) e;
 }
 
 -- the same of writing
-pub write-handed : (o : writing.Outcome) (a : WriteAnswer) (t : Bytes) (r : VumneathText) → writing.outcome a t ≡ o → r ≡ textFor a → WriteHanded o r t
+pub write-handed : (o : WriteOutcome) (a : WriteAnswer) (t : Bytes) (r : VumneathText) → writeOutcome a t ≡ o → r ≡ textFor a → WriteHanded o r t
 write-handed o a t r e q = record {
-  answer = q ∙ ap (λ (x : writing.Outcome). textFor (x .answer)) e;
-  bytes = ap (λ (x : writing.Outcome). x .out) e;
+  answer = q ∙ ap (λ (x : WriteOutcome). textFor (x .answer)) e;
+  bytes = ap (λ (x : WriteOutcome). x .out) e;
 }

@@ -7,10 +7,10 @@ use Rattle.lists.specs.Lists.{Bytes}
 use Rattle.network.specs.Cells.{WithinSizes}
 use Rattle.network.specs.declared.Counts.{Counts}
 use Rattle.blif_text.specs.Places.{maxText}
-use Rattle.blif_read.specs.Into as reading
+use Rattle.blif_read.specs.Into.{ReadOutcome}
 use Rattle.blif_read.specs.declared.ReadAnswer.{ReadAnswer}
 use Rattle.blif_read.specs.declared.ReadAnswer.the-variants as read
-use Rattle.blif_write.specs.Into as writing
+use Rattle.blif_write.specs.Into.{WriteOutcome}
 use Rattle.blif_write.specs.declared.WriteAnswer.{WriteAnswer}
 use Rattle.blif_write.specs.declared.WriteAnswer.the-variants as write
 use Rattle.vumneath.specs.declared.VumneathNetwork.{VumneathNetwork}
@@ -27,7 +27,7 @@ textFor (write.Written n) = record { refused = 0; length = n }
 textFor (write.Refused k) = record { refused = k; length = 0 }
 
 -- what was handed over is an outcome of reading: the answer in C's struct, and every cell of the five slices
-pub record ReadHanded (o : reading.Outcome) (r : VumneathNetwork) (gs ps os wgs wps : List ℕ) : Type 0 where
+pub record ReadHanded (o : ReadOutcome) (r : VumneathNetwork) (gs ps os wgs wps : List ℕ) : Type 0 where
   -- the struct is the answer
   pub answer : r ≡ networkOf (o .answer)
   -- the gates' cells
@@ -42,7 +42,7 @@ pub record ReadHanded (o : reading.Outcome) (r : VumneathNetwork) (gs ps os wgs 
   pub workPins : wps ≡ o .workPins
 
 -- what was handed over is an outcome of writing: the answer in C's struct, and every byte of the output slice
-pub record WriteHanded (o : writing.Outcome) (r : VumneathText) (out : Bytes) : Type 0 where
+pub record WriteHanded (o : WriteOutcome) (r : VumneathText) (out : Bytes) : Type 0 where
   -- the struct is the answer
   pub answer : r ≡ textFor (o .answer)
   -- the bytes

@@ -2,7 +2,7 @@
 use borrow.Author.Needs.{needs}
 use mathlib.Core.Path.{ap}
 use Rattle.lists.specs.Lists.{Bytes}
-use Rattle.blif_write.specs.Into.{outcome}
+use Rattle.blif_write.specs.Into.{writeOutcome}
 use Rattle.blif_write.specs.declared.WriteAnswer.the-variants.{Refused}
 use Rattle.blif_write.proofs.refuse.Statement.{statement}
 use Rattle.blif_write.proofs.refuse.Tie as tie
@@ -14,7 +14,7 @@ same-length : tie.Need-same-length
 same-length c = search needs
 
 returns : tie.Need-returns
-returns c = ap (λ (o : Bytes). outcome (Refused (c .before .before .before .before .before .args .number)) o) (c .before .before .fill-zero-bytes .ensures)
+returns c = ap (λ (o : Bytes). writeOutcome (Refused (c .before .before .before .before .before .args .number)) o) (c .before .before .fill-zero-bytes .ensures)
 
 pub refuse-spec : {M : Type 1} → statement M
 refuse-spec = tie.close (tie.spec fill-zero-bytes-requires same-length returns)
