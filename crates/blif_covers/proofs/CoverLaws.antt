@@ -34,12 +34,12 @@ block-fault text tokens n first (suc k) lines h =
 
 -- a latch has no line
 pub latch-none : (names lines : ℕ) → 0 < linesIn names lines → 0 < names
-latch-none zero lines h = absurd (let z : ⊥ = omega arith in z)
+latch-none zero lines h = absurd (omega arith)
 latch-none (suc k) lines h = omega arith
 
 -- a cover has those that its record counts
 pub cover-lines : (names lines : ℕ) → 0 < names → linesIn names lines ≡ lines
-cover-lines zero lines h = absurd (let z : ⊥ = omega arith in z)
+cover-lines zero lines h = absurd (omega arith)
 cover-lines (suc k) lines h = refl
 
 -- where no line is left, the outputs decide

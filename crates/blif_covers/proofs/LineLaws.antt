@@ -1,6 +1,6 @@
 -- A cube line as the row of its tokens: its columns, its output, and what it adds to a cover's refusal. Assumes nothing.
 use mathlib.Core.Path.{_≡_, refl, sym, ap, ap₂, _∙_}
-use mathlib.Core.Bool.{Bool, true, false, _&&_, _||_, not, true≢false, false≢true}
+use mathlib.Core.Bool.{Bool, true, false, _&&_, _||_, not, true≢false, false≢true, or-true, and-assoc, and-comm}
 use mathlib.Core.List.{List, [], _∷_}
 use Prim.Native.Nat.{ℕ, zero, suc, _-_, _≤_, _<_}
 use native.Mathlib.Omega.{arith}
@@ -66,25 +66,21 @@ pub record LineIn (ts : List Bytes) (m : ℕ) (out : Bytes) : Type 0 where
 
 -- one or two
 one-or-two : (m : ℕ) → 0 < m → m < 3 → elem m (1 ∷ 2 ∷ []) ≡ true
-one-or-two zero h l = absurd (let z : ⊥ = omega arith in z)
+one-or-two zero h l = absurd (omega arith)
 one-or-two (suc zero) h l = refl
 one-or-two (suc (suc zero)) h l = refl
-one-or-two (suc (suc (suc m))) h l = absurd (let z : ⊥ = omega arith in z)
+one-or-two (suc (suc (suc m))) h l = absurd (omega arith)
 
 swapped : (a b c : Bool) → (a && b && c) ≡ (a && c && b)
-swapped true true true = refl
-swapped true true false = refl
-swapped true false true = refl
-swapped true false false = refl
-swapped false b c = refl
+swapped a b c = and-assoc a b c ∙ ap (λ (x : Bool). a && x) (and-comm b c) ∙ sym (and-assoc a c b)
 
 module _ {ts : List Bytes} {m : ℕ} {out : Bytes} (w : ℕ) (l : LineIn ts m out) where
   -- a line is good where it fits and its columns are
-  pub good-is : goodLine w ts ≡ (fits m (length (columns ts)) w (outputOf out) && all isColumn (columns ts))
+  good-is : goodLine w ts ≡ (fits m (length (columns ts)) w (outputOf out) && all isColumn (columns ts))
   unfolding goodLine
   good-is =
       by-order 3 m
-      (λ h. simp (ne-eqb (length ts) 1 (λ e. let z : ⊥ = omega (arith, l .counted) in z), ne-eqb (length ts) 2 (λ e. let z : ⊥ = omega (arith, l .counted) in z), le-ltb m 3 h))
+      (λ h. simp (ne-eqb (length ts) 1 (λ e. omega (arith, l .counted)), ne-eqb (length ts) 2 (λ e. omega (arith, l .counted)), le-ltb m 3 h))
       (λ h.
       ap₂ (λ (a b : Bool). a && eqb w (length (columns ts)) && all isColumn (columns ts) && b)
       (ap (λ (k : ℕ). elem k (1 ∷ 2 ∷ [])) (l .counted) ∙ one-or-two m (l .some) h)
@@ -93,7 +89,7 @@ module _ {ts : List Bytes} {m : ℕ} {out : Bytes} (w : ℕ) (l : LineIn ts m ou
       ∙ ap (λ (b : Bool). b && eqb w (length (columns ts)) && right (outputOf out) && all isColumn (columns ts)) (sym (lt-ltb m 3 h)))
 
   -- the output of a line that fits
-  pub one-of : fits m (length (columns ts)) w (outputOf out) ≡ true → isOne ts ≡ one (outputOf out)
+  one-of : fits m (length (columns ts)) w (outputOf out) ≡ true → isOne ts ≡ one (outputOf out)
   unfolding isOne
   one-of f =
       let a = ltb m 3 in
@@ -120,10 +116,6 @@ pub when-and : (a b : Bool) (x : ℕ) → (when (not (a && b)) 12 then x) ≡ (w
 unfolding _then_ when
 when-and true b x = refl
 when-and false b x = refl
-
-or-true : (b : Bool) → (b || true) ≡ true
-or-true true = refl
-or-true false = refl
 
 -- the outputs differ with one more as they differ with it among the others
 more-differ : (o : Output) (met : Outputs) (some every : Bool) → right o ≡ true

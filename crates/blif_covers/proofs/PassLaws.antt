@@ -7,10 +7,12 @@ use Prim.Native.Nat.{ℕ, suc, _+_, _-_, _≤_, _<_}
 use native.Mathlib.Nat.{sub-zero, sub-eq-zero-of-le}
 use native.Mathlib.Omega.{arith}
 use lib.ListN.{length, getD, take, drop, drop-of-length-le}
-use lib.Seq.{slice, drop-cons}
+use lib.Seq.{slice}
 use borrow.Author.Tests.{not-true, not-false}
 use borrow.Author.Needs.{needs}
 use Rattle.lists.specs.Lists.{Bytes, all, range}
+use Rattle.lists.proofs.Places.{drop-next}
+use Rattle.lists.proofs.Range.{range-cons, range-end}
 use Rattle.lists.proofs.Tests.{by-order}
 use Rattle.blif_text.specs.Places.{maxTokens, InText, tokenOf, tokensOf}
 use Rattle.blif_text.specs.Decls.{columns}
@@ -24,9 +26,6 @@ use Rattle.blif_covers.specs.declared.Output.{Output}
 use Rattle.blif_covers.specs.declared.Outputs.{Outputs}
 use Rattle.blif_covers.proofs.CoverLaws.{noOutput, block-fault, latch-none, cover-lines, none-left}
 use Rattle.blif_covers.proofs.LineLaws.{linesFault, LineIn, line-in, misfit, fitting, then-assoc, when-and}
-
-minus-suc : (a b : ℕ) → a < b → b - a ≡ suc (b - (a + 1))
-minus-suc a b h = omega arith
 
 -- the refusal of the whole pass
 abbrev pub whole : Bytes → List ℕ → ℕ → List ℕ → ℕ → ℕ
@@ -71,10 +70,7 @@ pub record Columns (text tokens : List ℕ) (n : ℕ) (blocks : List ℕ) (g j n
 rest-is : (text tokens : List ℕ) (n : ℕ) (blocks : List ℕ) (g j : ℕ) → j < g
     → rest text tokens n blocks g j ≡ (coverFault (defAt text tokens n blocks j) then rest text tokens n blocks g (j + 1))
 unfolding coverFaults
-rest-is text tokens n blocks g j h =
-    let q : suc j ≡ j + 1 = omega arith in
-    ap (λ (m : ℕ). coverFaults (map (defAt text tokens n blocks) (range j m))) (minus-suc j g h)
-    ∙ ap (λ (x : ℕ). coverFault (defAt text tokens n blocks j) then coverFaults (map (defAt text tokens n blocks) (range x (g - (j + 1))))) q
+rest-is text tokens n blocks g j h = ap (λ (l : List ℕ). coverFaults (map (defAt text tokens n blocks) l)) (range-cons g j h)
 
 module _ {text tokens : List ℕ} {n : ℕ} {blocks : List ℕ} {g : ℕ} where
   pub start : Blocks text tokens n blocks g → Covers text tokens n blocks g 0
@@ -84,7 +80,7 @@ module _ {text tokens : List ℕ} {n : ℕ} {blocks : List ℕ} {g : ℕ} where
     -- the pass ends
     pub end-pass : g ≤ j → Covers text tokens n blocks g j → 0 ≡ whole text tokens n blocks g
     unfolding coverFaults
-    end-pass h v = sym (v .is ∙ ap (λ (m : ℕ). coverFaults (map (defAt text tokens n blocks) (range j m))) (sub-eq-zero-of-le h))
+    end-pass h v = sym (v .is ∙ ap (λ (l : List ℕ). coverFaults (map (defAt text tokens n blocks) l)) (range-end g j h))
 
     -- a block's names end among the tokens
     pub names-end : j < g → Covers text tokens n blocks g j → {first names lines : ℕ}
@@ -96,12 +92,7 @@ module _ {text tokens : List ℕ} {n : ℕ} {blocks : List ℕ} {g : ℕ} where
         → (first ≡ firstName blocks j) × (names ≡ nameCount blocks j) × (lines ≡ lineCount blocks j) → l ≡ linesIn names lines
         → Lines text tokens n blocks g j names l (first + names) noOutput 0
     enter-cover h v {first} {names} {lines} {l} e s =
-        let b : BlockIn text tokens n first names lines =
-        subst (λ (x : ℕ). BlockIn text tokens n x names lines)
-        (sym (e .0))
-        (subst (λ (x : ℕ). BlockIn text tokens n (firstName blocks j) x lines)
-        (sym (e .1))
-        (subst (λ (x : ℕ). BlockIn text tokens n (firstName blocks j) (nameCount blocks j) x) (sym (e .2)) (v .places .each j h))) in
+        let b : BlockIn text tokens n first names lines = rw (e .0, e .1, e .2) (v .places .each j h) in
         let q : linesIn names lines ≡ l - 0 = omega (arith, s) in
         let some : 0 < l → 0 < names = λ m. latch-none names lines (subst (λ (x : ℕ). 0 < x) s m) in
         record {
@@ -124,7 +115,7 @@ module _ {text tokens : List ℕ} {n : ℕ} {blocks : List ℕ} {g : ℕ} where
       -- a line that is left stands at a token in use
       pub line-there : k < lines → at < n
       line-there h =
-          by-order n at (λ l. absurd (let z : ⊥ = omega (arith, v .enough h, ap length (rows-end (v .rows h) l)) in z)) (λ l. l)
+          by-order n at (λ l. absurd (omega (arith, v .enough h, ap length (rows-end (v .rows h) l)))) (λ l. l)
 
       -- the outputs of the lines that are through
       through : lines ≤ k → whole text tokens n blocks g ≡ (when (differ met) 13 then rest text tokens n blocks g (j + 1))
@@ -169,7 +160,7 @@ module _ {text tokens : List ℕ} {n : ℕ} {blocks : List ℕ} {g : ℕ} where
 
         lines-are : take (lines - k) (rowsFrom text tokens n at) ≡ row ∷ take (lines - (k + 1)) (rowsFrom text tokens n end)
         lines-are =
-            ap (λ (m : ℕ). take m (rowsFrom text tokens n at)) (minus-suc k lines h)
+            ap (λ (m : ℕ). take m (rowsFrom text tokens n at)) (let e : lines - k ≡ suc (lines - (k + 1)) = omega arith in e)
             ∙ ap (take (suc (lines - (k + 1)))) (rows-are (v .rows h) (line-there h) w)
 
         line : LineIn row (end - at) (tokenOf text (getD tokens (end - 1) 0))
@@ -225,9 +216,8 @@ module _ {text tokens : List ℕ} {n : ℕ} {blocks : List ℕ} {g : ℕ} where
       columns-are : i < length cols
           → whole text tokens n blocks g ≡ (when (not (isColumn (getD cols i 0))) 12 then (when (not (all isColumn (drop (i + 1) cols))) 12 then behind))
       columns-are h =
-          let q : suc i ≡ i + 1 = omega arith in
           v .is
-          ∙ ap (λ (x : Bytes). when (not (all isColumn x)) 12 then behind) (drop-cons cols i 0 h ∙ ap (λ (m : ℕ). getD cols i 0 ∷ drop m cols) q)
+          ∙ ap (λ (x : Bytes). when (not (all isColumn x)) 12 then behind) (drop-next cols i 0 h)
           ∙ when-and (isColumn (getD cols i 0)) (all isColumn (drop (i + 1) cols)) behind
 
       -- a wrong column ends the pass

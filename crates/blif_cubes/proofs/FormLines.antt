@@ -4,29 +4,29 @@ use mathlib.Core.Bool.{Bool, true, false, not, _&&_, cond}
 use mathlib.Core.List.{List, [], _∷_, _++_, map, flatMap, append-assoc, append-nil}
 use Prim.Native.Nat.{ℕ, zero, suc, _+_, _-_, _*_, _^_, _/_, _%_, _≤_, _<_}
 use native.Mathlib.Nat.{pow-succ'}
-use native.Mathlib.Numerals.{add-one}
 use native.Mathlib.Omega.{arith}
 use lib.Dec.{eqb, ltb}
 use lib.Count.{ones, ones-step}
-use lib.ListN.{length, getD, drop, replicate, List·getD-map}
-use lib.Seq.{drop-cons, drop-length}
+use lib.ListN.{length, getD, drop, replicate, drop-of-length-le, List·getD-map}
+use lib.Seq.{drop-cons}
 use borrow.Author.Needs.{needs}
 use borrow.Author.Tests.{ltb-false}
 use Rattle.lists.specs.Lists.{Bytes, all, range}
 use Rattle.lists.proofs.Tests.{by-order}
-use Rattle.gates.specs.Gate.{odd, AndN, OrN, NandN, NorN, XorN, XnorN}
+use Rattle.gates.specs.Gate.{odd, XorN, XnorN}
 use Rattle.gates.specs.Forms.{formNumber, binaryForm, ternaryForm, naryForm}
 use Rattle.gates.specs.declared.BinaryType.{BinaryType}
 use Rattle.gates.specs.declared.BinaryType.the-variants as B
 use Rattle.gates.specs.declared.TernaryType.{TernaryType}
 use Rattle.gates.specs.declared.TernaryType.the-variants as T
 use Rattle.gates.specs.declared.NaryType.{NaryType}
-use Rattle.blif_model.specs.Blif.{Col, C0, C1, Line}
+use Rattle.blif_model.specs.Blif.{Col, Line}
 use Rattle.blif_model.specs.Write.{coverRow, doubled, masks, colOf, minterms, even, linesOf, exclusive, maxExclusive}
 use Rattle.blif_model.specs.Render.{colByte, outByte, spaced, line}
 use Rattle.blif_names.specs.Text.{Appended}
 use Rattle.blif_cubes.specs.Lines.{cubeText, linesText, outputText, maskBits, maskColumns, cubeOf, sameCube, mintermAt, mintermsFrom, maskLines, Narrow}
-use Rattle.blif_names.proofs.Laws.{append-past, Going, going-start, going-kept, going-append, going-done}
+use Rattle.blif_names.proofs.Laws.{append-past, as-text}
+use Rattle.blif_names.proofs.Parts.{going-kept, Parts, Before, before-start, before-next, before-done}
 
 -- a cube line is its columns and its output
 pub cube-text : (l : Line) → cubeText l ≡ map colByte (l .cols) ++ outputText (l .out)
@@ -54,17 +54,29 @@ one-at [] i e = refl
 one-at (l ∷ ls) zero e = Rattle.lists.proofs.Tests.and-left (l .out) (all (λ (k : Line). k .out) ls) e
 one-at (l ∷ ls) (suc i) e = one-at ls i (Rattle.lists.proofs.Tests.and-right (l .out) (all (λ (k : Line). k .out) ls) e)
 
+-- a line with output 1 is a row, and a part of all lines
+row-parts : (ls : List Line) → all (λ (l : Line). l .out) ls ≡ true
+    → Parts (length ls) (λ (i k : ℕ). linesText (drop i ls)) (λ (i : ℕ). getD (map (λ (l : Line). map colByte (l .cols)) ls) i [] ++ outputText true)
+row-parts ls t =
+    record {
+      more = λ i k h.
+          let l : Line = getD ls i blank in
+          let f : getD (map (λ (l : Line). map colByte (l .cols)) ls) i [] ≡ map colByte (l .cols) = List·getD-map (λ (k : Line). map colByte (k .cols)) ls i blank in
+          let g : cubeText l ≡ map colByte (l .cols) ++ outputText true = cube-text l ∙ ap (λ (b : Bool). map colByte (l .cols) ++ outputText b) (one-at ls i t) in
+          ap linesText (drop-cons ls i blank h) ∙ ap (λ (x : Bytes). x ++ linesText (drop (suc i) ls)) (g ∙ ap (λ (x : Bytes). x ++ outputText true) (sym f));
+      none = λ i h. ap linesText (drop-of-length-le ls h);
+    }
+
 -- the first i of lines with output 1 are written
 pub record Rows (ls : List Line) (o : Bytes) (a : ℕ) (p : Bytes) (at i : ℕ) : Type 0 where
   pub ones : all (λ (l : Line). l .out) ls ≡ true
-  pub within : i ≤ length ls
-  pub going : Going (linesText ls) (linesText (drop i ls)) o a p at
+  pub before : Before (λ (j k : ℕ). linesText (drop j ls)) (length ls) o a p at i
 
 pub rows-start : {ls : List Line} {o : Bytes} {a : ℕ} → all (λ (l : Line). l .out) ls ≡ true → a ≤ length o → Rows ls o a o a 0
-rows-start t h = record { ones = t; within = omega arith; going = going-start refl h }
+rows-start t h = record { ones = t; before = before-start h }
 
 pub rows-kept : {ls : List Line} {o p : Bytes} {a at i : ℕ} → Rows ls o a p at i → length p ≡ length o
-rows-kept c = going-kept (c .going)
+rows-kept c = going-kept (c .before .going)
 
 -- the code knows the lines by their number
 module _ {i count lines : ℕ} (n : count ≡ lines) (h : i < count) where
@@ -77,19 +89,11 @@ module _ {i count lines : ℕ} (n : count ≡ lines) (h : i < count) where
 module _ {ls : List Line} {o p : Bytes} {a at i count : ℕ} (c : Rows ls o a p at i) (n : count ≡ length ls) where
   pub rows-next : {row q : Bytes} {r : ℕ} → i < count → row ≡ getD (map (λ (l : Line). map colByte (l .cols)) ls) i []
       → Appended (row ++ outputText true) p at q r → Rows ls o a q r (i + 1)
-  rows-next {row} h e v =
-      let l : Line = getD ls i blank in
-      let f : row ≡ map colByte (l .cols) = e ∙ List·getD-map (λ (k : Line). map colByte (k .cols)) ls i blank in
-      let g : cubeText l ≡ row ++ outputText true = cube-text l ∙ ap₂ (λ (x : Bytes) (b : Bool). x ++ outputText b) (sym f) (one-at ls i (c .ones)) in
-      let s : linesText (drop i ls) ≡ (row ++ outputText true) ++ linesText (drop (i + 1) ls) =
-      ap linesText (drop-cons ls i blank (row-there n h) ∙ ap (λ (k : ℕ). l ∷ drop k ls) (sym (add-one i)))
-      ∙ ap (λ (x : Bytes). x ++ linesText (drop (i + 1) ls)) g in
-      record { ones = c .ones; within = omega arith; going = going-append (c .going) s v }
+  rows-next h e v =
+      record { ones = c .ones; before = before-next (row-parts ls (c .ones)) (c .before) (row-there n h) (as-text (ap (λ (x : Bytes). x ++ outputText true) e) v) }
 
   pub rows-done : count ≤ i → Appended (linesText ls) o a p at
-  rows-done h =
-      let e : i ≡ length ls = omega (arith, c .within) in
-      going-done (c .going) (ap linesText (ap (λ (k : ℕ). drop k ls) e ∙ drop-length ls))
+  rows-done h = before-done (row-parts ls (c .ones)) (c .before) (omega arith)
 
 pub ruleset rows = (append-past, binary-ones, ternary-ones, rows-start, rows-kept, row-there, rows-less, rows-next, rows-done, needs)
 
@@ -99,23 +103,11 @@ map-same : (n : ℕ) (x : Col) → map colByte (replicate n x) ≡ replicate n (
 map-same zero x = refl
 map-same (suc n) x = ap (λ (l : Bytes). colByte x ∷ l) (map-same n x)
 
-same-line : (n : ℕ) (x : Col) (v : Bool) → sameCube n (colByte x) v ≡ linesText (coverRow v (replicate n x) ∷ [])
+-- so are written AndN, OrN, NandN and NorN
+pub same-line : (n : ℕ) (x : Col) (v : Bool) → sameCube n (colByte x) v ≡ linesText (coverRow v (replicate n x) ∷ [])
 unfolding sameCube
 same-line n x v =
     ap (λ (l : Bytes). l ++ outputText v) (sym (map-same n x)) ∙ sym (cube-text (coverRow v (replicate n x))) ∙ sym (append-nil (cubeText (coverRow v (replicate n x))))
-
-module _ (n : ℕ) where
-  pub and-line : sameCube n 49 true ≡ linesText (linesOf AndN n)
-  and-line = same-line n C1 true
-
-  pub or-line : sameCube n 48 false ≡ linesText (linesOf OrN n)
-  or-line = same-line n C0 false
-
-  pub nand-line : sameCube n 49 false ≡ linesText (linesOf NandN n)
-  nand-line = same-line n C1 false
-
-  pub nor-line : sameCube n 48 true ≡ linesText (linesOf NorN n)
-  nor-line = same-line n C0 true
 
 -- ---- the masks of one parity
 

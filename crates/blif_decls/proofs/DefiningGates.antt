@@ -1,7 +1,7 @@
 -- The walk that enters names and places blocks, at latches and covers. Assumes nothing.
 use mathlib.Core.Path.{_≡_, refl, sym, ap, _∙_, subst}
 use mathlib.Core.List.{List, [], _∷_, _++_}
-use Prim.Native.Nat.{ℕ, zero, suc, _+_, _-_, _*_, _≤_, _<_}
+use Prim.Native.Nat.{ℕ, _+_, _-_, _*_, _≤_, _<_}
 use native.Mathlib.Omega.{arith}
 use lib.ListN.{length, getD, take, length-map, List·getD-map}
 use lib.Seq.{slice, length-slice, getD-drop, getD-take}
@@ -14,6 +14,7 @@ use Rattle.blif_text.specs.Walk.{rowsFrom, stmtsFrom, RowsAt, StmtsAt}
 use Rattle.blif_text.specs.Blocks.{defFrom, defsAt, BlockIn}
 use Rattle.blif_text.specs.declared.Run.{Run}
 use Rattle.blif_text.specs.declared.Statement.the-variants as place
+use Rattle.blif_text.proofs.BlockLaws.{cover-from}
 use Rattle.name_index.specs.Index.{entriesOf}
 use Rattle.blif_model.specs.Read.{_then_, when, gateCount, naming}
 use Rattle.blif_sizes.specs.Rows.{names, RowIs}
@@ -47,12 +48,6 @@ cover-last text tokens at r h k =
     (getD-drop (at + 1) (take r tokens) (length (names text tokens at r) - 1) 0
     ∙ getD-take r tokens (at + 1 + (length (names text tokens at r) - 1)) 0 (omega arith)
     ∙ ap (λ (x : ℕ). getD tokens x 0) j)
-
--- the definition that a cover's record places
-cover-from : (text tokens : List ℕ) (n first k lines : ℕ) → (k ≡ 0 → ⊥)
-    → defFrom text tokens n first k lines ≡ cover (tokensOf text (slice first (first + k) tokens)) (take lines (rowsFrom text tokens n (first + k)))
-cover-from text tokens n first zero lines f = absurd (f refl)
-cover-from text tokens n first (suc k) lines f = refl
 
 -- the name that a latch defines
 latch-defines : (d q : Bytes) → q ≡ defines (latch d q)

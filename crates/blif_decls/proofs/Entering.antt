@@ -5,10 +5,12 @@ use mathlib.Core.List.{List, [], _∷_, _++_, map, map-append, append-assoc, app
 use Prim.Native.Nat.{ℕ, suc, _+_, _-_, _*_, _≤_, _<_}
 use native.Mathlib.Omega.{arith}
 use native.Mathlib.Numerals.{add-one}
-use lib.ListN.{length, getD, take, set, length-set, length-map}
-use lib.Seq.{slice, slice-cons, slice-empty, length-slice, take-suc-set}
+use lib.ListN.{length, getD, take, set, length-map}
+use lib.Seq.{slice, slice-cons, slice-empty, length-slice, take-add}
 use borrow.Author.Tests.{not-true, not-false}
 use Rattle.lists.specs.Lists.{Bytes, known, overAt}
+use Rattle.lists.proofs.OverAt.{run-before, run-overAt}
+use Rattle.lists.proofs.Laying.{Laying, laying-start, laying-next, laying-done}
 use Rattle.signal.specs.Signal.{Input, plain}
 use Rattle.signal.specs.Cell.{sigCell, gateCell, inputCell}
 use Rattle.signal.proofs.Cells.{gate-cell, input-cell}
@@ -16,7 +18,7 @@ use Rattle.blif_text.specs.Places.{tokenOf, tokensOf}
 use Rattle.blif_text.specs.Walk.{Inside}
 use Rattle.blif_text.specs.Blocks.{blockWidth}
 use Rattle.blif_text.specs.declared.Block.{Block}
-use Rattle.blif_text.proofs.RowWalk.{slice-split}
+use Rattle.blif_text.proofs.LineLaws.{slice-snoc}
 use Rattle.name_index.specs.Search.{Entry, entry}
 use Rattle.name_index.specs.Index.{entriesOf, Index, Entered}
 use Rattle.blif_model.specs.Read.{when, twice}
@@ -24,13 +26,6 @@ use Rattle.blif_decls.specs.Entries.{inputEntries}
 use Rattle.blif_decls.specs.Naming.{namesIn, InputsFit, InputsEntered, GateFits, GateDefined}
 
 -- ---- lists
-
--- cells up to one more
-pub slice-snoc : (l : List ℕ) (a j : ℕ) → a ≤ j → j < length l → slice a (j + 1) l ≡ slice a j l ++ (getD l j 0 ∷ [])
-slice-snoc l a j h k =
-    let e : slice j (j + 1) l ≡ getD l j 0 ∷ [] =
-    slice-cons j (j + 1) l 0 (omega arith) (omega arith) ∙ ap (λ (x : List ℕ). getD l j 0 ∷ x) (ap (λ (m : ℕ). slice m (j + 1) l) (sym (add-one j)) ∙ slice-empty (j + 1) l) in
-    slice-split l a j (j + 1) h (omega arith) ∙ ap (λ (x : List ℕ). slice a j l ++ x) e
 
 -- the first of some cells
 slice-first : (l : List ℕ) (j n : ℕ) → j < n → n ≤ length l → slice j n l ≡ getD l j 0 ∷ slice (j + 1) n l
@@ -58,20 +53,14 @@ twice-known : (earlier : List Bytes) (x : Bytes) (xs : List Bytes) → known x e
 unfolding twice
 twice-known earlier x xs e = ap (λ (b : Bool). b || twice (earlier ++ (x ∷ [])) xs) e
 
-when-true : (k : ℕ) → when true k ≡ k
-unfolding when
-when-true k = refl
-
-when-false : (k : ℕ) → when false k ≡ 0
-unfolding when
-when-false k = refl
-
--- the refusal of 7 and 8
+-- a refusal by a test
 pub when-yes : {b : Bool} (k : ℕ) → b ≡ true → k ≡ when b k
-when-yes k e = sym (ap (λ (c : Bool). when c k) e ∙ when-true k)
+unfolding when
+when-yes k e = sym (ap (λ (c : Bool). when c k) e)
 
 pub when-no : {b : Bool} (k : ℕ) → b ≡ false → 0 ≡ when b k
-when-no k e = sym (ap (λ (c : Bool). when c k) e ∙ when-false k)
+unfolding when
+when-no k e = sym (ap (λ (c : Bool). when c k) e)
 
 -- ---- inputs
 
@@ -151,7 +140,7 @@ module _ {text tokens : List ℕ} {first end : ℕ} {index₀ : List ℕ} {input
             ∙ ap₂ (λ (y : List Entry) (t : ℕ). y ++ (entry x t ∷ [])) (c .added) u
             ∙ append-assoc (entriesOf text index₀ (inputs + gates)) (inputEntries inputs (tokensOf text (slice first j tokens))) _
             ∙ ap (λ (y : List Entry). entriesOf text index₀ (inputs + gates) ++ y) (sym (inputs-snoc (tokensOf text (slice first j tokens)) inputs x)
-            ∙ ap (inputEntries inputs) (sym (ap (tokensOf text) (slice-snoc tokens first j (c .low) (omega (arith, c .places .room))) ∙ map-append (tokenOf text) (slice first j tokens) _)));
+            ∙ ap (inputEntries inputs) (sym (ap (tokensOf text) (ap (λ (m : ℕ). slice first m tokens) (add-one j) ∙ slice-snoc tokens first j (c .low) (omega (arith, c .places .room))) ∙ map-append (tokenOf text) (slice first j tokens) _)));
         left =
             c .left
             ∙ ap (twice (namesIn text index (i + gates))) names-next
@@ -185,22 +174,12 @@ pub record Copying (tokens : List ℕ) (first end : ℕ) (out₀ : List ℕ) (ou
   pub room : end ≤ length tokens
   pub fits : outputs + (end - first) ≤ length out₀
   pub counted : o ≡ outputs + (j - first)
-  pub kept : length out ≡ length out₀
-  pub are : take o out ≡ take outputs out₀ ++ slice first j tokens
+  pub laying : Laying (slice first end tokens) out₀ outputs (slice j end tokens) out o
 
 -- before the first
 pub copying-start : {tokens : List ℕ} {first end : ℕ} {out : List ℕ} {outputs : ℕ} → first ≤ end → end ≤ length tokens → outputs + (end - first) ≤ length out
     → Copying tokens first end out outputs out first outputs
-copying-start {tokens} {first} {end} {out} {outputs} a b c =
-    record {
-      low = omega arith;
-      high = a;
-      room = b;
-      fits = c;
-      counted = omega arith;
-      kept = refl;
-      are = sym (ap (λ (x : List ℕ). take outputs out ++ x) (slice-empty first tokens) ∙ append-nil (take outputs out));
-    }
+copying-start a b c = record { low = omega arith; high = a; room = b; fits = c; counted = omega arith; laying = laying-start refl refl }
 
 module _ {tokens : List ℕ} {first end : ℕ} {out₀ : List ℕ} {outputs : ℕ} {out : List ℕ} {j o : ℕ} (c : Copying tokens first end out₀ outputs out j o) where
   -- one more
@@ -212,21 +191,19 @@ module _ {tokens : List ℕ} {first end : ℕ} {out₀ : List ℕ} {outputs : �
         room = c .room;
         fits = c .fits;
         counted = omega (arith, c .counted, c .low);
-        kept = length-set out o (getD tokens j 0) ∙ c .kept;
-        are =
-            ap (λ (m : ℕ). take m (set out o (getD tokens j 0))) (add-one o)
-            ∙ take-suc-set out o (getD tokens j 0) (omega (arith, c .counted, c .fits, c .kept))
-            ∙ ap (λ (x : List ℕ). x ++ (getD tokens j 0 ∷ [])) (c .are)
-            ∙ append-assoc (take outputs out₀) (slice first j tokens) (getD tokens j 0 ∷ [])
-            ∙ ap (λ (x : List ℕ). take outputs out₀ ++ x) (sym (slice-snoc tokens first j (c .low) (omega (arith, c .room))));
+        laying = laying-next (c .laying) (slice-first tokens j end h (c .room)) refl;
       }
 
   -- all are copied
   pub copying-done : end ≤ j → take (outputs + (end - first)) out ≡ take outputs out₀ ++ slice first end tokens
   copying-done h =
+      let cs = slice first end tokens in
       let p : j ≡ end = omega (arith, c .high) in
-      let q : outputs + (end - first) ≡ o = omega (arith, c .counted) in
-      ap (λ (m : ℕ). take m out) q ∙ c .are ∙ ap (λ (m : ℕ). take outputs out₀ ++ slice first m tokens) p
+      let e : out ≡ overAt outputs cs out₀ = laying-done (c .laying) (ap (λ (m : ℕ). slice m end tokens) p ∙ slice-empty end tokens) in
+      let n : end - first ≡ length cs = sym (length-slice first end tokens (c .room)) in
+      ap₂ (λ (k : ℕ) (l : List ℕ). take (outputs + k) l) n e
+      ∙ take-add outputs (length cs) (overAt outputs cs out₀)
+      ∙ ap₂ (λ (x y : List ℕ). x ++ y) (run-before outputs cs out₀ 0 outputs (omega arith)) (run-overAt outputs cs out₀ (omega (arith, c .fits)))
 
 -- ---- a gate
 

@@ -1,6 +1,6 @@
 -- The entries of declarations are the signals that the definition's search finds. Assumes nothing.
 use mathlib.Core.Path.{_≡_, refl, sym, ap, ap₂, _∙_, subst}
-use mathlib.Core.Bool.{Bool, true, false, not, _||_, cond, or-assoc}
+use mathlib.Core.Bool.{Bool, true, false, not, _||_, cond, or-assoc, or-comm}
 use mathlib.Core.List.{List, [], _∷_, _++_, map, map-append, flatMap, append-assoc, List·Memᴰ, List·Memᴰ·append-cases, Memᴰ·of-map}
 use mathlib.Core.Option.{some}
 use mathlib.Core.Logic.{⊎-elim}
@@ -54,10 +54,7 @@ known-append x (y ∷ l) r = ap (λ (b : Bool). same x y || b) (known-append x l
 
 -- a or b or c in another order
 or-swap : (a b c : Bool) → (a || (b || c)) ≡ (b || (a || c))
-or-swap true true c = refl
-or-swap true false c = refl
-or-swap false true c = refl
-or-swap false false c = refl
+or-swap a b c = sym (or-assoc a b c) ∙ ap (λ (x : Bool). x || c) (or-comm a b) ∙ or-assoc b a c
 
 entries-known : (x : Bytes) (ds : List Decl) (i g : ℕ)
     → known x (map (λ (e : Entry). e .name) (entries i g ds)) ≡ (known x (ins ds) || known x (map defines (defs ds)))

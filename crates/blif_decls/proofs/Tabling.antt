@@ -4,11 +4,11 @@ use mathlib.Core.List.{List, [], _∷_, _++_, map-append, flatMap, append-assoc}
 use Prim.Native.Nat.{ℕ, _+_, _-_, _*_, _≤_, _<_}
 use native.Mathlib.Omega.{arith}
 use native.Mathlib.Numerals.{add-one}
-use lib.ListN.{length, getD, take, set, length-set, length-append, length-map, List·getD-append}
-use lib.Seq.{slice, getD-take, getD-drop, getD-append-add, getD-set-same, getD-set-other, length-take-le}
+use lib.ListN.{length, getD, take, length-append, length-map, List·getD-append}
+use lib.Seq.{slice, getD-take, getD-drop, getD-append-add, length-take-le}
 use Rattle.lists.specs.Lists.{Bytes, overAt}
 use Rattle.lists.proofs.Tests.{by-order}
-use Rattle.lists.proofs.OverAt.{over-three, length-overAt}
+use Rattle.lists.proofs.OverAt.{length-overAt, overAt-before, overAt-inside}
 use Rattle.signal.specs.Signal.{Gated, plain}
 use Rattle.signal.specs.Cell.{sigCell}
 use Rattle.blif_text.specs.Decls.{Def, Decl, model, end, inputs, outputs, gate, insOf, outsOf, defsOf, ins, outs, defs, defines}
@@ -23,50 +23,23 @@ use Rattle.blif_decls.specs.Naming.{TablesTo}
 
 -- ---- a record behind the others
 
-module _ (blocks : List ℕ) (g a b c : ℕ) (h : g * 3 + 2 < length blocks) where
-  abbrev put : List ℕ
-  put = set (set (set blocks (g * 3) a) (g * 3 + 1) b) (g * 3 + 2) c
-
-  -- the cells before it stay
-  put-before : (k : ℕ) → k < g * 3 → getD put k 0 ≡ getD blocks k 0
-  put-before k l =
-      getD-set-other (set (set blocks (g * 3) a) (g * 3 + 1) b) (g * 3 + 2) k c 0 (λ e. omega arith)
-      ∙ getD-set-other (set blocks (g * 3) a) (g * 3 + 1) k b 0 (λ e. omega arith)
-      ∙ getD-set-other blocks (g * 3) k a 0 (λ e. omega arith)
-
-  put-first : getD put (g * 3) 0 ≡ a
-  put-first =
-      getD-set-other (set (set blocks (g * 3) a) (g * 3 + 1) b) (g * 3 + 2) (g * 3) c 0 (λ e. omega arith)
-      ∙ getD-set-other (set blocks (g * 3) a) (g * 3 + 1) (g * 3) b 0 (λ e. omega arith)
-      ∙ getD-set-same blocks (g * 3) a 0 (omega arith)
-
-  put-second : getD put (g * 3 + 1) 0 ≡ b
-  put-second =
-      getD-set-other (set (set blocks (g * 3) a) (g * 3 + 1) b) (g * 3 + 2) (g * 3 + 1) c 0 (λ e. omega arith)
-      ∙ getD-set-same (set blocks (g * 3) a) (g * 3 + 1) b 0 (omega (arith, length-set blocks (g * 3) a))
-
-  put-third : getD put (g * 3 + 2) 0 ≡ c
-  put-third =
-      getD-set-same (set (set blocks (g * 3) a) (g * 3 + 1) b) (g * 3 + 2) c 0
-      (omega (arith, length-set (set blocks (g * 3) a) (g * 3 + 1) b, length-set blocks (g * 3) a))
-
 -- a block behind the others
 module _ {text tokens : List ℕ} {n : ℕ} {blocks blocks′ : List ℕ} (g a b c : ℕ) (h : g * 3 + 2 < length blocks)
     (w : Blocks text tokens n blocks g) (e : blocks′ ≡ overAt (g * blockWidth) (a ∷ b ∷ c ∷ []) blocks) where
-  is-put : blocks′ ≡ set (set (set blocks (g * 3) a) (g * 3 + 1) b) (g * 3 + 2) c
-  is-put = e ∙ sym (over-three (g * 3) a b c blocks)
-
   cell-before : (k : ℕ) → k < g * 3 → getD blocks′ k 0 ≡ getD blocks k 0
-  cell-before k l = ap (λ (x : List ℕ). getD x k 0) is-put ∙ put-before blocks g a b c h k l
+  cell-before k l = ap (λ (x : List ℕ). getD x k 0) e ∙ overAt-before (g * 3) (a ∷ b ∷ c ∷ []) blocks k 0 l
+
+  cell-is : (i : ℕ) → i < 3 → getD blocks′ (g * 3 + i) 0 ≡ getD (a ∷ b ∷ c ∷ []) i 0
+  cell-is i l = ap (λ (x : List ℕ). getD x (g * 3 + i) 0) e ∙ overAt-inside (g * 3) (a ∷ b ∷ c ∷ []) blocks i 0 l (omega arith)
 
   first-is : firstName blocks′ g ≡ a
-  first-is = ap (λ (x : List ℕ). getD x (g * 3) 0) is-put ∙ put-first blocks g a b c h
+  first-is = let z : g * 3 ≡ g * 3 + 0 = omega arith in ap (λ (k : ℕ). getD blocks′ k 0) z ∙ cell-is 0 (omega arith)
 
   names-is : nameCount blocks′ g ≡ b
-  names-is = ap (λ (x : List ℕ). getD x (g * 3 + 1) 0) is-put ∙ put-second blocks g a b c h
+  names-is = cell-is 1 (omega arith)
 
   lines-is : lineCount blocks′ g ≡ c
-  lines-is = ap (λ (x : List ℕ). getD x (g * 3 + 2) 0) is-put ∙ put-third blocks g a b c h
+  lines-is = cell-is 2 (omega arith)
 
   -- the records place blocks
   pub blocks-more : BlockIn text tokens n a b c → Blocks text tokens n blocks′ (g + 1)

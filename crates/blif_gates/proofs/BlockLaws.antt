@@ -1,21 +1,23 @@
 -- The gates of one block: a latch, or a cover by its places. Assumes nothing.
 use mathlib.Core.Path.{_≡_, refl, sym, ap, _∙_, subst}
-use mathlib.Core.Bool.{Bool, true, false, not, _&&_}
+use mathlib.Core.Bool.{true, not}
 use mathlib.Core.List.{List}
 use Prim.Native.Nat.{ℕ, zero, suc, _+_, _-_, _≤_, _<_}
 use native.Mathlib.Omega.{arith}
 use lib.ListN.{length, take}
 use lib.Seq.{slice, length-take-le}
-use Rattle.lists.specs.Lists.{Bytes, all, any}
+use borrow.Author.Tests.{not-false}
+use Rattle.lists.specs.Lists.{Bytes, all}
 use Rattle.network.specs.Cells.{countAt}
-use Rattle.blif_text.specs.Decls.{Def, cover, isOne}
+use Rattle.blif_text.specs.Decls.{Def, cover}
 use Rattle.blif_text.specs.Places.{maxTokens, tokensOf}
 use Rattle.blif_text.specs.Walk.{rowsFrom}
 use Rattle.blif_text.specs.Blocks.{firstName, nameCount, lineCount, defFrom, defAt, BlockIn, Blocks}
-use Rattle.blif_model.specs.Read.{_then_, when, goodLine, added, coverFault}
+use Rattle.blif_text.proofs.BlockLaws.{cover-from}
+use Rattle.blif_model.specs.Read.{goodLine, added, coverFault}
+use Rattle.blif_model.proofs.Passed.{then-left, when-no}
 use Rattle.blif_gates.specs.Steps.{GoodRows, CoverRoom, CoverBuilt, BlockRoom, BlockBuilt}
 use Rattle.blif_gates.proofs.GateLaws.{kept-none}
-use Rattle.blif_gates.proofs.CoverLaws.{some-lines}
 
 -- the cells of block j's record are these
 abbrev pub Cells : List ℕ → ℕ → ℕ → ℕ → ℕ → Type 0
@@ -44,21 +46,10 @@ pub latch-built : (text tokens : List ℕ) (n : ℕ) (blocks : List ℕ) {first 
 latch-built text tokens n blocks {first} {names} {lines} {j} {next} {at} {gates} {pinsIn} z e =
     subst (λ (d : Def). BlockBuilt d j next at gates pinsIn gates pinsIn next at) (sym (def-is text tokens n blocks j first names lines e)) (latch-stays text tokens n first names lines z)
 
--- a cover by its places
-cover-is : (text tokens : List ℕ) (n first names lines : ℕ) → 0 < names
-    → defFrom text tokens n first names lines ≡ cover (tokensOf text (slice first (first + names) tokens)) (take lines (rowsFrom text tokens n (first + names)))
-cover-is text tokens n first zero lines h = absurd (omega arith)
-cover-is text tokens n first (suc k) lines h = refl
-
 -- no refusal 12
-then-first : (b : Bool) (m : ℕ) → (when (not b) 12 then m) ≡ 0 → b ≡ true
-unfolding _then_ when
-then-first true m e = refl
-then-first false m e = absurd (omega arith)
-
 cover-good : (ns : List Bytes) (ls : List (List Bytes)) → coverFault (cover ns ls) ≡ 0 → all (goodLine (length ns - 1)) ls ≡ true
 unfolding coverFault
-cover-good ns ls e = then-first (all (goodLine (length ns - 1)) ls) (when (any isOne ls && not (all isOne ls)) 13) e
+cover-good ns ls e = not-false (all (goodLine (length ns - 1)) ls) (when-no (not (all (goodLine (length ns - 1)) ls)) 11 (then-left _ _ e))
 
 module _ {text tokens : List ℕ} {n : ℕ} {blocks : List ℕ} {g j first names lines next at : ℕ} {gates pinsIn : List ℕ} (some-names : names ≡ 0 → ⊥) (low : j < g)
     (bs : Blocks text tokens n blocks g) (e : Cells blocks j first names lines) (room : BlockRoom (defAt text tokens n blocks j) j next at gates pinsIn) where
@@ -76,20 +67,20 @@ module _ {text tokens : List ℕ} {n : ℕ} {blocks : List ℕ} {g j first names
   lines-of = take lines (rowsFrom text tokens n (first + names))
 
   is-cover : defAt text tokens n blocks j ≡ cover names-of lines-of
-  is-cover = def-is text tokens n blocks j first names lines e ∙ cover-is text tokens n first names lines (some-lines names some-names)
+  is-cover = def-is text tokens n blocks j first names lines e ∙ cover-from text tokens n first names lines some-names
 
   here : BlockRoom (cover names-of lines-of) j next at gates pinsIn
   here = subst (λ (d : Def). BlockRoom d j next at gates pinsIn) is-cover room
 
   lines-are : length lines-of ≡ lines
-  lines-are = length-take-le lines (rowsFrom text tokens n (first + names)) (b .enough (some-lines names some-names))
+  lines-are = length-take-le lines (rowsFrom text tokens n (first + names)) (b .enough (omega arith))
 
   -- its lines are good
   pub cover-rows : GoodRows text tokens n (first + names) lines (countAt gates j)
   cover-rows =
       record {
-        rows = b .behind (some-lines names some-names);
-        enough = b .enough (some-lines names some-names);
+        rows = b .behind (omega arith);
+        enough = b .enough (omega arith);
         good = ap (λ (k : ℕ). all (goodLine k) lines-of) (here .counted) ∙ cover-good names-of lines-of (here .good);
       }
 

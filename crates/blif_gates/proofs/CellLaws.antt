@@ -2,7 +2,7 @@
 use mathlib.Core.Path.{_≡_, refl, sym, ap, ap₂, _∙_}
 use mathlib.Core.Bool.{Bool, true, false, not, cond}
 use mathlib.Core.List.{List, [], _∷_, _++_, map}
-use Prim.Native.Nat.{ℕ, zero, suc, _+_, _%_, _^_, _≤_, _<_}
+use Prim.Native.Nat.{ℕ, _+_, _%_, _^_, _≤_, _<_}
 use native.Mathlib.Omega.{arith}
 use lib.Dec.{eqb}
 use lib.ListN.{length, getD, take, drop, length-append}
@@ -10,6 +10,7 @@ use lib.Seq.{take-take, getD-take}
 use borrow.Author.Tests.{eq-eqb, ne-eqb}
 use Rattle.lists.specs.Lists.{Bytes, overAt}
 use Rattle.lists.proofs.OverAt.{run-before}
+use Rattle.lists.proofs.Places.{run-within}
 use Rattle.signal.specs.Signal.{Node, Const, Input, Gated, Signal, turned}
 use Rattle.signal.specs.Cell.{bitOf, nodeCell, sigCell, sigOf}
 use Rattle.signal.proofs.Cells.{cell-again}
@@ -29,13 +30,6 @@ over-front k t o = run-before k t o 0 k (omega arith)
 -- lists with the same front have the same elements there
 pub front-at : (k : ℕ) (a b : List ℕ) (i : ℕ) → take k a ≡ take k b → i < k → getD a i 0 ≡ getD b i 0
 front-at k a b i e h = sym (getD-take k a i 0 h) ∙ ap (λ (l : List ℕ). getD l i 0) e ∙ getD-take k b i 0 h
-
--- a run within the front of a list
-run-within : (f c k : ℕ) (a : List ℕ) → f + c ≤ k → take c (drop f (take k a)) ≡ take c (drop f a)
-run-within zero c k a h = take-take c k a (omega arith)
-run-within (suc f) c zero a h = absurd (omega arith)
-run-within (suc f) c (suc k) [] h = refl
-run-within (suc f) c (suc k) (y ∷ a) h = run-within f c k a (omega arith)
 
 -- lists with the same front have the same runs there
 pub run-front : (f c k : ℕ) (a b : List ℕ) → f + c ≤ k → take k a ≡ take k b → take c (drop f a) ≡ take c (drop f b)

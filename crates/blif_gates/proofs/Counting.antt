@@ -5,10 +5,12 @@ use mathlib.Core.Option.{some}
 use Prim.Native.Nat.{ℕ, zero, suc, _+_, _-_, _≤_, _<_}
 use native.Mathlib.Omega.{arith}
 use native.Mathlib.Numerals.{add-one}
-use native.Mathlib.Nat.{add-mul, add-zero, add-assoc, zero-add}
+use native.Mathlib.Nat.{add-mul, add-zero, zero-add}
 use lib.ListN.{length, getElem?, take, drop, length-append, length-map, take-append-drop}
-use lib.Seq.{length-take-le}
+use lib.Seq.{take-suc, length-take-le}
 use Rattle.lists.specs.Lists.{Bytes, sumOf, range}
+use Rattle.lists.proofs.Counting.{sum-append}
+use Rattle.lists.proofs.Places.{place-lt, getD-place}
 use Rattle.lists.proofs.Range.{length-range, map-range}
 use Rattle.signal.specs.Signal.{Signal}
 use Rattle.gates.specs.Gate.{Gate, pins}
@@ -16,9 +18,10 @@ use Rattle.blif_text.specs.Decls.{Def, latch, cover, coverIns}
 use Rattle.blif_text.specs.Blocks.{defAt, defsAt}
 use Rattle.blif_model.specs.Blif.{Block, Line}
 use Rattle.blif_model.specs.Build.{lineGate, lineGates, blockGate, moreGates, mains, extras}
-use Rattle.blif_model.specs.Read.{_then_, gateCount, pinCount, added, coverFault, coverFaults}
+use Rattle.blif_model.specs.Read.{gateCount, pinCount, added, coverFault, coverFaults}
 use Rattle.blif_model.specs.Model.{lineOf, blockOf}
 use Rattle.blif_model.specs.Working.{placed, placedCount}
+use Rattle.blif_model.proofs.Passed.{then-left, then-right}
 use Rattle.blif_gates.specs.Steps.{addedOf, addedPins}
 use Rattle.blif_gates.proofs.CoverLaws.{added-many}
 
@@ -30,22 +33,13 @@ placed-long look (cover ns ls) = length-map (take (length ns - 1) ns) look ∙ l
 
 -- ---- sums
 
-sum-append : {A : Type 0} (f : A → ℕ) (a b : List A) → sumOf f (a ++ b) ≡ sumOf f a + sumOf f b
-sum-append f [] b = sym (zero-add (sumOf f b))
-sum-append f (x ∷ a) b = ap (λ (k : ℕ). f x + k) (sum-append f a b) ∙ sym (add-assoc (f x) (sumOf f a) (sumOf f b))
-
 -- a part's sum is no larger
 pub sum-part : {A : Type 0} (f : A → ℕ) (j : ℕ) (l : List A) → sumOf f (take j l) ≤ sumOf f l
 sum-part f j l = omega (arith, ap (sumOf f) (take-append-drop j l), sum-append f (take j l) (drop j l))
 
 -- one element more
-take-suc-next : {A : Type 0} (l : List A) (j : ℕ) (x : A) → getElem? l j ≡ some x → take (suc j) l ≡ take j l ++ (x ∷ [])
-take-suc-next [] j x e = absurd (let z : _≡_ {A = ℕ} 0 1 = cc in omega arith)
-take-suc-next {A} (y ∷ l) zero x e = let s : y ≡ x = cc in ap (λ (z : A). z ∷ []) s
-take-suc-next {A} (y ∷ l) (suc j) x e = ap (λ (r : List A). y ∷ r) (take-suc-next l j x e)
-
 pub take-next : {A : Type 0} (l : List A) (j : ℕ) (x : A) → getElem? l j ≡ some x → take (j + 1) l ≡ take j l ++ (x ∷ [])
-take-next l j x e = ap (λ (k : ℕ). take k l) (add-one j) ∙ take-suc-next l j x e
+take-next {A} l j x e = rw add-one (take-suc l j x (place-lt l j x e) ∙ ap (λ (y : A). take j l ++ (y ∷ [])) (getD-place x l j x e))
 
 pub sum-next : {A : Type 0} (f : A → ℕ) (l : List A) (j : ℕ) (x : A) → getElem? l j ≡ some x → sumOf f (take (j + 1) l) ≡ sumOf f (take j l) + f x
 sum-next f l j x e = ap (sumOf f) (take-next l j x e) ∙ sum-append f (take j l) (x ∷ []) ∙ ap (λ (k : ℕ). sumOf f (take j l) + k) (add-zero (f x))
@@ -72,17 +66,12 @@ pub gates-split : (ds : List Def) → length ds + sumOf addedOf ds ≡ sumOf gat
 gates-split [] = refl
 gates-split (d ∷ ds) = omega (arith, gates-one d, gates-split ds)
 
-then-none : (a b : ℕ) → (a then b) ≡ 0 → (a ≡ 0) × (b ≡ 0)
-unfolding _then_
-then-none zero b q = (refl, q)
-then-none (suc a) b q = absurd (omega arith)
-
 -- no definition has a fault
 pub no-fault : (ds : List Def) (j : ℕ) (d : Def) → coverFaults ds ≡ 0 → getElem? ds j ≡ some d → coverFault d ≡ 0
 unfolding coverFaults
 no-fault [] j d f e = absurd (let z : _≡_ {A = ℕ} 0 1 = cc in omega arith)
-no-fault (x ∷ ds) zero d f e = let s : x ≡ d = cc in ap coverFault (sym s) ∙ then-none (coverFault x) (coverFaults ds) f .0
-no-fault (x ∷ ds) (suc j) d f e = no-fault ds j d (then-none (coverFault x) (coverFaults ds) f .1) e
+no-fault (x ∷ ds) zero d f e = let s : x ≡ d = cc in ap coverFault (sym s) ∙ then-left (coverFault x) (coverFaults ds) f
+no-fault (x ∷ ds) (suc j) d f e = no-fault ds j d (then-right (coverFault x) (coverFaults ds) f) e
 
 -- ---- gates
 

@@ -10,6 +10,7 @@ use lib.Seq.{drop-cons, length-take-le}
 use borrow.Author.Tests.{lt-ltb}
 use Rattle.lists.specs.Lists.{Bytes, all, overAt}
 use Rattle.lists.proofs.OverAt.{length-overAt}
+use Rattle.lists.proofs.Laying.{one-store}
 use Rattle.lists.proofs.Tests.{and-left}
 use Rattle.signal.specs.Signal.{Signal, zeroS}
 use Rattle.signal.specs.Cell.{sigCell}
@@ -26,8 +27,7 @@ use Rattle.blif_model.specs.Model.{lineOf}
 use Rattle.blif_model.specs.Working.{GateIn}
 use Rattle.blif_gates.specs.Steps.{joinForm, LineRoom, LinePut, rowTokens, GoodRow, GatesKept, GoodRows, LinesRoom, LinesPut, CoverRoom, CoverBuilt}
 use Rattle.blif_gates.proofs.CellLaws.{run-front}
-use Rattle.blif_gates.proofs.LiteralLaws.{one-store}
-use Rattle.blif_gates.proofs.JoinLaws.{run-long}
+use Rattle.blif_gates.proofs.JoinLaws.{joinCells, run-long}
 use Rattle.blif_gates.proofs.RowLaws.{row-wide}
 use Rattle.blif_gates.proofs.GateLaws.{three, gate-put, kept-put, kept-then, kept-some, room-wide, line-kept, line-end, line-gate}
 
@@ -55,11 +55,6 @@ module _ {text tokens : List ℕ} {n row count inputs : ℕ} (g : GoodRows text 
           places = inside-less (e .high) (g .rows .places);
           good = and-left (goodLine inputs (rowTokens text tokens row end)) _ (sym (ap (all (goodLine inputs)) first-take) ∙ g .good);
         }
-
--- a count that is not zero
-pub some-lines : (k : ℕ) → (k ≡ 0 → ⊥) → 0 < k
-some-lines zero h = absurd (h refl)
-some-lines (suc k) h = omega arith
 
 -- the same number of inputs
 pub rows-inputs : {text tokens : List ℕ} {n row count inputs inputs′ : ℕ} → inputs ≡ inputs′ → GoodRows text tokens n row count inputs → GoodRows text tokens n row count inputs′
@@ -97,13 +92,6 @@ join-form false ps = refl
 join-pins : (k m : ℕ) → k * (m + 2) ≡ k * (m + 1) + k
 join-pins k m = let e : m + 2 ≡ suc (m + 1) = omega arith in ap (λ (x : ℕ). k * x) e ∙ mul-suc k (m + 1)
 
--- the pins of the gate that joins n lines, whose gates start at number k
-abbrev joinCells : ℕ → ℕ → List ℕ
-joinCells k n = map sigCell (gateRun k n)
-
-joins-long : (k n : ℕ) → length (joinCells k n) ≡ n
-joins-long k n = length-map (gateRun k n) sigCell ∙ run-long k n
-
 module _ {text tokens : List ℕ} {n row count j next at : ℕ} {gates pinsIn : List ℕ} (big : 1 < count)
     (g : GoodRows text tokens n row count (countAt gates j)) (room : CoverRoom count j next at gates pinsIn) where
   -- room for the joins
@@ -114,7 +102,7 @@ module _ {text tokens : List ℕ} {n row count j next at : ℕ} {gates pinsIn : 
   )
 
   module _ (f : ℕ) {source inputs : ℕ} {gates₁ pins₁ : List ℕ} (es : source ≡ firstAt gates j) (ei : inputs ≡ countAt gates j)
-      (eg : gates₁ ≡ overAt (j * gateWidth) (three f at count) gates) (ep : pins₁ ≡ overAt at (map sigCell (gateRun next count)) pinsIn) where
+      (eg : gates₁ ≡ overAt (j * gateWidth) (three f at count) gates) (ep : pins₁ ≡ overAt at (joinCells next count) pinsIn) where
     -- room for the lines behind them
     pub joined-room : LinesRoom inputs count source (at + count) next gates₁ pins₁
     joined-room =
@@ -199,7 +187,7 @@ module _ {text tokens : List ℕ} {n row count j next at : ℕ} {gates pinsIn : 
     -- room for one line
     pub one-room : LineRoom inputs source at j gates pinsIn
     one-room =
-        let c : count ≡ 1 = omega (arith, some-lines count some-line) in
+        let c : count ≡ 1 = omega arith in
         let f : at + (1 * (countAt gates j + 2) + 2) ≤ maxPins = rw c at (room .fits) in
         record {
           room = room .room;
@@ -214,7 +202,7 @@ module _ {text tokens : List ℕ} {n row count j next at : ℕ} {gates pinsIn : 
       ts = rowTokens text tokens row end
 
       some-count : 0 < count
-      some-count = some-lines count some-line
+      some-count = omega arith
 
       wide : length (columns ts) ≡ inputs
       wide = row-wide (first-good g some-count e) ∙ sym ei

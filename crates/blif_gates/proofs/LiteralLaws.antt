@@ -4,23 +4,20 @@ use mathlib.Core.Bool.{Bool, true, false, cond}
 use mathlib.Core.List.{List, [], _∷_, _++_}
 use Prim.Native.Nat.{ℕ, zero, suc, _+_, _≤_, _<_}
 use native.Mathlib.Omega.{arith}
-use native.Mathlib.Numerals.{add-one}
 use lib.Dec.{eqb}
 use lib.ListN.{length, getD, take, drop, set, length-append, length-drop, drop-of-length-le}
-use lib.Seq.{drop-cons, length-take-le, getD-take, getD-drop, set-set}
+use lib.Seq.{length-take-le, getD-take, getD-drop, set-set}
 use borrow.Author.Tests.{eq-eqb, ne-eqb}
 use Rattle.lists.specs.Lists.{Bytes, overAt}
-use Rattle.lists.proofs.OverAt.{length-overAt, overAt-nil, over-first, over-append, overAt-inside}
+use Rattle.lists.proofs.OverAt.{overAt-nil, overAt-inside, length-overAt, over-first, over-append}
+use Rattle.lists.proofs.Laying.{one-store, Laying, laying-start, laying-more, laying-done}
+use Rattle.lists.proofs.Places.{drop-next, length-run}
 use Rattle.signal.specs.Signal.{zeroS, xorS}
 use Rattle.signal.specs.Cell.{sigCell, sigOf}
 use Rattle.gates.specs.Gate.{Buf}
 use Rattle.gates.specs.Forms.{formNumber}
 use Rattle.blif_gates.specs.Steps.{turnCell, columnCells, literalCells, literalsAt, singleCell, lineCells, lineForm, manyForm}
 use Rattle.blif_gates.proofs.CellLaws.{over-front, front-at, front-less, one-literal}
-
--- one store
-pub one-store : (k x : ℕ) (o : List ℕ) → set o k x ≡ overAt k (x ∷ []) o
-one-store k x o = sym (over-first k x [] o ∙ overAt-nil (suc k) (set o k x))
 
 -- ---- one column
 
@@ -47,51 +44,36 @@ literal-dash b c k o n m =
 
 -- ---- one column after the other
 
-drop-next : (l : List ℕ) (i : ℕ) → i < length l → drop i l ≡ getD l i 0 ∷ drop (i + 1) l
-drop-next l i h = drop-cons l i 0 h ∙ ap (λ (n : ℕ). getD l i 0 ∷ drop n l) (sym (add-one i))
-
 -- the sources of a line
 abbrev sourcesOf : Bytes → List ℕ → ℕ → List ℕ
 sourcesOf columns pinsIn source = take (length columns) (drop source pinsIn)
 
--- the literals of the columns that are left, laid from here on, give what all give
+-- the literals of the first i columns are laid, m of them
 pub record Writing (columns pins₀ pinsIn : List ℕ) (source at m i : ℕ) : Type 0 where
   pub within : i ≤ length columns
   pub few : m ≤ i
-  pub same : length pinsIn ≡ length pins₀
   pub front : take at pinsIn ≡ take at pins₀
-  pub rest :
-      overAt (at + m) (literalCells (drop i columns) (drop i (sourcesOf columns pins₀ source))) pinsIn
-      ≡ overAt at (literalsAt columns source pins₀) pins₀
+  pub laying : Laying (literalsAt columns source pins₀) pins₀ at (literalCells (drop i columns) (drop i (sourcesOf columns pins₀ source))) pinsIn (at + m)
   pub counted : m + length (literalCells (drop i columns) (drop i (sourcesOf columns pins₀ source))) ≡ length (literalsAt columns source pins₀)
 
 pub writing-start : {columns pinsIn : List ℕ} {source at : ℕ} → Writing columns pinsIn pinsIn source at 0 0
-writing-start {columns} {pinsIn} {source} {at} =
-    let e : at + 0 ≡ at = omega arith in
-    record {
-      within = omega arith;
-      few = omega arith;
-      same = refl;
-      front = refl;
-      rest = ap (λ (k : ℕ). overAt k (literalsAt columns source pinsIn) pinsIn) e;
-      counted = omega arith;
-    }
+writing-start = record { within = omega arith; few = omega arith; front = refl; laying = laying-start refl (omega arith); counted = omega arith }
 
 module _ {columns pins₀ pinsIn : List ℕ} {source at m i : ℕ} (before : source + length columns ≤ at) (room : at + length columns ≤ length pins₀) (w : Writing columns pins₀ pinsIn source at m i) where
   -- the literal's pin is there
   pub writing-room : i < length columns → at + m < length pinsIn
-  writing-room l = omega (arith, w .few, w .same)
+  writing-room l = omega (arith, w .few, w .laying .kept)
 
   -- so is its source's
   pub writing-source : i < length columns → source + i < length pinsIn
-  writing-source l = omega (arith, w .same)
+  writing-source l = omega (arith, w .laying .kept)
 
   module _ (l : i < length columns) where
     abbrev src : List ℕ
     src = sourcesOf columns pins₀ source
 
     src-long : length src ≡ length columns
-    src-long = length-take-le (length columns) (drop source pins₀) (omega (arith, length-drop source pins₀))
+    src-long = length-run source (length columns) pins₀ (omega arith)
 
     src-at : getD src i 0 ≡ getD pinsIn (source + i) 0
     src-at =
@@ -103,7 +85,7 @@ module _ {columns pins₀ pinsIn : List ℕ} {source at m i : ℕ} (before : sou
     left : literalCells (drop i columns) (drop i src)
         ≡ columnCells (getD columns i 0) (getD pinsIn (source + i) 0) ++ literalCells (drop (i + 1) columns) (drop (i + 1) src)
     left =
-        ap₂ (λ (a b : List ℕ). literalCells a b) (drop-next columns i l) (drop-next src i (omega (arith, src-long)))
+        ap₂ (λ (a b : List ℕ). literalCells a b) (drop-next columns i 0 l) (drop-next src i 0 (omega (arith, src-long)))
         ∙ ap (λ (x : ℕ). columnCells (getD columns i 0) x ++ literalCells (drop (i + 1) columns) (drop (i + 1) src)) src-at
 
     pub writing-next : {pinsIn′ : List ℕ} {r : ℕ} → LaidAt (at + m) (columnCells (getD columns i 0) (getD pinsIn (source + i) 0)) pinsIn pinsIn′ r
@@ -111,20 +93,14 @@ module _ {columns pins₀ pinsIn : List ℕ} {source at m i : ℕ} (before : sou
     writing-next {pinsIn′} {r} d =
         let col = columnCells (getD columns i 0) (getD pinsIn (source + i) 0) in
         let more = literalCells (drop (i + 1) columns) (drop (i + 1) src) in
-        let e : at + (m + r) ≡ at + m + length col = omega (arith, d .1) in
         record {
           within = omega arith;
           few = omega (arith, w .few, d .1, one-literal (getD columns i 0) (getD pinsIn (source + i) 0));
-          same = ap length (d .0) ∙ length-overAt (at + m) col pinsIn ∙ w .same;
           front =
               ap (take at) (d .0)
               ∙ front-less at (at + m) (overAt (at + m) col pinsIn) pinsIn (omega arith) (over-front (at + m) col pinsIn)
               ∙ w .front;
-          rest =
-              ap₂ (λ (k : ℕ) (o : List ℕ). overAt k more o) e (d .0)
-              ∙ sym (over-append (at + m) col more pinsIn)
-              ∙ ap (λ (t : List ℕ). overAt (at + m) t pinsIn) (sym left)
-              ∙ w .rest;
+          laying = laying-more (w .laying) col left (d .0) (omega (arith, d .1));
           counted = omega (arith, w .counted, ap length left, length-append col more, d .1);
         }
 
@@ -132,7 +108,7 @@ module _ {columns pins₀ pinsIn : List ℕ} {source at m i : ℕ} (before : sou
   writing-done h =
       let e : drop i columns ≡ [] = drop-of-length-le columns h in
       let z : literalCells (drop i columns) (drop i (sourcesOf columns pins₀ source)) ≡ [] = ap (λ (b : List ℕ). literalCells b (drop i (sourcesOf columns pins₀ source))) e in
-      (sym (overAt-nil (at + m) pinsIn) ∙ ap (λ (t : List ℕ). overAt (at + m) t pinsIn) (sym z) ∙ w .rest, omega (arith, w .counted, ap length z))
+      (laying-done (w .laying) z, omega (arith, w .counted, ap length z))
 
 -- ---- the pins of a line's gate
 

@@ -1,12 +1,11 @@
 -- Marks set by one signal after the other. Assumes nothing.
-use mathlib.Core.Path.{_≡_, refl, sym, _∙_, ap, ap₂}
+use mathlib.Core.Path.{_≡_, refl, sym, _∙_, ap, ap₂, subst}
 use mathlib.Core.Bool.{Bool, true, false}
-use mathlib.Core.List.{List, [], _∷_, _++_, map, append-assoc}
+use mathlib.Core.List.{List, [], _∷_, _++_}
 use mathlib.Core.Option.{Option, none, some}
-use Prim.Native.Nat.{ℕ, _+_, _≤_, _<_}
-use native.Mathlib.Numerals.{add-one}
-use lib.ListN.{length, getD, drop, set, length-set, drop-of-length-le}
-use lib.Seq.{drop-cons}
+use Prim.Native.Nat.{ℕ}
+use lib.ListN.{length, set, length-set}
+use Rattle.lists.proofs.Laying.{Front, front-start, front-more}
 use Rattle.signal.specs.Signal.{Node, Const, Input, Gated, Signal, inputNode, constNode}
 use Rattle.signal.specs.Cell.{nodeOf, sigOf, inputNumber, gateNumber}
 use Rattle.signal.proofs.Cells.{input-number, gate-number}
@@ -58,14 +57,14 @@ pub marked-none : {gs is : List ℕ} → SignalsMarked [] gs is gs is
 marked-none = record { gated = refl; input = refl }
 
 pub as-marked : {a b : List Signal} {gs is gs' is' : List ℕ} → a ≡ b → SignalsMarked a gs is gs' is' → SignalsMarked b gs is gs' is'
-as-marked {gs = gs} {is = is} {gs' = gs'} {is' = is'} e v = mathlib.Core.Path.subst (λ (l : List Signal). SignalsMarked l gs is gs' is') e v
+as-marked {gs = gs} {is = is} {gs' = gs'} {is' = is'} e v = subst (λ (l : List Signal). SignalsMarked l gs is gs' is') e v
 
 pub marked-length : (v : Bool) (n : Option ℕ) (m : List ℕ) → length (marked v n m) ≡ length m
 marked-length false n m = refl
 marked-length true none m = refl
 marked-length true (some i) m = length-set m i 1
 
-pub marks-length : (pick : Node → Option ℕ) (ss : List Signal) (m : List ℕ) → length (markAll pick ss m) ≡ length m
+marks-length : (pick : Node → Option ℕ) (ss : List Signal) (m : List ℕ) → length (markAll pick ss m) ≡ length m
 marks-length pick [] m = refl
 marks-length pick (s ∷ ss) m = marks-length pick ss (marked (s .inv) (pick (s .node)) m) ∙ marked-length (s .inv) (pick (s .node)) m
 
@@ -77,28 +76,12 @@ module _ {ss : List Signal} {gs is gs' is' : List ℕ} (v : SignalsMarked ss gs 
   inputs-kept = ap length (v .input) ∙ marks-length inputOf ss is
 
 -- of all the signals those left are still to be marked
-pub record Marking (left all : List Signal) (gs is gs' is' : List ℕ) : Type 0 where
-  pub done : List Signal
-  pub whole : done ++ left ≡ all
-  pub marks : SignalsMarked done gs is gs' is'
+abbrev pub Marking : List Signal → List Signal → List ℕ → List ℕ → List ℕ → List ℕ → Type 0
+Marking left all gs is gs' is' = Front (λ (ss : List Signal). SignalsMarked ss gs is gs' is') left all
 
 pub marking-start : {left all : List Signal} {gs is : List ℕ} → left ≡ all → Marking left all gs is gs is
-marking-start e = record { done = []; whole = e; marks = marked-none }
+marking-start e = front-start marked-none e
 
-module _ {left all : List Signal} {gs is gs' is' : List ℕ} (c : Marking left all gs is gs' is') where
-  pub marking-next : {a rest : List Signal} {gs″ is″ : List ℕ} → left ≡ a ++ rest → SignalsMarked a gs' is' gs″ is″ → Marking rest all gs is gs″ is″
-  marking-next {a} {rest} e v =
-      record {
-        done = c .done ++ a;
-        whole = append-assoc (c .done) a rest ∙ ap (λ (l : List Signal). c .done ++ l) (sym e) ∙ c .whole;
-        marks = marked-both (c .marks) v;
-      }
-
-  pub marking-done : left ≡ [] → SignalsMarked all gs is gs' is'
-  marking-done e = as-marked (sym (mathlib.Core.List.append-nil (c .done)) ∙ ap (λ (l : List Signal). c .done ++ l) (sym e) ∙ c .whole) (c .marks)
-
-pub cells-next : (cells : List ℕ) (i : ℕ) → i < length cells → map sigOf (drop i cells) ≡ (sigOf (getD cells i 0) ∷ []) ++ map sigOf (drop (i + 1) cells)
-cells-next cells i h = ap (map sigOf) (drop-cons cells i 0 h ∙ ap (λ (k : ℕ). getD cells i 0 ∷ drop k cells) (sym (add-one i)))
-
-pub cells-end : (cells : List ℕ) (i : ℕ) → length cells ≤ i → map sigOf (drop i cells) ≡ []
-cells-end cells i h = ap (map sigOf) (drop-of-length-le cells h)
+pub marking-next : {left all a rest : List Signal} {gs is gs' is' gs″ is″ : List ℕ} → Marking left all gs is gs' is' → left ≡ a ++ rest → SignalsMarked a gs' is' gs″ is″
+    → Marking rest all gs is gs″ is″
+marking-next {a = a} c e v = front-more a e (λ ss u. marked-both u v) c

@@ -1,13 +1,14 @@
 -- What the lines of written blocks say: their statements and declarations, and that the blocks come back. Assumes nothing.
 use mathlib.Core.Path.{_≡_, refl, sym, ap, ap₂, _∙_}
 use mathlib.Core.Bool.{Bool, true, false}
-use mathlib.Core.List.{List, [], _∷_, _++_, map, flatMap, headD, append-assoc, map-append}
+use mathlib.Core.List.{List, [], _∷_, _++_, map, flatMap, headD, map-append}
 use mathlib.Core.Option.{none}
 use Prim.Native.Nat.{ℕ, _+_, _-_}
 use native.Mathlib.Omega.{arith}
 use lib.ListN.{length, getD, take, length-append}
 use lib.Seq.{take-append-seam, getD-append-seam}
 use Rattle.lists.specs.Lists.{Bytes, bytes, same}
+use Rattle.lists.proofs.Places.{flatMap-append}
 use Rattle.lists.proofs.Every.{Every, every-nil, every-cons, every-append, every-map}
 use Rattle.blif_text.specs.Lines.{split, consFirst, cut, isBlank, nonEmpty, tokens}
 use Rattle.blif_text.specs.Keywords.{keywordOf}
@@ -131,11 +132,6 @@ block-says (Cover xs y ls) w =
     ap₂ (λ (a b : List Parsed). a ++ b)
     (says-spaced (bytes ".names") (xs ++ (y ∷ [])) kw-names (cover-words (w .0) (w .1)) ∙ ap (λ (p : Parsed). p ∷ []) (stmt-names (xs ++ (y ∷ []))))
     (cubes-say ls)
-
-pub flatMap-append : (f : Bytes → List Parsed) (l m : List Bytes) → flatMap f (l ++ m) ≡ flatMap f l ++ flatMap f m
-unfolding flatMap
-flatMap-append f [] m = refl
-flatMap-append f (x ∷ l) m = ap (λ (r : List Parsed). f x ++ r) (flatMap-append f l m) ∙ sym (append-assoc (f x) (flatMap f l) (flatMap f m))
 
 pub all-say : {bs : List (Block Bytes)} → Every PlainBlock bs → flatMap says (allLines bs) ≡ map ok (allStmts bs)
 unfolding flatMap

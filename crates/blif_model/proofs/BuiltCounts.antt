@@ -9,6 +9,7 @@ use native.Mathlib.Nat.{suc-mul, add-mul, mul-suc}
 use lib.ListN.{length, length-map, length-append, length-take}
 use borrow.Author.Tests.{lt-ltb}
 use Rattle.lists.specs.Lists.{if_then_else_, Bytes, sumOf}
+use Rattle.lists.proofs.Counting.{sum-append}
 use Rattle.lists.proofs.Every.{Every, every-nil, every-cons, every-append, every-map}
 use Rattle.signal.specs.Signal.{Signal}
 use Rattle.signal.specs.Cell.{sigCell}
@@ -24,10 +25,6 @@ use Rattle.blif_model.specs.Working.{builtGates}
 use Rattle.blif_model.proofs.Reading.{mains-length}
 
 -- ---- sums
-
-sum-append : {A : Type 0} (f : A → ℕ) (xs ys : List A) → sumOf f (xs ++ ys) ≡ sumOf f xs + sumOf f ys
-sum-append f [] ys = omega arith
-sum-append f (x ∷ xs) ys = omega (arith, sum-append f xs ys)
 
 -- how many pins a gate has
 abbrev pinsOf : Gate → ℕ

@@ -166,8 +166,4 @@ module _ {Name : Type 0} (m : Model Name) (look : Name → Signal) (ok : Looks m
 
   -- no loop among the gates as built
   pub built-free : Loop net → ⊥
-  built-free =
-      rises-free net (record {
-        height = ρ;
-        higher = λ g h f ps s e w q. subst (Under look (rm .rankOf) ρ (ρ g)) q (right-at g (Comb f ps) e s w);
-      })
+  built-free = rises-free net ρ (λ g h f ps s e w q. subst (Under look (rm .rankOf) ρ (ρ g)) q (right-at g (Comb f ps) e s w))

@@ -27,7 +27,7 @@ use Rattle.blif_model.proofs.BuiltValid.{built-valid}
 
 -- ---- tests in a row
 
-then-left : (a b : ℕ) → (a then b) ≡ 0 → a ≡ 0
+pub then-left : (a b : ℕ) → (a then b) ≡ 0 → a ≡ 0
 unfolding _then_
 then-left zero b e = refl
 then-left (suc a) b e = e
@@ -37,7 +37,7 @@ unfolding _then_
 then-right zero b e = e
 then-right (suc a) b e = absurd (omega arith)
 
-when-no : (c : Bool) (n : ℕ) → when c (suc n) ≡ 0 → c ≡ false
+pub when-no : (c : Bool) (n : ℕ) → when c (suc n) ≡ 0 → c ≡ false
 unfolding when
 when-no true n e = absurd (omega arith)
 when-no false n e = refl

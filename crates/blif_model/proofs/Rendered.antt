@@ -10,6 +10,7 @@ use lib.Dec.{leb, ltb}
 use lib.ListN.{getElem?}
 use borrow.Author.Tests.{ltb-true}
 use Rattle.lists.specs.Lists.{Bytes, bytes, same, any, range}
+use Rattle.lists.proofs.Places.{flatMap-append}
 use Rattle.lists.proofs.Every.{Every, every-nil, every-cons, every-append, every-map}
 use Rattle.signal.specs.Signal.{Node, Const, Input, Gated, Signal, plain, turned, oneS, zeroS}
 use Rattle.gates.specs.Gate.{FlipFlop, Gate, Comb, Dff}
@@ -25,7 +26,7 @@ use Rattle.blif_model.specs.Names.{decimalBefore, suffix, nodeBytes, nam
 use Rattle.blif_model.specs.Render.{spaced, line, colByte, outByte, cubeLine, blockLines, allLines, textLines, textOf}
 use Rattle.blif_model.specs.Model.{blockOf, modelOf, modelOfText}
 use Rattle.blif_model.proofs.Blocks.{comb-cases}
-use Rattle.blif_model.proofs.BlocksSaid.{col-byte, out-word, PlainBlock, blockStmts, allStmts, kw-latch, kw-names, kw-inputs, kw-outputs, latch-words, cover-words, latch-line, flatMap-append, all-say, defOf, gateOf, all-decls, blocks-back, gates-ins, gates-outs, gates-defs, says-spaced, spaced-single}
+use Rattle.blif_model.proofs.BlocksSaid.{col-byte, out-word, PlainBlock, blockStmts, allStmts, kw-latch, kw-names, kw-inputs, kw-outputs, latch-words, cover-words, latch-line, all-say, defOf, gateOf, all-decls, blocks-back, gates-ins, gates-outs, gates-defs, says-spaced, spaced-single}
 
 -- ---- names are words
 

@@ -3,12 +3,12 @@ use mathlib.Core.Path.{_≡_, refl, sym, _∙_, ap, ap₂}
 use mathlib.Core.Bool.{Bool, true, false, not, _&&_, cond}
 use mathlib.Core.List.{List, [], _∷_, _++_, map, flatMap, append-assoc, append-nil}
 use mathlib.Core.Option.{Option, none, some}
-use Prim.Native.Nat.{ℕ, _+_, _^_, _≤_, _<_}
-use native.Mathlib.Numerals.{add-one}
+use Prim.Native.Nat.{ℕ, _^_, _<_}
 use native.Mathlib.Omega.{arith}
 use lib.ListN.{length, getD, drop, length-map, drop-of-length-le}
 use lib.Seq.{drop-cons}
 use Rattle.lists.specs.Lists.{Bytes, bytes}
+use Rattle.lists.proofs.Places.{flatMap-append}
 use Rattle.signal.specs.Signal.{Gated, Input, Signal, plain, constNode}
 use Rattle.signal.specs.Cell.{sigCell, nodeOf, sigOf, gateCell, inputCell}
 use Rattle.signal.proofs.Cells.{signal-again, small-node, gate-cell, input-cell}
@@ -18,9 +18,8 @@ use Rattle.blif_model.specs.Blif.{Line, Cover}
 use Rattle.blif_model.specs.Names.{nameBytes}
 use Rattle.blif_model.specs.Write.{coverRow, colOf, linesOf, formBlock, isConst, unless, gateName, bare, bufBlock}
 use Rattle.blif_model.specs.Render.{spaced, line, cubeLine, field, latchLine, flopLine, storedLine}
-use Rattle.blif_names.specs.Text.{Appended}
 use Rattle.blif_cubes.specs.Lines.{linesText}
-use Rattle.blif_names.proofs.Laws.{Going, going-start, going-append, going-done}
+use Rattle.blif_names.proofs.Parts.{Parts}
 use Rattle.blif_put.specs.Blocks.{blockText, fieldText, flopText, storedText}
 
 -- ---- signals that the code makes
@@ -38,17 +37,11 @@ bare-signal b c h e = ap sigOf e ∙ signal-again (plain (nodeOf c)) (small-node
 
 -- ---- lines and words
 
-pub lines-append : (a b : List Bytes) → flatMap line (a ++ b) ≡ flatMap line a ++ flatMap line b
-unfolding flatMap
-lines-append [] b = refl
-lines-append (x ∷ a) b = ap (λ (l : Bytes). line x ++ l) (lines-append a b) ∙ sym (append-assoc (line x) (flatMap line a) (flatMap line b))
+spaced-append : (a b : List Bytes) → spaced (a ++ b) ≡ spaced a ++ spaced b
+unfolding spaced
+spaced-append a b = flatMap-append (λ (w : Bytes). 32 ∷ w) a b
 
-pub spaced-append : (a b : List Bytes) → spaced (a ++ b) ≡ spaced a ++ spaced b
-unfolding spaced flatMap
-spaced-append [] b = refl
-spaced-append (x ∷ a) b = ap (λ (l : Bytes). 32 ∷ (x ++ l)) (spaced-append a b) ∙ ap (λ (l : Bytes). 32 ∷ l) (sym (append-assoc x (spaced a) (spaced b)))
-
-pub cubes-text : (ls : List Line) → flatMap line (map cubeLine ls) ≡ linesText ls
+cubes-text : (ls : List Line) → flatMap line (map cubeLine ls) ≡ linesText ls
 unfolding flatMap
 cubes-text [] = refl
 cubes-text (l ∷ ls) = ap (λ (t : Bytes). line (cubeLine l) ++ t) (cubes-text ls)
@@ -188,27 +181,15 @@ module _ (v : Bool) (key : Bytes) (s : Signal) where
 
 -- ---- names one after the other
 
--- the names of the first i cells are written
-pub record Naming (cells o : Bytes) (a : ℕ) (p : Bytes) (at i : ℕ) : Type 0 where
-  pub within : i ≤ length cells
-  pub going : Going (spaced (map nameBytes (map sigOf cells))) (spaced (map nameBytes (map sigOf (drop i cells)))) o a p at
-
-pub naming-start : {cells o : Bytes} {a : ℕ} → a ≤ length o → Naming cells o a o a 0
-naming-start h = record { within = omega arith; going = going-start refl h }
-
-module _ {cells o p : Bytes} {a at i : ℕ} (c : Naming cells o a p at i) where
-  pub naming-next : {q : Bytes} {r : ℕ} → i < length cells → Appended (32 ∷ nameBytes (sigOf (getD cells i 0))) p at q r → Naming cells o a q r (i + 1)
-  unfolding spaced flatMap
-  naming-next h v =
-      let e : spaced (map nameBytes (map sigOf (drop i cells)))
-      ≡ (32 ∷ nameBytes (sigOf (getD cells i 0))) ++ spaced (map nameBytes (map sigOf (drop (i + 1) cells))) =
-      ap (λ (l : List ℕ). spaced (map nameBytes (map sigOf l)))
-      (drop-cons cells i 0 h ∙ ap (λ (k : ℕ). getD cells i 0 ∷ drop k cells) (sym (add-one i))) in
-      record { within = omega arith; going = going-append (c .going) e v }
-
-  pub naming-done : length cells ≤ i → Appended (spaced (map nameBytes (map sigOf cells))) o a p at
-  unfolding spaced flatMap
-  naming-done h = going-done (c .going) (ap (λ (l : List ℕ). spaced (map nameBytes (map sigOf l))) (drop-of-length-le cells h))
+-- each is a part of the text of all
+pub name-parts : (cells : List ℕ)
+    → Parts (length cells) (λ (i k : ℕ). spaced (map nameBytes (map sigOf (drop i cells)))) (λ (i : ℕ). 32 ∷ nameBytes (sigOf (getD cells i 0)))
+unfolding spaced flatMap
+name-parts cells =
+    record {
+      more = λ i k h. ap (λ (l : List ℕ). spaced (map nameBytes (map sigOf l))) (drop-cons cells i 0 h);
+      none = λ i h. ap (λ (l : List ℕ). spaced (map nameBytes (map sigOf l))) (drop-of-length-le cells h);
+    }
 
 -- ---- the covers of Nary and Buf gates
 

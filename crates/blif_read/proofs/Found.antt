@@ -4,6 +4,7 @@ use mathlib.Core.Bool.{Bool, true, false, not, _&&_, cond}
 use mathlib.Core.List.{List, [], _∷_, _++_, map, flatMap}
 use Prim.Native.Nat.{ℕ}
 use Rattle.lists.specs.Lists.{Bytes, all, known}
+use Rattle.lists.proofs.Range.{all-append}
 use Rattle.lists.proofs.Tests.{by-test, and-left, and-right, and-false}
 use Rattle.signal.specs.Cell.{sigCell}
 use Rattle.blif_text.specs.Decls.{Decl, ins, outs, defs, defines, usedNames}
@@ -22,14 +23,6 @@ all-map p f (x ∷ l) = ap (λ (b : Bool). p (f x) && b) (all-map p f l)
 all-same : {A : Type 0} (p q : A → Bool) → ((x : A) → p x ≡ q x) → (l : List A) → all p l ≡ all q l
 all-same p q h [] = refl
 all-same p q h (x ∷ l) = ap₂ (λ (a b : Bool). a && b) (h x) (all-same p q h l)
-
-and-assoc : (a b c : Bool) → (a && (b && c)) ≡ ((a && b) && c)
-and-assoc true b c = refl
-and-assoc false b c = refl
-
-all-append : {A : Type 0} (p : A → Bool) (l k : List A) → all p (l ++ k) ≡ (all p l && all p k)
-all-append p [] k = refl
-all-append p (x ∷ l) k = ap (λ (b : Bool). p x && b) (all-append p l k) ∙ and-assoc (p x) (all p l) (all p k)
 
 -- what is laid of elements that each have their own is laid of the others
 map-where : {A B : Type 0} (p : A → Bool) (f g : A → B) → ((x : A) → p x ≡ true → f x ≡ g x) → (l : List A) → all p l ≡ true → map f l ≡ map g l

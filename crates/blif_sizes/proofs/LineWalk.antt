@@ -8,6 +8,7 @@ use lib.ListN.{length, take, length-append}
 use lib.Seq.{slice, append-snoc, take-at}
 use Rattle.lists.specs.Lists.{Bytes}
 use Rattle.blif_text.specs.Decls.{cubes, decls}
+use Rattle.blif_text.specs.Statements.{Stmt}
 use Rattle.blif_text.specs.Places.{tokensOf}
 use Rattle.blif_text.specs.Walk.{rowsFrom, stmtsFrom, StmtsAt}
 use Rattle.blif_text.specs.declared.Statement.{Statement}
@@ -18,30 +19,26 @@ use Rattle.blif_sizes.specs.Rows.{Starts, RowIs, isCube, LinesAt}
 -- ---- a statement that is a cube line, and one that is none
 
 module _ (text tokens : List ℕ) (n at end : ℕ) where
-  cube-lines : (s : Statement) → Starts text tokens n at end s → isCube s ≡ true
-      → cubes (stmtsFrom text tokens n at) ≡ tokensOf text (slice at end tokens) ∷ cubes (stmtsFrom text tokens n end)
-  unfolding cubes
-  cube-lines place.Model e t = let z : _≡_ {A = ℕ} 0 1 = cc in absurd (omega arith)
-  cube-lines place.End e t = let z : _≡_ {A = ℕ} 0 1 = cc in absurd (omega arith)
-  cube-lines place.Exdc e t = let z : _≡_ {A = ℕ} 0 1 = cc in absurd (omega arith)
-  cube-lines (place.Inputs run) e t = let z : _≡_ {A = ℕ} 0 1 = cc in absurd (omega arith)
-  cube-lines (place.Outputs run) e t = let z : _≡_ {A = ℕ} 0 1 = cc in absurd (omega arith)
-  cube-lines (place.Names run) e t = let z : _≡_ {A = ℕ} 0 1 = cc in absurd (omega arith)
-  cube-lines (place.Latch first) e t = let z : _≡_ {A = ℕ} 0 1 = cc in absurd (omega arith)
-  cube-lines (place.Cube run) e t = ap cubes e
-  cube-lines (place.Refused m) e t = absurd e
+  cube-starts : (s : Statement) → Starts text tokens n at end s → isCube s ≡ true
+      → stmtsFrom text tokens n at ≡ Stmt.cube (tokensOf text (slice at end tokens)) ∷ stmtsFrom text tokens n end
+  cube-starts place.Model e t = let z : _≡_ {A = ℕ} 0 1 = cc in absurd (omega arith)
+  cube-starts place.End e t = let z : _≡_ {A = ℕ} 0 1 = cc in absurd (omega arith)
+  cube-starts place.Exdc e t = let z : _≡_ {A = ℕ} 0 1 = cc in absurd (omega arith)
+  cube-starts (place.Inputs run) e t = let z : _≡_ {A = ℕ} 0 1 = cc in absurd (omega arith)
+  cube-starts (place.Outputs run) e t = let z : _≡_ {A = ℕ} 0 1 = cc in absurd (omega arith)
+  cube-starts (place.Names run) e t = let z : _≡_ {A = ℕ} 0 1 = cc in absurd (omega arith)
+  cube-starts (place.Latch first) e t = let z : _≡_ {A = ℕ} 0 1 = cc in absurd (omega arith)
+  cube-starts (place.Cube run) e t = e
+  cube-starts (place.Refused m) e t = absurd e
 
-  cube-decls : (s : Statement) → Starts text tokens n at end s → isCube s ≡ true → decls (stmtsFrom text tokens n end) ≡ decls (stmtsFrom text tokens n at)
-  unfolding decls
-  cube-decls place.Model e t = let z : _≡_ {A = ℕ} 0 1 = cc in absurd (omega arith)
-  cube-decls place.End e t = let z : _≡_ {A = ℕ} 0 1 = cc in absurd (omega arith)
-  cube-decls place.Exdc e t = let z : _≡_ {A = ℕ} 0 1 = cc in absurd (omega arith)
-  cube-decls (place.Inputs run) e t = let z : _≡_ {A = ℕ} 0 1 = cc in absurd (omega arith)
-  cube-decls (place.Outputs run) e t = let z : _≡_ {A = ℕ} 0 1 = cc in absurd (omega arith)
-  cube-decls (place.Names run) e t = let z : _≡_ {A = ℕ} 0 1 = cc in absurd (omega arith)
-  cube-decls (place.Latch first) e t = let z : _≡_ {A = ℕ} 0 1 = cc in absurd (omega arith)
-  cube-decls (place.Cube run) e t = sym (ap decls e)
-  cube-decls (place.Refused m) e t = absurd e
+  module _ (s : Statement) (e : Starts text tokens n at end s) (t : isCube s ≡ true) where
+    cube-lines : cubes (stmtsFrom text tokens n at) ≡ tokensOf text (slice at end tokens) ∷ cubes (stmtsFrom text tokens n end)
+    unfolding cubes
+    cube-lines = ap cubes (cube-starts s e t)
+
+    cube-decls : decls (stmtsFrom text tokens n end) ≡ decls (stmtsFrom text tokens n at)
+    unfolding decls
+    cube-decls = sym (ap decls (cube-starts s e t))
 
   no-cube : (s : Statement) → Starts text tokens n at end s → isCube s ≡ false → cubes (stmtsFrom text tokens n at) ≡ []
   unfolding cubes

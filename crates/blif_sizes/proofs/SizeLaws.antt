@@ -1,7 +1,7 @@
 -- Sizes counted statement by statement. Assumes nothing.
 use mathlib.Core.Path.{_≡_, sym, ap, ap₂, _∙_, subst}
 use mathlib.Core.Bool.{Bool, true, false}
-use mathlib.Core.List.{List, [], _∷_, _++_, flatMap}
+use mathlib.Core.List.{List, _∷_, flatMap}
 use Prim.Native.Nat.{ℕ, _+_, _-_, _*_, _≤_, _<_}
 use native.Mathlib.Omega.{arith}
 use native.Mathlib.Nat.{mul-le-mul}
@@ -9,6 +9,7 @@ use lib.Dec.{ltb}
 use lib.ListN.{length, length-append}
 use borrow.Author.Tests.{lt-ltb, le-ltb}
 use Rattle.lists.specs.Lists.{if_then_else_, sumOf}
+use Rattle.lists.proofs.Counting.{sum-append}
 use Rattle.blif_text.specs.Decls.{Def, cover, Decl, model, end, inputs, outputs, gate, cubes, decls, insOf, outsOf, defsOf, ins, outs, defs}
 use Rattle.blif_text.specs.Walk.{stmtsFrom, StmtsAt}
 use Rattle.blif_text.specs.declared.Run.{Run}
@@ -40,20 +41,16 @@ module _ (w : Sizes) where
 
 -- ---- one declaration more
 
-sum-append : {A : Type 0} (f : A → ℕ) (l r : List A) → sumOf f (l ++ r) ≡ sumOf f l + sumOf f r
-sum-append f [] r = omega arith
-sum-append f (x ∷ l) r = omega (arith, sum-append f l r)
-
 module _ (d : Decl) (ds : List Decl) where
-  pub ins-cons : length (ins (d ∷ ds)) ≡ length (insOf d) + length (ins ds)
+  ins-cons : length (ins (d ∷ ds)) ≡ length (insOf d) + length (ins ds)
   unfolding ins flatMap
   ins-cons = length-append (insOf d) (flatMap insOf ds)
 
-  pub outs-cons : length (outs (d ∷ ds)) ≡ length (outsOf d) + length (outs ds)
+  outs-cons : length (outs (d ∷ ds)) ≡ length (outsOf d) + length (outs ds)
   unfolding outs flatMap
   outs-cons = length-append (outsOf d) (flatMap outsOf ds)
 
-  pub defs-cons : (f : Def → ℕ) → sumOf f (defs (d ∷ ds)) ≡ sumOf f (defsOf d) + sumOf f (defs ds)
+  defs-cons : (f : Def → ℕ) → sumOf f (defs (d ∷ ds)) ≡ sumOf f (defsOf d) + sumOf f (defs ds)
   unfolding defs flatMap
   defs-cons f = sum-append f (defsOf d) (flatMap defsOf ds)
 

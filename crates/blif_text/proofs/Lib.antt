@@ -7,9 +7,13 @@ pub mod WordLaws
 pub mod LineLaws
 pub mod RowLaws
 pub mod ScanBytes
-pub mod ScanLaws
+pub mod ScanSoFar
+pub mod ScanEnds
+pub mod ScanWords
+pub mod ScanGoesOn
 pub mod KeywordLaws
 pub mod StatementLaws
 pub mod ColumnLaws
 pub mod RowWalk
 pub mod RefusalLaws
+pub mod BlockLaws

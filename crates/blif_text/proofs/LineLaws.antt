@@ -8,13 +8,14 @@ use native.Mathlib.Numerals.{add-one}
 use lib.Dec.{eqb}
 use lib.ListN.{length, getD, take, drop, drop-of-length-le}
 use lib.Seq.{drop-cons, take-suc, take-take, drop-append-le, length-take-le, getD-take, getD-drop, slice, slice-empty, length-slice}
-use borrow.Author.Tests.{eqb-true, eq-eqb, ne-eqb}
+use borrow.Author.Tests.{eqb-true, eqb-false, eq-eqb, ne-eqb}
 use Rattle.lists.specs.Lists.{if_then_else_, Bytes, any}
-use Rattle.lists.proofs.Tests.{by-test, or-left, or-right}
-use Rattle.blif_text.specs.Lines.{lines, split, dropCR, cut, continues}
-use Rattle.blif_text.specs.Scan.{FirstTo}
+use Rattle.lists.proofs.Tests.{by-order, by-test, or-left, or-right}
+use Rattle.blif_text.specs.Lines.{lines, split, dropCR, cut, continues, tokens}
+use Rattle.blif_text.specs.Scan.{FirstTo, StopTo, at-lf, at-cr}
 use Rattle.blif_text.proofs.Parts.{Without}
-use Rattle.blif_text.proofs.Scan.{without-slice, slice-drop, chop, lines-at, lines-end}
+use Rattle.blif_text.proofs.Scan.{tokens-none, tokens-parted, without-slice, slice-drop, chop, lines-at, lines-end}
+use Rattle.blif_text.proofs.ScanBytes.{cr-blank}
 use Rattle.blif_text.proofs.WordLaws.{drop-take}
 
 -- ---- CR
@@ -27,7 +28,7 @@ chop-snoc (b ∷ d ∷ w) c =
     ap (λ (r : Bytes). b ∷ r) (chop-snoc (d ∷ w) c)
     ∙ by-test (eqb 13 c) (λ h. rw h) (λ h. rw h)
 
-slice-snoc : (t : Bytes) (a m : ℕ) → a ≤ m → m < length t → slice a (suc m) t ≡ slice a m t ++ getD t m 0 ∷ []
+pub slice-snoc : (t : Bytes) (a m : ℕ) → a ≤ m → m < length t → slice a (suc m) t ≡ slice a m t ++ getD t m 0 ∷ []
 slice-snoc t a m h k =
     ap (drop a) (take-suc t m 0 k) ∙ drop-append-le a (take m t) (getD t m 0 ∷ []) (rw (length-take-le m t (omega arith)) h)
 
@@ -40,6 +41,17 @@ pub record LineAt (t : Bytes) (at stop next : ℕ) : Type 0 where
   pub high : next ≤ length t
   -- "LF ends a line, and one CR directly before it goes too"
   pub is : lines (drop at t) ≡ slice at stop t ∷ lines (drop next t)
+
+-- the line from at on that the LF at end ends
+pub record LfLine (t : Bytes) (at end : ℕ) : Type 0 where
+  pub stop : ℕ
+  pub line : LineAt t at stop (end + 1)
+  pub near : stop ≤ end
+  pub stops : StopTo t stop (end + 1)
+  -- the CR is no token
+  pub same : tokens (slice at stop t) ≡ tokens (slice at end t)
+  -- and all that goes
+  pub holds : (k : ℕ) → k < end → (getD t k 0 ≡ 13 → ⊥) → k < stop
 
 pub lines-none : lines [] ≡ []
 unfolding lines split dropCR
@@ -72,7 +84,7 @@ module _ {t : Bytes} {at end : ℕ} (l : at < length t) (e : FirstTo (eqb 10) t 
         is = s ∙ rw (drop-of-length-le t {i = end} h, lines-none) (ap (λ (x : Bytes). x ∷ []) q);
       }
 
-  pub empty-line : end < length t → end ≡ at → LineAt t at end (end + 1)
+  empty-line : end < length t → end ≡ at → LineAt t at end (end + 1)
   empty-line h q =
       let n : slice at end t ≡ [] = ap (λ (k : ℕ). slice at k t) q ∙ slice-empty at t in
       record {
@@ -83,7 +95,7 @@ module _ {t : Bytes} {at end : ℕ} (l : at < length t) (e : FirstTo (eqb 10) t 
       }
 
   module _ (h : end < length t) (d : end ≡ at → ⊥) where
-    pub last-byte : slice at end t ≡ slice at (end - 1) t ++ getD t (end - 1) 0 ∷ []
+    last-byte : slice at end t ≡ slice at (end - 1) t ++ getD t (end - 1) 0 ∷ []
     last-byte =
         let q : end ≡ suc (end - 1) = omega (arith, e .passed .low) in
         ap (λ (k : ℕ). slice at k t) q ∙ slice-snoc t at (end - 1) (omega (arith, e .passed .low)) (omega arith)
@@ -112,6 +124,33 @@ module _ {t : Bytes} {at end : ℕ} (l : at < length t) (e : FirstTo (eqb 10) t 
               (ap chop last-byte ∙ chop-snoc (slice at (end - 1) t) (getD t (end - 1) 0)
               ∙ rw (ne-eqb 13 (getD t (end - 1) 0) (λ z. c (sym z))) (sym last-byte));
         }
+
+  -- an LF ends it, and it stops there or at the CR directly before
+  pub lf-line : end < length t → LfLine t at end
+  lf-line h =
+      let lf : getD t end 0 ≡ 10 = sym (eqb-true 10 (getD t end 0) (e .stop h)) in
+      let whole : LineAt t at end (end + 1) → LfLine t at end =
+      λ ln. record { stop = end; line = ln; near = omega arith; stops = at-lf h lf refl; same = refl; holds = λ k a b. a } in
+      by-order end at
+      (λ o. whole (empty-line h (omega (arith, e .passed .low))))
+      (λ o.
+      let d : end ≡ at → ⊥ = λ z. omega arith in
+      by-test (eqb 13 (getD t (end - 1) 0))
+      (λ x.
+      let cr : getD t (end - 1) 0 ≡ 13 = sym (eqb-true 13 (getD t (end - 1) 0) x) in
+      let n : end ≡ end - 1 + 1 = omega arith in
+      record {
+        stop = end - 1;
+        line = cr-line h d cr;
+        near = omega arith;
+        stops = at-cr (omega arith) cr (subst (λ (j : ℕ). getD t j 0 ≡ 10) n lf) (omega arith);
+        same =
+            sym (ap tokens (last-byte h d ∙ ap (λ (b : ℕ). slice at (end - 1) t ++ b ∷ []) cr)
+            ∙ tokens-parted (slice at (end - 1) t) 13 [] cr-blank
+            ∙ rw (tokens-none, append-nil));
+        holds = λ k a b. by-order (end - 1) k (λ u. let q : k ≡ end - 1 = omega arith in absurd (b (ap (λ (j : ℕ). getD t j 0) q ∙ cr))) (λ u. u);
+      })
+      (λ x. whole (plain-line h d (λ z. eqb-false 13 (getD t (end - 1) 0) x (sym z)))))
 
 -- ---- comments
 

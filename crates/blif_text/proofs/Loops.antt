@@ -1,22 +1,22 @@
 -- One step of each scanning loop. Assumes nothing.
 use mathlib.Core.Path.{_≡_, ap, _∙_, subst}
 use mathlib.Core.Bool.{Bool, true, false}
-use mathlib.Core.List.{List, [], _∷_}
-use Prim.Native.Nat.{ℕ, zero, suc, _+_, _-_, _≤_, _<_}
+use mathlib.Core.List.{List}
+use Prim.Native.Nat.{ℕ, _+_, _-_, _≤_, _<_}
 use native.Mathlib.Omega.{arith}
-use lib.ListN.{length, getD, take, drop, length-drop}
-use lib.Seq.{length-take-le, getD-take, getD-drop}
+use lib.ListN.{length, getD, take, drop}
+use lib.Seq.{getD-take, getD-drop}
 use Rattle.lists.specs.Lists.{Bytes, any}
-use Rattle.lists.proofs.Tests.{by-order, or-left, or-right}
+use Rattle.lists.proofs.Places.{length-run, place-mem, place-getD}
+use Rattle.lists.proofs.Range.{any-none}
+use Rattle.lists.proofs.Tests.{by-order}
 use Rattle.blif_text.specs.Places.{isFirst}
 use Rattle.blif_text.specs.PlacedStatements.{RowTo}
 use Rattle.blif_text.specs.Scan.{NoneTo, SpacesTo}
 
 -- where none passes, no element does
 none-passes : (p : ℕ → Bool) (l : List ℕ) → any p l ≡ false → (k : ℕ) → k < length l → p (getD l k 0) ≡ false
-none-passes p [] e k h = absurd (omega arith)
-none-passes p (x ∷ l) e zero h = or-left (p x) (any p l) e
-none-passes p (x ∷ l) e (suc k) h = none-passes p l (or-right (p x) (any p l) e) k (omega arith)
+none-passes p l e k h = any-none p l e (getD l k 0) (place-mem l k (getD l k 0) (place-getD 0 l k h))
 
 -- ---- words, lines and rows: bytes that fail a test so far
 
@@ -45,13 +45,22 @@ module _ {p : ℕ → Bool} {t : Bytes} {at i : ℕ} (c : NoneTo p t at i) where
             (λ o.
             let j : ℕ = k - i in
             let q : i + j ≡ k = omega arith in
-            let z : j < length (take n (drop i t)) = rw (length-take-le n (drop i t) (rw (length-drop i t) (omega arith))) (omega arith) in
+            let z : j < length (take n (drop i t)) = rw (length-run i n t h) (omega arith) in
             subst (λ (x : ℕ). p x ≡ false) (getD-take n (drop i t) j 0 (omega arith) ∙ getD-drop i t j 0 ∙ ap (λ (x : ℕ). getD t x 0) q) (none-passes p (take n (drop i t)) f j z))
             (λ o. c .none k a o);
       }
 
+-- two stretches, one after the other
+pub none-join : {p : ℕ → Bool} {t : Bytes} {a i e : ℕ} → NoneTo p t a i → NoneTo p t i e → NoneTo p t a e
+none-join {i = i} c d =
+    record { low = omega (arith, c .low, d .low); high = d .high; none = λ k x y. by-order i k (λ o. d .none k o y) (λ o. c .none k x o) }
+
+-- by a test that what fails the first one fails too
+pub none-as : {p q : ℕ → Bool} {t : Bytes} {a e : ℕ} → ((c : ℕ) → p c ≡ false → q c ≡ false) → NoneTo p t a e → NoneTo q t a e
+none-as {t = t} f c = record { low = c .low; high = c .high; none = λ k x y. f (getD t k 0) (c .none k x y) }
+
 pub spaces-start : {t : Bytes} {at : ℕ} → at ≤ length t → SpacesTo t at at
-spaces-start h = record { low = omega arith; high = h; spaces = λ k a b. absurd (let z : ⊥ = omega arith in z) }
+spaces-start h = record { low = omega arith; high = h; spaces = λ k a b. absurd (omega arith) }
 
 pub spaces-next : {t : Bytes} {at i : ℕ} → SpacesTo t at i → i < length t → getD t i 0 ≡ 32 → SpacesTo t at (i + 1)
 spaces-next {t} {at} {i} c h e =

@@ -96,17 +96,23 @@ rows-before : (ts us : List Bytes) (rs : List (List Bytes)) → before ts (us �
 unfolding before
 rows-before ts us rs = refl
 
+-- the cells of whole statements and of the open one are rows: those of the first, and one more
+placed-rows : {text cells : List ℕ} {count : ℕ} {fresh : Bool} {closed pending : List ℕ} → Placed text cells count fresh closed pending
+    → (grouped text (closed ++ pending) .loose ≡ []) × (grouped text (closed ++ pending) .rows ≡ grouped text closed .rows ++ oneRow (tokensOf text pending))
+placed-rows {text} {closed = closed} {pending} p =
+    let r = grouped-row text pending (p .firsts) in
+    let g = grouped-append text closed pending (r .0) in
+    (g .0 ∙ p .none-loose, g .1 ∙ ap (λ (x : List (List Bytes)). grouped text closed .rows ++ x) (r .1))
+
 -- a statement's cells are whole
 pub placed-closed : {text cells : List ℕ} {count : ℕ} {fresh : Bool} {closed pending : List ℕ} → Placed text cells count fresh closed pending → Placed text cells count true (closed ++ pending) []
 unfolding nonEmpty
-placed-closed {text} {closed = closed} {pending} p =
-    let r = grouped-row text pending (p .firsts) in
-    let g = grouped-append text closed pending (r .0) in
+placed-closed {closed = closed} {pending} p =
     record {
       room = p .room;
       so-far = p .so-far ∙ sym (append-nil (closed ++ pending));
       counted = p .counted ∙ ap length (sym (append-nil (closed ++ pending)));
-      none-loose = g .0 ∙ p .none-loose;
+      none-loose = placed-rows p .0;
       firsts = tt;
       fresh-is = refl;
       inside = p .inside;
@@ -127,9 +133,9 @@ scan-line {text} {cells} {at} {count} {fresh} {closed} {pending} s h f g p r =
       high = h;
       few = f;
       fewer = λ l e. g l;
-      line = λ k a b. absurd (let z : ⊥ = omega arith in z);
-      plain = λ k a b. absurd (let z : ⊥ = omega arith in z);
-      no-continuation = λ k a b e n t. let z : ⊥ = omega arith in z;
+      line = λ k a b. absurd (omega arith);
+      plain = λ k a b. absurd (omega arith);
+      no-continuation = λ k a b e n t. omega arith;
       closed = closed;
       pending = pending;
       added = [];
@@ -170,16 +176,14 @@ module _ {text : Bytes} {at stop next : ℕ} (ln : LineAt text at stop next) (pe
 
     pub line-ends : continues theLine ≡ false → tokensOf text added ≡ tokens (cut theLine) → Scanned text cells next count true
     line-ends c q =
-        let r = grouped-row text (pending ++ added) (p .firsts) in
-        let g = grouped-append text closed (pending ++ added) (r .0) in
         scan-line small (ln .high) few fewer (placed-closed p)
         (rest
         ∙ ap (λ (x : List (List Bytes)). grouped text closed .rows ++ x)
         (ap fullRows (rows-over c q)
         ∙ full-cons (tokensOf text (pending ++ added)) (lineRows (lines (drop next text)))
-        ∙ ap₂ (λ (x y : List (List Bytes)). x ++ y) (sym (r .1)) (sym (full-nothing (lineRows (lines (drop next text))))))
-        ∙ sym (append-assoc (grouped text closed .rows) (grouped text (pending ++ added) .rows) (fullRows (before [] (lineRows (lines (drop next text))))))
-        ∙ ap (λ (x : List (List Bytes)). x ++ fullRows (before [] (lineRows (lines (drop next text))))) (sym (g .1)))
+        ∙ ap (λ (x : List (List Bytes)). oneRow (tokensOf text (pending ++ added)) ++ x) (sym (full-nothing (lineRows (lines (drop next text))))))
+        ∙ sym (append-assoc (grouped text closed .rows) (oneRow (tokensOf text (pending ++ added))) (fullRows (before [] (lineRows (lines (drop next text))))))
+        ∙ ap (λ (x : List (List Bytes)). x ++ fullRows (before [] (lineRows (lines (drop next text))))) (sym (placed-rows p .1)))
 
 -- ---- the whole scan
 
@@ -198,12 +202,10 @@ scan-start {text} {cells} h k =
 pub placed-done : {text cells : List ℕ} {count : ℕ} {fresh : Bool} {closed pending : List ℕ} → count ≤ 16384 → Placed text cells count fresh closed pending
     → textRows text ≡ grouped text closed .rows ++ fullRows (tokensOf text pending ∷ []) → TokensMarked text cells count
 placed-done {text} {closed = closed} {pending} h p e =
-    let r = grouped-row text pending (p .firsts) in
-    let g = grouped-append text closed pending (r .0) in
     let o : oneRow (tokensOf text pending) ≡ fullRows (tokensOf text pending ∷ []) = unfold oneRow in refl in
     record {
       few = h;
-      rows = ap (λ (x : List ℕ). grouped text x .rows) (p .so-far) ∙ g .1 ∙ ap (λ (x : List (List Bytes)). grouped text closed .rows ++ x) (r .1 ∙ o) ∙ sym e;
-      none-loose = ap (λ (x : List ℕ). grouped text x .loose) (p .so-far) ∙ g .0 ∙ p .none-loose;
+      rows = ap (λ (x : List ℕ). grouped text x .rows) (p .so-far) ∙ placed-rows p .1 ∙ ap (λ (x : List (List Bytes)). grouped text closed .rows ++ x) o ∙ sym e;
+      none-loose = ap (λ (x : List ℕ). grouped text x .loose) (p .so-far) ∙ placed-rows p .0;
       inside = p .inside;
     }

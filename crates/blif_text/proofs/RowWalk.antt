@@ -8,7 +8,6 @@ use lib.ListN.{length, getD, take, drop}
 use lib.Seq.{slice, slice-empty, slice-cons, take-add, drop-drop}
 use Rattle.lists.specs.Lists.{Bytes}
 use Rattle.lists.proofs.Tests.{by-test, by-order}
-use Rattle.blif_text.specs.Rows.{textRows}
 use Rattle.blif_text.specs.Places.{isFirst, tokenOf, tokensOf, withToken, grouped, TokensMarked}
 use Rattle.blif_text.specs.Scan.{NoneFirst}
 use Rattle.blif_text.specs.PlacedStatements.{RowTo}
@@ -78,10 +77,6 @@ rows-cons text c cs ys e n l =
 -- before the first row
 pub rows-start : {text cells : List ℕ} {n : ℕ} → TokensMarked text cells n → n ≤ length cells → RowsAt text cells n 0
 rows-start m r = record { high = omega arith; places = record { room = r; inside = m .inside }; none-loose = m .none-loose }
-
--- all rows are the text's
-pub rows-all : {text cells : List ℕ} {n : ℕ} → TokensMarked text cells n → rowsFrom text cells n 0 ≡ textRows text
-rows-all m = m .rows
 
 module _ {text cells : List ℕ} {n at : ℕ} (c : RowsAt text cells n at) where
   -- behind the last row

@@ -1,8 +1,8 @@
 -- Parts of a text, the bytes that end words, and where lines stop. Assumes nothing.
 use mathlib.Core.Path.{_≡_, refl, sym, ap, _∙_}
 use mathlib.Core.Bool.{Bool, true, false, _||_, true≢false}
-use mathlib.Core.List.{[], _∷_, _++_}
-use Prim.Native.Nat.{ℕ, _+_, _-_, _≤_, _<_}
+use mathlib.Core.List.{List, [], _∷_, _++_, append-nil}
+use Prim.Native.Nat.{ℕ, _+_, _≤_, _<_}
 use native.Mathlib.Omega.{arith}
 use lib.Dec.{eqb, leb}
 use lib.ListN.{length, getD, take, drop}
@@ -10,7 +10,7 @@ use lib.Seq.{take-take, length-take-le, getD-take, slice, slice-empty}
 use borrow.Author.Tests.{ne-eqb, lt-leb}
 use Rattle.lists.specs.Lists.{Bytes}
 use Rattle.lists.proofs.Tests.{or-false, or-left, or-right, and-false}
-use Rattle.blif_text.specs.Lines.{lines, isBlank, tokens}
+use Rattle.blif_text.specs.Lines.{isBlank, tokens}
 use Rattle.blif_text.specs.Scan.{endsWord, StopTo, at-end, at-lf, at-cr, StopOf}
 use Rattle.blif_text.proofs.Scan.{tokens-none, tokens-at, slice-drop}
 
@@ -34,6 +34,9 @@ word-tokens t i e z h k l f g =
 
 pub no-tokens : (t : Bytes) (i : ℕ) → tokens (slice i i t) ≡ []
 no-tokens t i = ap tokens (slice-empty i t) ∙ tokens-none
+
+pub no-more : (ts : List Bytes) (t : Bytes) (i : ℕ) → ts ++ tokens (slice i i t) ≡ ts
+no-more ts t i = ap (λ (l : List Bytes). ts ++ l) (no-tokens t i) ∙ append-nil ts
 
 -- ---- bytes
 
@@ -89,7 +92,7 @@ no-stop t k next h f (at-cr l e d q) = is-not (getD t k 0) 13 cr-blank f e
 
 -- no line stops at a place: what the code finds
 pub none-stops : {t : Bytes} {k : ℕ} → k < length t → (getD t k 0 ≡ 10 → ⊥) → (k + 1 < length t → getD t k 0 ≡ 13 → getD t (k + 1) 0 ≡ 10 → ⊥) → StopOf t k 0
-none-stops {t} {k} h f g = record { none = λ z. no; some = λ l. absurd (let z : ⊥ = omega arith in z) }
+none-stops {t} {k} h f g = record { none = λ z. no; some = λ l. absurd (omega arith) }
   where
     no : (next : ℕ) → StopTo t k next → ⊥
     no next (at-end l q) = let z : ⊥ = omega arith in z
@@ -97,7 +100,7 @@ none-stops {t} {k} h f g = record { none = λ z. no; some = λ l. absurd (let z 
     no next (at-cr l e d q) = g l e d
 
 pub one-stops : {t : Bytes} {k r : ℕ} → 0 < r → StopTo t k r → StopOf t k r
-one-stops h s = record { none = λ z. absurd (let y : ⊥ = omega arith in y); some = λ l. s }
+one-stops h s = record { none = λ z. absurd (omega arith); some = λ l. s }
 
 pub stop-le : (t : Bytes) (k next : ℕ) → StopTo t k next → k ≤ next
 stop-le t k next (at-end l q) = omega arith

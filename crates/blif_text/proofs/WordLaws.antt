@@ -6,7 +6,7 @@ use Prim.Native.Nat.{ℕ, zero, suc, _+_, _-_, _*_, _^_, _≤_, _<_}
 use native.Mathlib.Omega.{arith}
 use native.Mathlib.Numerals.{add-one}
 use lib.ListN.{length, getD, take, drop, set, length-set, length-append}
-use lib.Seq.{take-suc-set, getD-set-same, getD-set-other, slice}
+use lib.Seq.{take-nil, take-suc-set, getD-set-same, getD-set-other, slice}
 use borrow.Author.Tests.{le-leb, lt-leb}
 use Rattle.lists.specs.Lists.{Bytes}
 use Rattle.lists.proofs.Tests.{by-order}
@@ -32,11 +32,7 @@ module _ (s l : ℕ) (hs : s < 32768) (hl : l ≤ 32768) where
 pub drop-take : (i e : ℕ) (l : Bytes) → drop i (take e l) ≡ take (e - i) (drop i l)
 drop-take zero e l = let q : e ≡ e - 0 = omega arith in ap (λ (k : ℕ). take k l) q
 drop-take (suc i) zero l = let q : 0 ≡ 0 - suc i = omega arith in ap (λ (k : ℕ). take k (drop (suc i) l)) q
-drop-take (suc i) (suc e) [] = sym (none (suc e - suc i))
-  where
-    none : (k : ℕ) → _≡_ {A = Bytes} (take k []) []
-    none zero = refl
-    none (suc k) = refl
+drop-take (suc i) (suc e) [] = sym (take-nil (suc e - suc i))
 drop-take (suc i) (suc e) (x ∷ l) =
     let q : e - i ≡ suc e - suc i = omega arith in
     drop-take i e l ∙ ap (λ (k : ℕ). take k (drop i l)) q
@@ -85,6 +81,6 @@ module _ {text cells : List ℕ} {count : ℕ} {fresh : Bool} {closed pending : 
             let y : getD (set cells count x) k 0 ≡ x = ap (λ (j : ℕ). getD (set cells count x) j 0) e ∙ getD-set-same cells count x 0 h in
             subst (λ (v : ℕ). tokenStart v + tokenLength v ≤ length text) (sym y) (omega (arith, start, len)))
             (λ o.
-            let y : getD (set cells count x) k 0 ≡ getD cells k 0 = getD-set-other cells count k x 0 (λ e. let z : ⊥ = omega arith in z) in
+            let y : getD (set cells count x) k 0 ≡ getD cells k 0 = getD-set-other cells count k x 0 (λ e. omega arith) in
             subst (λ (v : ℕ). tokenStart v + tokenLength v ≤ length text) (sym y) (p .inside k o));
       }

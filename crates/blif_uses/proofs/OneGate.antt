@@ -5,9 +5,11 @@ use mathlib.Core.List.{List, [], _∷_, _++_, map}
 use Prim.Native.Nat.{ℕ, zero, suc, _+_, _-_, _*_, _≤_, _<_}
 use native.Mathlib.Omega.{arith}
 use lib.ListN.{length, getD, take, drop, set, length-take, length-drop, length-map}
-use lib.Seq.{slice, drop-cons, getD-take, getD-drop}
+use lib.Seq.{slice, drop-cons, getD-take, getD-drop, length-slice}
 use Rattle.lists.specs.Lists.{Bytes, all, overAt}
-use Rattle.lists.proofs.OverAt.{overAt-nil, over-first, over-append, part-laid}
+use Rattle.lists.proofs.OverAt.{over-three, part-laid}
+use Rattle.lists.proofs.Places.{run-within}
+use Rattle.lists.proofs.Laying.{one-store}
 use Rattle.gates.specs.Gate.{AndN}
 use Rattle.gates.specs.Forms.{formNumber, flopNumber}
 use Rattle.network.specs.Cells.{gateWidth}
@@ -15,22 +17,11 @@ use Rattle.blif_text.specs.Places.{tokenOf, tokensOf}
 use Rattle.blif_text.specs.Walk.{rowsFrom, Inside}
 use Rattle.blif_text.specs.Decls.{Def, latch, cover, coverIns, usedNames}
 use Rattle.blif_text.specs.Blocks.{firstName, nameCount, lineCount, defFrom, defAt, Blocks}
+use Rattle.blif_text.proofs.BlockLaws.{cover-from}
 use Rattle.blif_model.specs.Working.{placedCount}
 use Rattle.blif_uses.specs.Resolve.{isFound, Resolved}
 use Rattle.blif_uses.specs.Steps.{NamesAt, GateRoom, GatePlaced, DefPlaced}
 use Rattle.blif_uses.specs.declared.Placed.{Placed}
-
--- ---- the pins
-
--- a cell laid, then two stores
-two-more : (k x y z : ℕ) (o : List ℕ) → set (set (overAt k (x ∷ []) o) (k + 1) y) (k + 2) z ≡ overAt k (x ∷ y ∷ z ∷ []) o
-two-more k x y z o =
-    let p : List ℕ = overAt k (x ∷ []) o in
-    let e : k + 2 ≡ suc (k + 1) = omega arith in
-    sym
-    (over-append k (x ∷ []) (y ∷ z ∷ []) o ∙ over-first (k + 1) y (z ∷ []) p ∙ over-first (suc (k + 1)) z [] (set p (k + 1) y)
-    ∙ overAt-nil (suc (suc (k + 1))) (set (set p (k + 1) y) (suc (k + 1)) z)
-    ∙ sym (ap (λ (i : ℕ). set (set p (k + 1) y) i z) e))
 
 -- ---- the names by their tokens
 
@@ -129,21 +120,12 @@ latch-placed {sig} {x = x} {at = at} {pinsIn = pinsIn} w n t m g =
       found = all-found sig at pinsIn w n t u;
       end = λ v. refl;
       records = λ v. g;
-      runs = λ v. ap (λ (l : List ℕ). set (set l (at + 1) 1) (at + 2) 0) (names-laid sig at pinsIn w n t u) ∙ two-more at (sig x) 1 0 pinsIn;
+      runs = λ v.
+          ap (λ (l : List ℕ). set (set l (at + 1) 1) (at + 2) 0) (names-laid sig at pinsIn w n t u ∙ sym (one-store at (sig x) pinsIn))
+          ∙ over-three at (sig x) 1 0 pinsIn;
     }
 
 -- ---- the block's definition
-
--- the names before the last
-slice-front : (f m : ℕ) (l : List ℕ) → take m (slice f (f + suc m) l) ≡ take m (drop f l)
-slice-front zero m l = let e : zero + suc m ≡ suc m = omega arith in ap (λ (k : ℕ). take m (take k l)) e ∙ front m l
-  where
-    front : (m : ℕ) (l : List ℕ) → take m (take (suc m) l) ≡ take m l
-    front zero l = refl
-    front (suc m) [] = refl
-    front (suc m) (x ∷ l) = ap (λ (r : List ℕ). x ∷ r) (front m l)
-slice-front (suc f) m [] = let e : suc f + suc m ≡ suc (f + suc m) = omega arith in ap (λ (k : ℕ). take {A = ℕ} m (drop (suc f) (take k []))) e
-slice-front (suc f) m (x ∷ l) = let e : suc f + suc m ≡ suc (f + suc m) = omega arith in ap (λ (k : ℕ). take m (drop (suc f) (take k (x ∷ l)))) e ∙ slice-front f m l
 
 take-map : {A B : Type 0} (g : A → B) (m : ℕ) (l : List A) → take m (map g l) ≡ map g (take m l)
 take-map g zero l = refl
@@ -158,11 +140,8 @@ module _ {text tokens : List ℕ} {n : ℕ} {blocks : List ℕ} {f c : ℕ} (j :
   latch-is : c ≡ 0 → defAt text tokens n blocks j ≡ latch (tokenOf text (getD tokens f 0)) (tokenOf text (getD tokens (f + 1) 0))
   latch-is z = def-is ∙ ap (λ (k : ℕ). defFrom text tokens n f k (lineCount blocks j)) z
 
-  cover-is : (c ≡ 0 → ⊥) → defAt text tokens n blocks j
-      ≡ cover (tokensOf text (slice f (f + suc (c - 1)) tokens)) (take (lineCount blocks j) (rowsFrom text tokens n (f + suc (c - 1))))
-  cover-is z =
-      let e : c ≡ suc (c - 1) = omega arith in
-      def-is ∙ ap (λ (k : ℕ). defFrom text tokens n f k (lineCount blocks j)) e
+  cover-is : (c ≡ 0 → ⊥) → defAt text tokens n blocks j ≡ cover (tokensOf text (slice f (f + c) tokens)) (take (lineCount blocks j) (rowsFrom text tokens n (f + c)))
+  cover-is z = def-is ∙ cover-from text tokens n f c (lineCount blocks j) z
 
   names-among : (count : ℕ) → f + count ≤ n → NamesAt text tokens f count
   names-among count l = record { room = omega (arith, b .places .room); inside = λ i u. b .places .inside (f + i) (omega arith) }
@@ -173,18 +152,17 @@ module _ {text tokens : List ℕ} {n : ℕ} {blocks : List ℕ} {f c : ℕ} (j :
   pub cover-names : (c ≡ 0 → ⊥) → NamesAt text tokens f (c - 1)
   cover-names z = names-among (c - 1) (omega (arith, b .each j (omega arith) .coverNames))
 
-  all-length : (c ≡ 0 → ⊥) → length (tokensOf text (slice f (f + suc (c - 1)) tokens)) ≡ c
-  all-length z =
-      let l : f + c ≤ n = omega (arith, b .each j (omega arith) .coverNames) in
-      let e : length (drop f (take (f + suc (c - 1)) tokens)) ≡ c = omega (arith, length-drop f (take (f + suc (c - 1)) tokens), length-take (f + suc (c - 1)) tokens, b .places .room) in
-      length-map (slice f (f + suc (c - 1)) tokens) (tokenOf text) ∙ e
+  all-length : length (tokensOf text (slice f (f + c) tokens)) ≡ c
+  all-length =
+      let l : f + c ≤ length tokens = omega (arith, b .each j (omega arith) .coverNames, b .places .room) in
+      length-map (slice f (f + c) tokens) (tokenOf text) ∙ length-slice f (f + c) tokens l ∙ omega arith
 
-  ins-are : (c ≡ 0 → ⊥) → coverIns (tokensOf text (slice f (f + suc (c - 1)) tokens)) ≡ tokensOf text (take (c - 1) (drop f tokens))
+  ins-are : coverIns (tokensOf text (slice f (f + c) tokens)) ≡ tokensOf text (take (c - 1) (drop f tokens))
   unfolding coverIns
-  ins-are z =
-      let ns : List Bytes = tokensOf text (slice f (f + suc (c - 1)) tokens) in
-      ap (λ (k : ℕ). take (k - 1) ns) (all-length z) ∙ take-map (tokenOf text) (c - 1) (slice f (f + suc (c - 1)) tokens)
-      ∙ ap (tokensOf text) (slice-front f (c - 1) tokens)
+  ins-are =
+      ap (λ (k : ℕ). take (k - 1) (tokensOf text (slice f (f + c) tokens))) all-length
+      ∙ take-map (tokenOf text) (c - 1) (slice f (f + c) tokens)
+      ∙ ap (tokensOf text) (run-within f (c - 1) (f + c) tokens (omega arith))
 
   module _ {gates pinsIn : List ℕ} {at : ℕ} where
     pub latch-room : GateRoom gates pinsIn j at (placedCount (defAt text tokens n blocks j)) → c ≡ 0 → GateRoom gates pinsIn j at 3
@@ -192,7 +170,7 @@ module _ {text tokens : List ℕ} {n : ℕ} {blocks : List ℕ} {f c : ℕ} (j :
 
     pub cover-room : GateRoom gates pinsIn j at (placedCount (defAt text tokens n blocks j)) → (c ≡ 0 → ⊥) → GateRoom gates pinsIn j at (c - 1)
     cover-room m z =
-        let e : placedCount (defAt text tokens n blocks j) ≡ c - 1 = ap placedCount (cover-is z) ∙ ap (λ (k : ℕ). k - 1) (all-length z) in
+        let e : placedCount (defAt text tokens n blocks j) ≡ c - 1 = ap placedCount (cover-is z) ∙ ap (λ (k : ℕ). k - 1) all-length in
         rw e at m
 
     module _ {sig : Bytes → ℕ} {gates′ pinsIn′ : List ℕ} {r : Placed} where
@@ -207,4 +185,4 @@ module _ {text tokens : List ℕ} {n : ℕ} {blocks : List ℕ} {f c : ℕ} (j :
       unfolding usedNames
       cover-def z p =
           subst (λ (d : Def). DefPlaced sig d j at gates pinsIn gates′ pinsIn′ r) (sym (cover-is z))
-          (subst (λ (ns : List Bytes). GatePlaced sig (formNumber AndN) ns (map sig ns) j at gates pinsIn gates′ pinsIn′ r) (sym (ins-are z)) p)
+          (subst (λ (ns : List Bytes). GatePlaced sig (formNumber AndN) ns (map sig ns) j at gates pinsIn gates′ pinsIn′ r) (sym ins-are) p)

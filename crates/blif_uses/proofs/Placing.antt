@@ -3,17 +3,16 @@ use mathlib.Core.Path.{_≡_, refl, sym, ap, ap₂, _∙_}
 use mathlib.Core.Bool.{Bool, true, false, _&&_, true≢false}
 use mathlib.Core.List.{List, [], _∷_, _++_, map, flatMap, map-append}
 use mathlib.Core.Option.{some}
-use Prim.Native.Nat.{ℕ, suc, _+_, _-_, _*_, _≤_, _<_}
+use Prim.Native.Nat.{ℕ, _+_, _-_, _*_, _≤_, _<_}
 use native.Mathlib.Omega.{arith}
 use native.Mathlib.Nat.{sub-zero}
-use native.Mathlib.Numerals.{add-one}
 use native.Mathlib.Decide.{ℕ-discrete}
 use lib.ListN.{length, getElem?, length-take, length-map}
 use Rattle.lists.specs.Lists.{Bytes, all, range, sumOf, overAt}
 use Rattle.lists.proofs.Tests.{and-left, and-right}
 use Rattle.lists.proofs.OverAt.{length-overAt}
 use Rattle.lists.proofs.Places.{map-map, place-lt}
-use Rattle.lists.proofs.Range.{map-range, length-range}
+use Rattle.lists.proofs.Range.{all-append, map-range, length-range, range-cons, range-end}
 use Rattle.signal.specs.Signal.{Signal}
 use Rattle.signal.specs.Cell.{sigCell}
 use Rattle.gates.specs.Gate.{Gate, pins}
@@ -76,17 +75,7 @@ abbrev from : (ℕ → Def) → ℕ → ℕ → List Def
 from def g j = map def (range j (g - j))
 
 from-cons : (def : ℕ → Def) (g j : ℕ) → j < g → from def g j ≡ def j ∷ from def g (j + 1)
-from-cons def g j h =
-    let e : g - j ≡ suc (g - (j + 1)) = omega arith in
-    ap (λ (k : ℕ). map def (range j k)) e ∙ ap (λ (m : ℕ). def j ∷ map def (range m (g - (j + 1)))) (sym (add-one j))
-
-all-append : (p : ℕ → Bool) (a b : List ℕ) → all p (a ++ b) ≡ (all p a && all p b)
-all-append p [] b = refl
-all-append p (x ∷ a) b = go (p x) (all-append p a b)
-  where
-    go : (t : Bool) → all p (a ++ b) ≡ (all p a && all p b) → (t && all p (a ++ b)) ≡ ((t && all p a) && all p b)
-    go true e = e
-    go false e = refl
+from-cons def g j h = ap (map def) (range-cons g j h)
 
 -- whether the names are found that these definitions use
 abbrev allFound : (Bytes → ℕ) → List Def → Bool
@@ -185,7 +174,7 @@ module _ {sig : Bytes → ℕ} {def : ℕ → Def} {g : ℕ} {gates₀ pinsIn₀
 
   pub placing-done : g ≤ j → PlacedBy sig (map def (range 0 g)) gates pinsIn (record { found = true; pins = at })
   placing-done h =
-      let e : from def g j ≡ [] = let z : g - j ≡ 0 = omega arith in ap (λ (k : ℕ). map def (range j k)) z in
+      let e : from def g j ≡ [] = ap (map def) (range-end g j h) in
       record {
         found = sym (ap (allFound sig) e ∙ found-nil sig) ∙ c .found;
         pins = λ t. omega (arith, c .counted, ap (sumOf placedCount) e);

@@ -1,46 +1,19 @@
 -- The names of the inputs, and the text before the latches. Assumes nothing.
-use mathlib.Core.Path.{_≡_, sym, _∙_, ap, ap₂}
+use mathlib.Core.Path.{_≡_, refl, sym, _∙_, ap}
 use mathlib.Core.List.{List, _∷_, _++_, map, flatMap, append-assoc}
-use Prim.Native.Nat.{ℕ, suc, _+_, _-_, _≤_, _<_}
-use native.Mathlib.Nat.{sub-zero}
-use native.Mathlib.Numerals.{add-one}
-use native.Mathlib.Omega.{arith}
-use lib.ListN.{length}
+use Prim.Native.Nat.{ℕ}
 use Rattle.lists.specs.Lists.{Bytes, bytes}
 use Rattle.signal.specs.Signal.{Input, Signal, plain}
-use Rattle.signal.specs.Cell.{sigOf, inputCell}
 use Rattle.blif_model.specs.Write.{inputNames}
 use Rattle.blif_model.specs.Names.{nameBytes}
 use Rattle.blif_model.specs.Render.{spaced, line}
-use Rattle.blif_names.specs.Text.{Appended}
-use Rattle.blif_names.proofs.Laws.{Going, going-start, going-append, going-done}
+use Rattle.blif_names.proofs.Parts.{Parts}
 use Rattle.blif_write.specs.Parts.{headText}
-use Rattle.blif_put.proofs.Texts.{input-signal}
 
--- the names of the inputs before i are written
-pub record Inputs (n : ℕ) (o : Bytes) (a : ℕ) (p : Bytes) (at i : ℕ) : Type 0 where
-  pub within : i ≤ n
-  pub few : n ≤ 256
-  pub going : Going (spaced (inputNames nameBytes 0 n)) (spaced (inputNames nameBytes i (n - i))) o a p at
-
-pub inputs-start : {n : ℕ} {o : Bytes} {a : ℕ} → n ≤ 256 → a ≤ length o → Inputs n o a o a 0
-inputs-start {n} f h =
-    record { within = omega arith; few = f; going = going-start (ap (λ (k : ℕ). spaced (inputNames nameBytes 0 k)) (sub-zero n)) h }
-
-module _ {n : ℕ} {o : Bytes} {a : ℕ} {p : Bytes} {at i : ℕ} (c : Inputs n o a p at i) where
-  pub inputs-next : {q : Bytes} {r s : ℕ} → i < n → s ≡ inputCell i → Appended (32 ∷ nameBytes (sigOf s)) p at q r → Inputs n o a q r (i + 1)
-  unfolding spaced flatMap
-  inputs-next {s = s} h e v =
-      let k : n - i ≡ suc (n - (i + 1)) = omega arith in
-      let j : sigOf s ≡ plain (Input i) = input-signal s i (omega (arith, c .few)) e in
-      let t : spaced (inputNames nameBytes i (n - i)) ≡ (32 ∷ nameBytes (sigOf s)) ++ spaced (inputNames nameBytes (i + 1) (n - (i + 1))) =
-      ap (λ (l : ℕ). spaced (inputNames nameBytes i l)) k
-      ∙ ap₂ (λ (l : ℕ) (x : Signal). (32 ∷ nameBytes x) ++ spaced (inputNames nameBytes l (n - (i + 1)))) (sym (add-one i)) (sym j) in
-      record { within = omega arith; few = c .few; going = going-append (c .going) t v }
-
-  pub inputs-done : n ≤ i → Appended (spaced (inputNames nameBytes 0 n)) o a p at
-  unfolding spaced flatMap
-  inputs-done h = let k : n - i ≡ 0 = omega arith in going-done (c .going) (ap (λ (l : ℕ). spaced (inputNames nameBytes i l)) k)
+-- an input's name is a part of the text of all
+pub input-parts : (n : ℕ) → Parts n (λ (i k : ℕ). spaced (inputNames nameBytes i k)) (λ (i : ℕ). 32 ∷ nameBytes (plain (Input i)))
+unfolding spaced flatMap
+input-parts n = record { more = λ i k h. refl; none = λ i h. refl }
 
 -- ---- the text before the latches
 

@@ -2,7 +2,6 @@ pub mod Covers
 pub mod Walks
 pub mod Heads
 pub mod Told
-pub mod GateMarks
 pub mod Used
 pub mod Whole
 pub mod Answers

@@ -1,6 +1,6 @@
 -- The marks say which signals are used inverted, and the inverters written by them are those of the network. Assumes nothing.
 use mathlib.Core.Path.{_≡_, refl, sym, _∙_, ap, ap₂}
-use mathlib.Core.Bool.{Bool, true, false, not, _&&_, _||_, cond}
+use mathlib.Core.Bool.{Bool, true, false, not, _&&_, _||_, cond, or-assoc}
 use mathlib.Core.List.{List, [], _∷_, _++_, map, flatMap, append-assoc}
 use mathlib.Core.Option.{Option, none, some}
 use Prim.Native.Nat.{ℕ, zero, suc, _+_, _≤_, _<_}
@@ -10,17 +10,17 @@ use lib.ListN.{length, getD, set, replicate, length-replicate, getD-replicate}
 use lib.Seq.{getD-set-same, getD-set-other}
 use borrow.Author.Tests.{eqb-true, eqb-false}
 use Rattle.lists.specs.Lists.{Bytes, if_then_else_, filter, range}
+use Rattle.lists.proofs.Places.{flatMap-append}
 use Rattle.lists.proofs.Tests.{by-test, and-true, and-false}
 use Rattle.signal.specs.Signal.{Node, Const, Input, Gated, Signal}
 use Rattle.gates.specs.Gate.{Gate}
 use Rattle.network.specs.Net.{Net}
 use Rattle.blif_model.specs.Names.{nameBytes}
 use Rattle.blif_model.specs.Write.{sameNode, usedAmong, named, usedIn, inverted, downTo, inverterBlock}
-use Rattle.blif_model.specs.Render.{blockLines, allLines}
+use Rattle.blif_model.specs.Render.{line, blockLines, allLines}
 use Rattle.blif_put.specs.Blocks.{blockText}
 use Rattle.blif_write.specs.Parts.{blocksText, invertersText}
 use Rattle.blif_inverters.specs.Marks.{gateOf, inputOf, marked, markAll, namedIn, inverterAt, gateInverters, inputInverters}
-use Rattle.blif_put.proofs.Texts.{lines-append}
 use Rattle.blif_inverters.proofs.Marking.{marked-length}
 
 -- ---- marks and uses
@@ -79,15 +79,11 @@ input-same Const i = refl
 input-same (Input j) i = refl
 input-same (Gated g) i = refl
 
-or-assoc : (a b c : Bool) → (a || (b || c)) ≡ ((a || b) || c)
-or-assoc true b c = refl
-or-assoc false b c = refl
-
 used-append : (n : Node) (a b : List Signal) → usedAmong n (a ++ b) ≡ (usedAmong n a || usedAmong n b)
 used-append n [] b = refl
 used-append n (s ∷ a) b =
     ap (λ (x : Bool). (s .inv && sameNode (s .node) n) || x) (used-append n a b)
-    ∙ or-assoc (s .inv && sameNode (s .node) n) (usedAmong n a) (usedAmong n b)
+    ∙ sym (or-assoc (s .inv && sameNode (s .node) n) (usedAmong n a) (usedAmong n b))
 
 used-named : (n : Node) (xs : List Gate) → usedAmong n (namedIn xs) ≡ usedIn n xs
 used-named n [] = refl
@@ -111,7 +107,7 @@ passing-is f (n ∷ ns) = ap (λ (t : Bytes). cond (f n) (blockText (inverterBlo
   where
     go : (b : Bool) → cond b (blockText (inverterBlock nameBytes n)) [] ++ blocksText (map (inverterBlock nameBytes) (filter f ns))
         ≡ blocksText (map (inverterBlock nameBytes) (if b then n ∷ filter f ns else filter f ns))
-    go true = sym (lines-append (blockLines (inverterBlock nameBytes n)) (allLines (map (inverterBlock nameBytes) (filter f ns))))
+    go true = sym (flatMap-append line (blockLines (inverterBlock nameBytes n)) (allLines (map (inverterBlock nameBytes) (filter f ns))))
     go false = refl
 
 passing-append : (f : Node → Bool) (a b : List Node) → passing f (a ++ b) ≡ passing f a ++ passing f b

@@ -1,6 +1,6 @@
 -- The whole text, and what `write_blif` answers. Assumes nothing.
-use mathlib.Core.Path.{_≡_, refl, sym, _∙_, ap, ap₂}
-use mathlib.Core.Bool.{Bool, true, false, _||_}
+use mathlib.Core.Path.{_≡_, sym, _∙_, ap, ap₂}
+use mathlib.Core.Bool.{Bool, true, false, _||_, or-true}
 use mathlib.Core.List.{List, [], _∷_, _++_, map, flatMap, append-assoc}
 use Prim.Native.Nat.{ℕ, zero, suc, _-_, _^_, _≤_, _<_, min}
 use native.Mathlib.Nat.{sub-zero}
@@ -10,7 +10,9 @@ use lib.ListN.{length, getD, take, drop, length-append, length-drop, length-repl
 use lib.Seq.{take-append-le, length-take-le}
 use borrow.Author.Tests.{lt-ltb, le-ltb}
 use Rattle.lists.specs.Lists.{if_then_else_, Bytes, bytes, zeros, any, over}
+use Rattle.lists.proofs.Places.{flatMap-append}
 use Rattle.lists.proofs.Over.{length-over, over-is, take-over}
+use Rattle.lists.proofs.OverAt.{part-is, part-back}
 use Rattle.lists.proofs.Tests.{by-order}
 use Rattle.network.specs.Net.{Net}
 use Rattle.network.specs.Cells.{Lent, isNetwork, netOf}
@@ -20,11 +22,9 @@ use Rattle.blif_model.specs.Names.{nameBytes}
 use Rattle.blif_model.specs.Write.{latchBlocks, combBlocks, inverterBlock, inverters, wide, inputNames}
 use Rattle.blif_model.specs.Render.{line, allLines, headLines, textOf}
 use Rattle.blif_names.specs.Text.{Wrote}
-use Rattle.blif_names.proofs.Laws.{part-back, part-is}
 use Rattle.blif_write.specs.Into.{writeOutcome, refusedText, writtenText, tooLong, writeInto}
 use Rattle.blif_write.specs.declared.WriteAnswer.the-variants.{Written}
 use Rattle.blif_write.specs.Parts.{latchesText, coversText, headText, Readable, invertersText, Writable}
-use Rattle.blif_put.proofs.Texts.{lines-append}
 
 -- ---- the whole text
 
@@ -42,10 +42,10 @@ whole-text net =
     let ts : List Bytes = bytes ".names vdd" ∷ bytes "1" ∷ bytes ".names gnd" ∷ [] in
     let h : Bytes = headText (net .inputs) (net .outputs) in
     to-right h (flatMap line ls) (bytes "\n") (flatMap line cs) (flatMap line is) (bytes ".names vdd\n1\n.names gnd\n")
-    ∙ ap (λ (t : Bytes). h ++ (flatMap line ls ++ (bytes "\n" ++ (flatMap line cs ++ t)))) (sym (lines-append is ts))
-    ∙ ap (λ (t : Bytes). h ++ (flatMap line ls ++ (bytes "\n" ++ t))) (sym (lines-append cs (is ++ ts)))
-    ∙ ap (λ (t : Bytes). h ++ t) (sym (lines-append ls ([] ∷ (cs ++ (is ++ ts)))))
-    ∙ sym (lines-append (headLines (inputNames nameBytes 0 (net .inputs)) (map nameBytes (net .outputs))) (ls ++ ([] ∷ (cs ++ (is ++ ts)))))
+    ∙ ap (λ (t : Bytes). h ++ (flatMap line ls ++ (bytes "\n" ++ (flatMap line cs ++ t)))) (sym (flatMap-append line is ts))
+    ∙ ap (λ (t : Bytes). h ++ (flatMap line ls ++ (bytes "\n" ++ t))) (sym (flatMap-append line cs (is ++ ts)))
+    ∙ ap (λ (t : Bytes). h ++ t) (sym (flatMap-append line ls ([] ∷ (cs ++ (is ++ ts)))))
+    ∙ sym (flatMap-append line (headLines (inputNames nameBytes 0 (net .inputs)) (map nameBytes (net .outputs))) (ls ++ ([] ∷ (cs ++ (is ++ ts)))))
 
 -- ---- what refusal 20 leaves
 
@@ -78,10 +78,6 @@ module _ (l : Lent) (n : ℕ) where
 
   pub answers-written : Writable l → tooLong (textOf (netOf l)) n ≡ false → writtenText (textOf (netOf l)) n ≡ writeInto l n
   answers-written w e = ap (λ (b : Bool). if b then refusedText 22 n else writtenText (textOf (netOf l)) n) (sym e) ∙ answers-text w
-
-or-true : (b : Bool) → (b || true) ≡ true
-or-true true = refl
-or-true false = refl
 
 -- the two limits are one
 too-long : (t : Bytes) (n : ℕ) → min n maxText < length t → tooLong t n ≡ true
@@ -133,7 +129,7 @@ module _ (t o q : Bytes) (room end : ℕ) (r : room ≡ min (length o) maxText) 
         let p : Bytes = q ++ drop room o in
         let k : length (take (length p - end) (drop end p)) ≡ length o - length t =
         ap length (part-is end p) ∙ length-drop end p ∙ omega (arith, after-length, end-is) in
-        part-back end p z (omega (arith, after-length, r))
+        part-back end p z
         ∙ ap₂ (λ (a b : Bytes). a ++ b) text-kept (e ∙ ap zeros k ∙ sym (drop-zeros (length t) (length o)))
         ∙ sym (over-is t (zeros (length o)) (omega (arith, end-is, r, length-replicate {A = ℕ} (length o) 0)))
 

@@ -1,19 +1,17 @@
 -- Form numbers and pin counts, both ways. Assumes nothing.
 use mathlib.Core.Path.{_≡_, refl, sym, ap, _∙_, subst}
-use mathlib.Core.Bool.{Bool, true, false, cond, false≢true}
+use mathlib.Core.Bool.{true, false, false≢true}
 use mathlib.Core.List.{List, [], _∷_}
-use mathlib.Core.Option.{Option, none, some}
-use mathlib.Core.Logic.{⊎-elim}
-use Prim.Native.Nat.{ℕ, zero, suc, _+_, _≤_, _<_}
+use mathlib.Core.Option.{some, Option·none-ne-some}
+use Prim.Native.Nat.{ℕ, _≤_, _<_}
 use native.Mathlib.Omega.{arith}
 use lib.Dec.{eqb}
-use lib.ListN.{length, getD, List·getD-eq-default}
+use lib.ListN.{length, List·getD-eq-default}
 use borrow.Author.Tests.{eqb-true}
-use Rattle.lists.specs.Lists.{all, range}
 use Rattle.lists.proofs.Range.{range-all}
-use Rattle.lists.proofs.Tests.{by-test, le-or-lt}
+use Rattle.lists.proofs.Tests.{by-test, by-order}
 use Rattle.signal.specs.Signal.{Signal}
-use Rattle.gates.specs.Gate.{Form, And2, Xor2, And3, Xor3, Maj3, Mux3, AndN, OrN, NandN, NorN, XorN, XnorN, Buf, FlipFlop, Gate, Comb, Dff, pins, isComb}
+use Rattle.gates.specs.Gate.{Form, And2, Xor2, And3, Xor3, Maj3, Mux3, AndN, OrN, NandN, NorN, XorN, XnorN, Buf, Gate, Comb, Dff, pins, isComb}
 use Rattle.gates.specs.Forms.{formNumber, formCell, canHave, formed, binaryForm, ternaryForm, naryForm, kinds, kindOf, kindNumber, kindTakes, combFrom, flopFrom, gateOfKind, gateFrom}
 use Rattle.gates.specs.Decode.{kindComb}
 use Rattle.gates.specs.declared.Kind.{Kind}
@@ -125,16 +123,16 @@ comb-from f ps g e = by-test (canHave f (length ps)) yes-case no-case
         rw (sym r) (record { number = refl; all-pins = refl; good = t })
 
     no-case : canHave f (length ps) ≡ false → From (formNumber f) ps g
-    no-case t = let q : none ≡ some g = sym (rw t) ∙ e in absurd (let z : _≡_ {A = ℕ} 0 1 = cc in omega arith)
+    no-case t = absurd (Option·none-ne-some g (sym (rw t) ∙ e))
 
 flop-from : (ps : List Signal) (g : Gate) → flopFrom ps ≡ some g → From 14 ps g
-flop-from [] g e = absurd (let z : _≡_ {A = ℕ} 0 1 = cc in omega arith)
-flop-from (d ∷ []) g e = absurd (let z : _≡_ {A = ℕ} 0 1 = cc in omega arith)
-flop-from (d ∷ n ∷ []) g e = absurd (let z : _≡_ {A = ℕ} 0 1 = cc in omega arith)
+flop-from [] g e = absurd (Option·none-ne-some g e)
+flop-from (d ∷ []) g e = absurd (Option·none-ne-some g e)
+flop-from (d ∷ n ∷ []) g e = absurd (Option·none-ne-some g e)
 flop-from (d ∷ n ∷ r ∷ []) g e =
     let q : Dff (record { dataIn = d; enable = n; reset = r }) ≡ g = cc in
     rw (sym q) (record { number = refl; all-pins = refl; good = refl })
-flop-from (d ∷ n ∷ r ∷ s ∷ ps) g e = absurd (let z : _≡_ {A = ℕ} 0 1 = cc in omega arith)
+flop-from (d ∷ n ∷ r ∷ s ∷ ps) g e = absurd (Option·none-ne-some g e)
 
 kind-from : (k : Kind) (ps : List Signal) (g : Gate) → gateOfKind k ps ≡ some g → From (kindNumber k) ps g
 kind-from (K.Binary t) ps g e = comb-from (binaryForm t) ps g e
@@ -142,19 +140,17 @@ kind-from (K.Ternary t) ps g e = comb-from (ternaryForm t) ps g e
 kind-from (K.Nary t) ps g e = comb-from (naryForm t) ps g e
 kind-from K.Buf ps g e = comb-from Buf ps g e
 kind-from K.Dff ps g e = flop-from ps g e
-kind-from K.Unknown ps g e = absurd (let z : _≡_ {A = ℕ} 0 1 = cc in omega arith)
+kind-from K.Unknown ps g e = absurd (Option·none-ne-some g e)
 
 pub gate-from : (n : ℕ) (ps : List Signal) (g : Gate) → gateFrom n ps ≡ some g → From n ps g
 unfolding gateFrom
-gate-from n ps g e = ⊎-elim small large (le-or-lt n 14)
+gate-from n ps g e = by-order n 14 small large
   where
     small : n ≤ 14 → From n ps g
     small h = subst (λ (m : ℕ). From m ps g) (number-again n h) (kind-from (kindOf n) ps g e)
 
     large : 14 < n → From n ps g
-    large h =
-        let q : none ≡ some g = sym (ap (λ (k : Kind). gateOfKind k ps) (number-unknown n h)) ∙ e in
-        absurd (let z : _≡_ {A = ℕ} 0 1 = cc in omega arith)
+    large h = absurd (Option·none-ne-some g (sym (ap (λ (k : Kind). gateOfKind k ps) (number-unknown n h)) ∙ e))
 
 -- a kind and as many pins as it can have give a gate
 comb-made : (f : Form) (ps : List Signal) → canHave f (length ps) ≡ true → (x : Gate) × (combFrom f ps ≡ some x)

@@ -1,25 +1,22 @@
 -- How often a number stands in a list, and sums over the numbers below n. Assumes nothing.
-use Prim.Native.Nat.{ℕ, zero, suc, _+_, _-_, _≤_, _<_}
+use Prim.Native.Nat.{ℕ, zero, suc, _+_, _≤_, _<_}
 use native.Mathlib.Omega.{arith}
 use native.Mathlib.Nat.{eq-or-lt-of-le, le-of-suc-le-suc}
 use native.Mathlib.Decide.{ℕ-discrete}
-use mathlib.Core.Bool.{Bool, true, false, cond}
 use mathlib.Core.Logic.{_⊎_, inl, inr, ⊎-elim}
 use mathlib.Core.List.{List, [], _∷_, _++_, List·Memᴰ, List·Memᴰ·head, List·Memᴰ·tail}
-use mathlib.Core.Path.{_≡_, refl, sym, ap, _∙_, subst}
-use lib.Dec.{eqb}
+use mathlib.Core.Path.{_≡_, refl, sym, ap, _∙_}
 use borrow.Author.Tests.{eq-eqb, ne-eqb}
-use lib.ListN.{length, getD, length-append, List·getD-append}
-use lib.Seq.{getD-at}
-use Rattle.lists.specs.Lists.{hit, occ, sumTo, listTo}
-
-pub hit-same : (v : ℕ) → hit v v ≡ 1
-unfolding hit
-hit-same v = rw (eq-eqb v v refl)
+use lib.ListN.{length, getD, length-append, List·getD-append, set}
+use lib.Seq.{getD-at, getD-set-same, getD-set-other}
+use Rattle.lists.specs.Lists.{hit, occ, sumOf, sumTo, listTo}
 
 pub hit-eq : {v x : ℕ} → v ≡ x → hit v x ≡ 1
 unfolding hit
 hit-eq {v} {x} e = rw (eq-eqb v x e)
+
+pub hit-same : (v : ℕ) → hit v v ≡ 1
+hit-same v = hit-eq refl
 
 pub hit-ne : {v x : ℕ} → (v ≡ x → ⊥) → hit v x ≡ 0
 unfolding hit
@@ -33,9 +30,22 @@ hit-or v x = go (ℕ-discrete v x)
     go (yes e) = inl (e, hit-eq e)
     go (no e) = inr (e, hit-ne e)
 
+-- a cell changed by a function, read at any place
+pub set-hit : (f : ℕ → ℕ) (c : List ℕ) (d v : ℕ) → d < length c
+    → ((hit v d ≡ 1) × (getD (set c d (f (getD c d 0))) v 0 ≡ f (getD c v 0))) ⊎ ((hit v d ≡ 0) × (getD (set c d (f (getD c d 0))) v 0 ≡ getD c v 0))
+set-hit f c d v l =
+    ⊎-elim
+    (λ w. inl (w .1, rw (w .0) (getD-set-same c d (f (getD c d 0)) 0 l)))
+    (λ w. inr (w .1, getD-set-other c d v (f (getD c d 0)) 0 (w .0)))
+    (hit-or v d)
+
 pub occ-append : (v : ℕ) (a b : List ℕ) → occ v (a ++ b) ≡ occ v a + occ v b
 occ-append v [] b = omega arith
 occ-append v (x ∷ a) b = omega (arith, occ-append v a b)
+
+pub sum-append : {A : Type 0} (f : A → ℕ) (a b : List A) → sumOf f (a ++ b) ≡ sumOf f a + sumOf f b
+sum-append f [] b = omega arith
+sum-append f (x ∷ a) b = omega (arith, sum-append f a b)
 
 pub sum-cong : (n : ℕ) (f g : ℕ → ℕ) → ((v : ℕ) → v < n → f v ≡ g v) → sumTo n f ≡ sumTo n g
 sum-cong zero f g h = refl
@@ -53,6 +63,11 @@ pub sum-add : (n : ℕ) (f g : ℕ → ℕ) → sumTo n (λ v. f v + g v) ≡ su
 sum-add zero f g = refl
 sum-add (suc n) f g = omega (arith, sum-add n f g)
 
+-- the first part, and the others
+pub sum-head : (k : ℕ) (f : ℕ → ℕ) → sumTo (suc k) f ≡ f 0 + sumTo k (λ i. f (suc i))
+sum-head zero f = omega arith
+sum-head (suc k) f = omega (arith, sum-head k f)
+
 -- below suc n: n, or below n
 pub last-or : {v n : ℕ} → v < suc n → (v ≡ n) ⊎ (v < n)
 last-or l = eq-or-lt-of-le (le-of-suc-le-suc l)
@@ -61,11 +76,27 @@ pub zero-or : (k : ℕ) → (k ≡ 0) ⊎ (0 < k)
 zero-or zero = inl refl
 zero-or (suc k) = inr (omega arith)
 
+-- one of the two, where the other is ruled out
+pub is-zero : {k : ℕ} → (0 < k → ⊥) → k ≡ 0
+is-zero f = omega arith
+
+pub is-over : {k : ℕ} → (k ≡ 0 → ⊥) → 0 < k
+is-over f = omega arith
+
 -- each part is at most the sum
 pub part-le : (n : ℕ) (f : ℕ → ℕ) (v : ℕ) → v < n → f v ≤ sumTo n f
 part-le zero f v l = omega arith
 part-le (suc n) f v l =
     ⊎-elim (λ e. omega (arith, ap f e)) (λ h. omega (arith, part-le n f v h)) (last-or l)
+
+-- the sum of the first k is at most that of the first n
+pub front-le : (f : ℕ → ℕ) (n k : ℕ) → k ≤ n → sumTo k f ≤ sumTo n f
+front-le f zero k l = let e : k ≡ 0 = omega arith in omega (arith, ap (λ (m : ℕ). sumTo m f) e)
+front-le f (suc n) k l =
+    ⊎-elim
+    (λ e. omega (arith, ap (λ (m : ℕ). sumTo m f) e))
+    (λ w. omega (arith, front-le f n k (omega arith)))
+    (last-or {v = k} {n = suc n} (omega arith))
 
 -- a sum that is not 0 has a part that is not 0
 pub part-of : (n : ℕ) (f : ℕ → ℕ) → 0 < sumTo n f → (v : ℕ) × (v < n) × (0 < f v)
@@ -124,6 +155,10 @@ sum-occ n (x ∷ l) h =
       sum-occ n l (λ v w. h v (omega arith)),
     )
 
+-- a list of numbers below n, each in it at most once, has at most n elements
+pub once-short : (n : ℕ) (l : List ℕ) → ((v : ℕ) → 0 < occ v l → v < n) → ((v : ℕ) → occ v l ≤ 1) → length l ≤ n
+once-short n l h once = omega (arith, sum-occ n l h, sum-le n (λ v. occ v l) (λ v u. once v))
+
 -- ---- a number that stands in a list is an element of it
 
 pub occ-mem : (v : ℕ) (l : List ℕ) → 0 < occ v l → List·Memᴰ v l
@@ -160,17 +195,12 @@ pub sum-mono : (n : ℕ) (f g : ℕ → ℕ) → ((v : ℕ) → v < n → f v �
 sum-mono zero f g h = omega arith
 sum-mono (suc n) f g h = omega (arith, sum-mono n f g (λ v l. h v (omega arith)), h n (omega arith))
 
--- f of each element, added up
-abbrev pub sumOver : (ℕ → ℕ) → List ℕ → ℕ
-sumOver f [] = 0
-sumOver f (x ∷ l) = f x + sumOver f l
-
 -- k times x
 abbrev rep : ℕ → ℕ → ℕ
 rep zero x = 0
 rep (suc k) x = x + rep k x
 
-sum-rep : (n : ℕ) (f : ℕ → ℕ) (l : List ℕ) → ((v : ℕ) → 0 < occ v l → v < n) → sumTo n (λ v. rep (occ v l) (f v)) ≡ sumOver f l
+sum-rep : (n : ℕ) (f : ℕ → ℕ) (l : List ℕ) → ((v : ℕ) → 0 < occ v l → v < n) → sumTo n (λ v. rep (occ v l) (f v)) ≡ sumOf f l
 sum-rep n f [] h = sum-zero n (λ v. 0) (λ v w. refl)
 sum-rep n f (x ∷ l) h =
     let r = sum-rep n f l (λ v p. h v (omega arith)) in
@@ -185,7 +215,7 @@ sum-rep n f (x ∷ l) h =
     )
 
 -- a list that holds every number below n once has the sum of all below n
-pub sum-perm : (n : ℕ) (f : ℕ → ℕ) (l : List ℕ) → ((v : ℕ) → 0 < occ v l → v < n) → ((v : ℕ) → v < n → occ v l ≡ 1) → sumOver f l ≡ sumTo n f
+pub sum-perm : (n : ℕ) (f : ℕ → ℕ) (l : List ℕ) → ((v : ℕ) → 0 < occ v l → v < n) → ((v : ℕ) → v < n → occ v l ≡ 1) → sumOf f l ≡ sumTo n f
 sum-perm n f l h e =
     sym (sum-rep n f l h)
     ∙ sum-cong n (λ v. rep (occ v l) (f v)) f (λ v b. let q : rep (occ v l) (f v) ≡ f v + 0 = ap (λ (k : ℕ). rep k (f v)) (e v b) in omega arith)

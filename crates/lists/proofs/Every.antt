@@ -2,9 +2,8 @@
 use mathlib.Core.Path.{_≡_, refl, ap₂, subst}
 use mathlib.Core.Bool.{Bool, true, false, _||_}
 use mathlib.Core.List.{List, [], _∷_, _++_, map}
-use mathlib.Core.Option.{some}
+use mathlib.Core.Option.{some, Option·none-ne-some}
 use Prim.Native.Nat.{ℕ, zero, suc}
-use native.Mathlib.Omega.{arith}
 use lib.ListN.{getElem?}
 use Rattle.lists.specs.Lists.{all, any}
 use Rattle.lists.proofs.Tests.{and-left, and-right, or-left, or-right}
@@ -28,7 +27,7 @@ module _ {A : Type 0} {P : A → Type 0} where
 
   -- what every element has, the one at a place has
   pub every-place : {l : List A} → Every P l → (i : ℕ) (x : A) → getElem? l i ≡ some x → P x
-  every-place every-nil i x e = absurd (let z : _≡_ {A = ℕ} 0 1 = cc in omega arith)
+  every-place every-nil i x e = absurd (Option·none-ne-some x e)
   every-place (every-cons {x = y} h hs) zero x e = let q : y ≡ x = cc in subst P q h
   every-place (every-cons h hs) (suc i) x e = every-place hs i x e
 

@@ -7,8 +7,10 @@ pub mod Twice
 pub mod Find
 pub mod Any
 pub mod Counting
+pub mod FirstPlace
 pub mod Over
 pub mod OverAt
+pub mod Laying
 pub mod Once
 pub mod Every
 pub mod Known

@@ -3,9 +3,9 @@ use mathlib.Core.Path.{_≡_, refl, sym, ap, _∙_}
 use mathlib.Core.List.{List, [], _∷_, _++_, append-nil}
 use Prim.Native.Nat.{ℕ, zero, suc, _+_, _-_, _≤_, _<_}
 use native.Mathlib.Omega.{arith}
-use native.Mathlib.Nat.{suc-add}
+use native.Mathlib.Nat.{suc-add, add-zero}
 use lib.ListN.{length, getD, take, drop, set, length-drop, drop-of-length-le}
-use lib.Seq.{take-all}
+use lib.Seq.{take-all, getD-take, getD-drop}
 use Rattle.lists.specs.Lists.{over, overAt}
 use Rattle.lists.proofs.Over.{length-over, take-over}
 
@@ -49,23 +49,6 @@ over-three k x y z o =
 
 -- ---- cells read back
 
--- a cell before what is laid
-pub overAt-before : (k : ℕ) (t o : List ℕ) (j d : ℕ) → j < k → getD (overAt k t o) j d ≡ getD o j d
-overAt-before zero t o j d h = absurd (omega arith)
-overAt-before (suc k) t [] j d h = refl
-overAt-before (suc k) t (y ∷ o) zero d h = refl
-overAt-before (suc k) t (y ∷ o) (suc j) d h = overAt-before k t o j d (omega arith)
-
--- a cell behind it
-pub overAt-behind : (k : ℕ) (t o : List ℕ) (j d : ℕ) → k + length t ≤ j → getD (overAt k t o) j d ≡ getD o j d
-overAt-behind zero [] o j d h = refl
-overAt-behind zero (x ∷ t) [] j d h = refl
-overAt-behind zero (x ∷ t) (y ∷ o) zero d h = absurd (omega arith)
-overAt-behind zero (x ∷ t) (y ∷ o) (suc j) d h = overAt-behind zero t o j d (omega arith)
-overAt-behind (suc k) t [] j d h = refl
-overAt-behind (suc k) t (y ∷ o) zero d h = absurd (omega arith)
-overAt-behind (suc k) t (y ∷ o) (suc j) d h = overAt-behind k t o j d (omega arith)
-
 -- a cell of it
 pub overAt-inside : (k : ℕ) (t o : List ℕ) (i d : ℕ) → i < length t → k + i < length o → getD (overAt k t o) (k + i) d ≡ getD t i d
 overAt-inside zero [] o i d h l = absurd (omega arith)
@@ -95,6 +78,18 @@ drop-behind (suc k) t [] a h = refl
 drop-behind (suc k) t (y ∷ o) zero h = absurd (omega arith)
 drop-behind (suc k) t (y ∷ o) (suc a) h = drop-behind k t o a (omega arith)
 
+-- a cell before it
+pub overAt-before : (k : ℕ) (t o : List ℕ) (j d : ℕ) → j < k → getD (overAt k t o) j d ≡ getD o j d
+overAt-before k t o j d h =
+    sym (getD-take k (overAt k t o) j d h) ∙ ap (λ (l : List ℕ). getD l j d) (run-before k t o 0 k (omega arith)) ∙ getD-take k o j d h
+
+-- a cell behind it
+pub overAt-behind : (k : ℕ) (t o : List ℕ) (j d : ℕ) → k + length t ≤ j → getD (overAt k t o) j d ≡ getD o j d
+overAt-behind k t o j d h = sym (getD-front j (overAt k t o) d) ∙ ap (λ (l : List ℕ). getD l 0 d) (drop-behind k t o j h) ∙ getD-front j o d
+  where
+    getD-front : (n : ℕ) (l : List ℕ) (e : ℕ) → getD (drop n l) 0 e ≡ getD l n e
+    getD-front n l e = rw (getD-drop, add-zero)
+
 -- it can be read back
 pub run-overAt : (k : ℕ) (t o : List ℕ) → k + length t ≤ length o → take (length t) (drop k (overAt k t o)) ≡ t
 run-overAt zero t o h = take-over t o (omega arith)
@@ -107,11 +102,17 @@ overAt-rest zero t o h = refl
 overAt-rest (suc k) t [] h = absurd (omega arith)
 overAt-rest (suc k) t (y ∷ o) h = ap (λ (l : List ℕ). y ∷ l) (overAt-rest k t o (omega arith))
 
--- the cells from k on, lent as a part (`&mut o[k..]`), with a list laid over their front
+-- the cells from k on, lent as a part (`&mut o[k..]`)
+pub part-is : (k : ℕ) (o : List ℕ) → take (length o - k) (drop k o) ≡ drop k o
+part-is k o = take-all (length o - k) (drop k o) (omega (arith, length-drop k o))
+
+-- and put back with other contents
+pub part-back : (k : ℕ) (o q : List ℕ) → take k o ++ (q ++ drop (length o - k) (drop k o)) ≡ take k o ++ q
+part-back k o q =
+    let g : length (drop k o) ≤ length o - k = omega (arith, length-drop k o) in
+    rw (drop-of-length-le (drop k o) g, append-nil q)
+
+-- with a list laid over its front
 pub part-laid : (k : ℕ) (t o : List ℕ) {q : List ℕ} → k ≤ length o → q ≡ over t (take (length o - k) (drop k o))
     → take k o ++ (q ++ drop (length o - k) (drop k o)) ≡ overAt k t o
-part-laid k t o {q} h e =
-    let g : length (drop k o) ≤ length o - k = omega (arith, length-drop k o) in
-    let d : drop (length o - k) (drop k o) ≡ [] = drop-of-length-le (drop k o) g in
-    let x : take (length o - k) (drop k o) ≡ drop k o = take-all (length o - k) (drop k o) g in
-    ap (λ (l : List ℕ). take k o ++ l) (ap (λ (l : List ℕ). q ++ l) d ∙ append-nil q ∙ e ∙ ap (over t) x) ∙ overAt-rest k t o h
+part-laid k t o {q} h e = part-back k o q ∙ ap (λ (l : List ℕ). take k o ++ l) (e ∙ ap (over t) (part-is k o)) ∙ overAt-rest k t o h

@@ -1,21 +1,23 @@
 -- Elements by their place in a list. Assumes nothing.
 use mathlib.Core.Path.{_≡_, refl, sym, ap, ap₂, _∙_, subst}
-use mathlib.Core.List.{List, [], _∷_, _++_, map, List·Memᴰ, List·Memᴰ·head, List·Memᴰ·tail}
-use mathlib.Core.Option.{Option, none, some}
+use mathlib.Core.List.{List, [], _∷_, _++_, map, flatMap, append-assoc, List·Memᴰ, List·Memᴰ·head, List·Memᴰ·tail}
+use mathlib.Core.Option.{Option, none, some, Option·none-ne-some}
 use mathlib.Core.Logic.{_⊎_, inl, inr}
 use Prim.Native.Nat.{ℕ, zero, suc, _+_, _≤_, _<_}
 use native.Mathlib.Omega.{arith}
 use native.Mathlib.Nat.{zero-add, add-zero, add-suc, suc-add}
-use lib.ListN.{length, getD, getElem?, take, drop, length-map, length-take}
+use lib.ListN.{length, getD, getElem?, take, drop, length-map, length-take, length-drop}
+use lib.Seq.{take-take, drop-cons, length-take-le, take-append-seam, drop-append-seam}
+use native.Mathlib.Numerals.{add-one}
 
 module _ {A : Type 0} where
   pub place-lt : (l : List A) (n : ℕ) (x : A) → getElem? l n ≡ some x → n < length l
-  place-lt [] n x e = absurd (let z : _≡_ {A = ℕ} 0 1 = cc in omega arith)
+  place-lt [] n x e = absurd (Option·none-ne-some x e)
   place-lt (y ∷ l) zero x e = omega arith
   place-lt (y ∷ l) (suc n) x e = let h : n < length l = place-lt l n x e in omega arith
 
   pub place-mem : (l : List A) (n : ℕ) (x : A) → getElem? l n ≡ some x → List·Memᴰ x l
-  place-mem [] n x e = absurd (let z : _≡_ {A = ℕ} 0 1 = cc in omega arith)
+  place-mem [] n x e = absurd (Option·none-ne-some x e)
   place-mem (y ∷ l) zero x e = List·Memᴰ·head {x = y} (cc)
   place-mem (y ∷ l) (suc n) x e = List·Memᴰ·tail (place-mem l n x e)
 
@@ -29,7 +31,7 @@ module _ {A : Type 0} where
   lt-place (y ∷ l) (suc n) h = lt-place l n (omega arith)
 
   pub place-left : (l m : List A) (n : ℕ) (x : A) → getElem? l n ≡ some x → getElem? (l ++ m) n ≡ some x
-  place-left [] m n x e = absurd (let z : _≡_ {A = ℕ} 0 1 = cc in omega arith)
+  place-left [] m n x e = absurd (Option·none-ne-some x e)
   place-left (y ∷ l) m zero x e = e
   place-left (y ∷ l) m (suc n) x e = place-left l m n x e
 
@@ -46,20 +48,25 @@ module _ {A B : Type 0} where
   map-map f g [] = refl
   map-map {C} f g (x ∷ l) = ap (λ (m : List C). f (g x) ∷ m) (map-map f g l)
 
+  pub flatMap-append : (f : A → List B) (l m : List A) → flatMap f (l ++ m) ≡ flatMap f l ++ flatMap f m
+  unfolding flatMap
+  flatMap-append f [] m = refl
+  flatMap-append f (x ∷ l) m = ap (λ (r : List B). f x ++ r) (flatMap-append f l m) ∙ sym (append-assoc (f x) (flatMap f l) (flatMap f m))
+
   pub map-place : (f : A → B) (l : List A) (n : ℕ) (x : A) → getElem? l n ≡ some x → getElem? (map f l) n ≡ some (f x)
-  map-place f [] n x e = absurd (let z : _≡_ {A = ℕ} 0 1 = cc in omega arith)
+  map-place f [] n x e = absurd (Option·none-ne-some x e)
   map-place f (y ∷ l) zero x e = cc
   map-place f (y ∷ l) (suc n) x e = map-place f l n x e
 
   -- a place of the map is one of the list
   pub map-at : (f : A → B) (l : List A) (n : ℕ) (y : B) → getElem? (map f l) n ≡ some y → (x : A) × (getElem? l n ≡ some x) × (f x ≡ y)
-  map-at f [] n y e = absurd (let z : _≡_ {A = ℕ} 0 1 = cc in omega arith)
+  map-at f [] n y e = absurd (Option·none-ne-some y e)
   map-at f (x ∷ l) zero y e = (x, refl, cc)
   map-at f (x ∷ l) (suc n) y e = map-at f l n y e
 
 module _ {A : Type 0} where
   pub getD-place : (d : A) (l : List A) (i : ℕ) (x : A) → getElem? l i ≡ some x → getD l i d ≡ x
-  getD-place d [] i x e = absurd (let z : _≡_ {A = ℕ} 0 1 = cc in omega arith)
+  getD-place d [] i x e = absurd (Option·none-ne-some x e)
   getD-place d (y ∷ l) zero x e = cc
   getD-place d (y ∷ l) (suc i) x e = getD-place d l i x e
 
@@ -68,9 +75,7 @@ module _ {A : Type 0} where
 
   -- within the list the element that stands for one past the end does not matter
   pub getD-any : (l : List A) (i : ℕ) (d e : A) → i < length l → getD l i d ≡ getD l i e
-  getD-any [] i d e h = absurd (omega arith)
-  getD-any (x ∷ l) zero d e h = refl
-  getD-any (x ∷ l) (suc i) d e h = getD-any l i d e (omega arith)
+  getD-any l i d e h = getD-place d l i (getD l i e) (place-getD e l i h)
 
   -- two lists are equal by their places
   pub ext-place : (l m : List A) → length l ≡ length m → ((i : ℕ) (x : A) → getElem? l i ≡ some x → getElem? m i ≡ some x) → l ≡ m
@@ -84,8 +89,23 @@ module _ {A : Type 0} where
 -- ---- cut lists
 
 module _ {A : Type 0} where
+  -- what is left, as a loop goes on
+  pub drop-next : (l : List A) (i : ℕ) (d : A) → i < length l → drop i l ≡ getD l i d ∷ drop (i + 1) l
+  drop-next l i d h = rw add-one (drop-cons l i d h)
+
+  -- equal joins of equally long first parts have equal parts
+  pub same-parts : (a c : List A) {b d : List A} → length a ≡ length c → a ++ b ≡ c ++ d → (a ≡ c) × (b ≡ d)
+  same-parts a c {b} {d} l e = (
+    sym (take-append-seam a b) ∙ ap₂ take l e ∙ take-append-seam c d,
+    sym (drop-append-seam a b) ∙ ap₂ drop l e ∙ drop-append-seam c d,
+  )
+
+  -- a run of k elements that ends within the list
+  pub length-run : (n k : ℕ) (l : List A) → n + k ≤ length l → length (take k (drop n l)) ≡ k
+  length-run n k l h = length-take-le k (drop n l) (rw (length-drop n l) (omega arith))
+
   pub place-take : (n : ℕ) (l : List A) (i : ℕ) (x : A) → getElem? (take n l) i ≡ some x → getElem? l i ≡ some x
-  place-take zero l i x e = absurd (let z : _≡_ {A = ℕ} 0 1 = cc in omega arith)
+  place-take zero l i x e = absurd (Option·none-ne-some x e)
   place-take (suc n) [] i x e = e
   place-take (suc n) (y ∷ l) zero x e = e
   place-take (suc n) (y ∷ l) (suc i) x e = place-take n l i x e
@@ -101,19 +121,26 @@ module _ {A : Type 0} where
   place-drop (suc n) [] i = refl
   place-drop (suc n) (y ∷ l) i = rw (suc-add n i) (place-drop n l i)
 
+  -- a run within the front of a list
+  pub run-within : (f c k : ℕ) (l : List A) → f + c ≤ k → take c (drop f (take k l)) ≡ take c (drop f l)
+  run-within zero c k l h = take-take c k l (omega arith)
+  run-within (suc f) c zero l h = absurd (omega arith)
+  run-within (suc f) c (suc k) [] h = refl
+  run-within (suc f) c (suc k) (y ∷ l) h = run-within f c k l (omega arith)
+
+  -- where an element of a run stands in the list
+  run-place : (n k : ℕ) (l : List A) (x : A) → List·Memᴰ x (take k (drop n l)) → (i : ℕ) × (i < k) × (getElem? l (n + i) ≡ some x)
+  run-place n k l x m =
+      let t = mem-place (take k (drop n l)) x m in
+      let u : t .0 < length (take k (drop n l)) = place-lt (take k (drop n l)) (t .0) x (t .1) in
+      (t .0, omega (arith, u, length-take k (drop n l)), sym (place-drop n l (t .0)) ∙ place-take k (drop n l) (t .0) x (t .1))
+
   -- what stands in a run of the list stands in its front, where that reaches the run's end
   pub mem-run : (n k m : ℕ) (l : List A) (x : A) → n + k ≤ m → List·Memᴰ x (take k (drop n l)) → List·Memᴰ x (take m l)
   mem-run n k m l x h w =
-      let t = mem-place (take k (drop n l)) x w in
-      let i : ℕ = t .0 in
-      let u : i < length (take k (drop n l)) = place-lt (take k (drop n l)) i x (t .1) in
-      let v : i < k = omega (arith, length-take k (drop n l)) in
-      let q : getElem? l (n + i) ≡ some x = sym (place-drop n l i) ∙ place-take k (drop n l) i x (t .1) in
-      place-mem (take m l) (n + i) x (take-place m l (n + i) (omega arith) ∙ q)
+      let r = run-place n k l x w in
+      place-mem (take m l) (n + r .0) x (take-place m l (n + r .0) (omega (arith, r .1)) ∙ r .2)
 
-  pub mem-take : (n : ℕ) (l : List A) (x : A) → List·Memᴰ x (take n l) → List·Memᴰ x l
-  mem-take n l x m = let t = mem-place (take n l) x m in place-mem l (t .0) x (place-take n l (t .0) x (t .1))
-
-  -- what holds of each place holds of each element
-  pub mem-getD : (d : A) (P : A → Type 0) (l : List A) → ((i : ℕ) → P (getD l i d)) → (x : A) → List·Memᴰ x l → P x
-  mem-getD d P l h x m = let t = mem-place l x m in subst P (getD-place d l (t .0) x (t .1)) (h (t .0))
+  -- what holds of each place holds of each element of a run
+  pub run-getD : (d : A) (P : A → Type 0) (n k : ℕ) (l : List A) → ((i : ℕ) → P (getD l i d)) → (x : A) → List·Memᴰ x (take k (drop n l)) → P x
+  run-getD d P n k l h x m = let r = run-place n k l x m in subst P (getD-place d l (n + r .0) x (r .2)) (h (n + r .0))

@@ -1,16 +1,17 @@
 -- Tests over every element of a list, and over a range of numbers from a place on. Assumes nothing.
 use mathlib.Core.Path.{_≡_, refl, sym, ap, _∙_, subst}
-use mathlib.Core.Bool.{Bool, true, false, _&&_}
-use mathlib.Core.List.{List, [], _∷_, map, List·Memᴰ, List·Memᴰ·head, List·Memᴰ·tail}
+use mathlib.Core.Bool.{Bool, true, false, _&&_, and-assoc}
+use mathlib.Core.List.{List, [], _∷_, _++_, map, List·Memᴰ, List·Memᴰ·head, List·Memᴰ·tail}
 use mathlib.Core.Option.{Option, none, some}
 use Prim.Native.Nat.{ℕ, zero, suc, _+_, _-_, _≤_, _<_}
 use native.Mathlib.Omega.{arith}
-use native.Mathlib.Nat.{add-zero, add-suc, suc-add, zero-add, sub-zero}
+use native.Mathlib.Nat.{add-zero, add-suc, suc-add, sub-zero}
 use native.Mathlib.Numerals.{add-one}
 use lib.Seq.{drop-cons}
 use lib.ListN.{length, getElem?, getD, drop, drop-of-length-le}
 use Rattle.lists.specs.Lists.{all, any, range}
-use Rattle.lists.proofs.Tests.{and-both, and-left, and-right, and-false, or-left, or-right}
+use Rattle.lists.proofs.Places.{map-place}
+use Rattle.lists.proofs.Tests.{and-both, and-left, and-right, or-left, or-right}
 
 module _ {A : Type 0} (p : A → Bool) where
   pub all-mem : (l : List A) → all p l ≡ true → (x : A) → List·Memᴰ x l → p x ≡ true
@@ -20,6 +21,10 @@ module _ {A : Type 0} (p : A → Bool) where
   pub mem-all : (l : List A) → ((x : A) → List·Memᴰ x l → p x ≡ true) → all p l ≡ true
   mem-all [] h = refl
   mem-all (y ∷ l) h = and-both (p y) (all p l) (h y (List·Memᴰ·head refl)) (mem-all l (λ x m. h x (List·Memᴰ·tail m)))
+
+  pub all-append : (l k : List A) → all p (l ++ k) ≡ (all p l && all p k)
+  all-append [] k = refl
+  all-append (x ∷ l) k = ap (λ (b : Bool). p x && b) (all-append l k) ∙ sym (and-assoc (p x) (all p l) (all p k))
 
 -- no element passes a test that none passes
 pub any-none : {A : Type 0} (p : A → Bool) (l : List A) → any p l ≡ false → (x : A) → List·Memᴰ x l → p x ≡ false
@@ -37,9 +42,17 @@ range-place n (suc k) (suc i) h = range-place (suc n) k i (omega arith) ∙ ap s
 
 -- a map over a range, at a place
 pub map-range : {A : Type 0} (f : ℕ → A) (n k i : ℕ) → i < k → getElem? (map f (range n k)) i ≡ some (f (n + i))
-map-range f n zero i h = absurd (omega arith)
-map-range f n (suc k) zero h = ap (λ (x : ℕ). some (f x)) (sym (add-zero n))
-map-range f n (suc k) (suc i) h = map-range f (suc n) k i (omega arith) ∙ ap (λ (x : ℕ). some (f x)) (suc-add n i ∙ sym (add-suc n i))
+map-range f n k i h = map-place f (range n k) i (n + i) (range-place n k i h)
+
+-- of the numbers from g on up to n, the first, then the others
+pub range-cons : (n g : ℕ) → g < n → range g (n - g) ≡ g ∷ range (g + 1) (n - (g + 1))
+range-cons n g h =
+    let e : n - g ≡ suc (n - (g + 1)) = omega arith in
+    ap (range g) e ∙ ap (λ (m : ℕ). g ∷ range m (n - (g + 1))) (sym (add-one g))
+
+-- none is left
+pub range-end : (n g : ℕ) → n ≤ g → range g (n - g) ≡ []
+range-end n g h = let e : n - g ≡ 0 = omega arith in ap (range g) e
 
 -- every number below n passes the test
 module _ (p : ℕ → Bool) where
@@ -90,22 +103,15 @@ module _ {p : ℕ → Bool} {n : ℕ} where
   to-start = record { within = omega arith; rest = rw sub-zero }
 
   module _ {g : ℕ} (c : TestedTo p n g) where
-    range-cons : g < n → range g (n - g) ≡ g ∷ range (g + 1) (n - (g + 1))
-    range-cons h =
-        let e : n - g ≡ suc (n - (g + 1)) = omega arith in
-        ap (range g) e ∙ ap (λ (m : ℕ). g ∷ range m (n - (g + 1))) (sym (add-one g))
-
     pub to-next : g < n → p g ≡ true → TestedTo p n (g + 1)
     to-next h t =
-        let e : all p (range g (n - g)) ≡ all p (range (g + 1) (n - (g + 1))) = ap (all p) (range-cons h) ∙ rw t in
+        let e : all p (range g (n - g)) ≡ all p (range (g + 1) (n - (g + 1))) = ap (all p) (range-cons n g h) ∙ rw t in
         record { within = omega arith; rest = sym e ∙ c .rest }
 
     pub to-fails : g < n → p g ≡ false → false ≡ all p (range 0 n)
     to-fails h t =
-        let e : all p (range g (n - g)) ≡ false = ap (all p) (range-cons h) ∙ rw t in
+        let e : all p (range g (n - g)) ≡ false = ap (all p) (range-cons n g h) ∙ rw t in
         sym e ∙ c .rest
 
     pub to-done : n ≤ g → true ≡ all p (range 0 n)
-    to-done h =
-        let e : n - g ≡ 0 = omega arith in
-        sym (ap (λ (k : ℕ). all p (range g k)) e) ∙ c .rest
+    to-done h = sym (ap (all p) (range-end n g h)) ∙ c .rest

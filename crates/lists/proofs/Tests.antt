@@ -1,22 +1,22 @@
 -- Tests: a number is at most another or above it, a Bool is true or false, and a conjunction holds where both sides do. Assumes nothing.
-use mathlib.Core.Path.{_≡_, refl}
+use mathlib.Core.Path.{_≡_, refl, subst}
 use mathlib.Core.Bool.{Bool, true, false, _&&_, _||_, true≢false, false≢true}
-use mathlib.Core.Logic.{_⊎_, inl, inr}
-use Prim.Native.Nat.{ℕ, _≤_, _<_}
+use Prim.Native.Nat.{ℕ, _+_, _≤_, _<_}
 use native.Mathlib.Omega.{arith}
 use native.Mathlib.Decide.{decLe}
 use native.Mathlib.Nat.{lt-of-not-le}
 
-le-or-lt-of : (m n : ℕ) → Dec (m ≤ n) → (m ≤ n) ⊎ (n < m)
-le-or-lt-of m n (yes p) = inl p
-le-or-lt-of m n (no f) = inr (omega arith)
-
-pub le-or-lt : (m n : ℕ) → (m ≤ n) ⊎ (n < m)
-le-or-lt m n = le-or-lt-of m n (decLe m n)
-
 -- by the two orders
 pub by-order {ℓ} : {X : Type ℓ} (a b : ℕ) → (a ≤ b → X) → (b < a → X) → X
 by-order a b f g = elim (decLe a b) [ yes h ↦ f h | no h ↦ g (lt-of-not-le h) ]
+
+-- what holds below g and of g holds below g + 1
+pub below-next : (P : ℕ → Type 0) (g : ℕ) → ((j : ℕ) → j < g → P j) → P g → (j : ℕ) → j < g + 1 → P j
+below-next P g h e j l = by-order g j (λ o. let q : g ≡ j = omega arith in subst P q e) (h j)
+
+-- what holds of g and from g + 1 on holds from g on
+pub from-next : (P : ℕ → Type 0) (g : ℕ) → P g → ((j : ℕ) → g + 1 ≤ j → P j) → (j : ℕ) → g ≤ j → P j
+from-next P g e h j l = by-order (g + 1) j (h j) (λ o. let q : g ≡ j = omega arith in subst P q e)
 
 -- by the two values of a test
 pub by-test {ℓ} : {X : Type ℓ} (b : Bool) → (b ≡ true → X) → (b ≡ false → X) → X
@@ -42,13 +42,6 @@ and-false false = refl
 pub and-true : (b : Bool) → (b && true) ≡ b
 and-true true = refl
 and-true false = refl
-
--- two tests that hold of the same are one
-pub same-test : (a b : Bool) → (a ≡ true → b ≡ true) → (b ≡ true → a ≡ true) → a ≡ b
-same-test true true f g = refl
-same-test true false f g = absurd (false≢true (f refl))
-same-test false true f g = absurd (false≢true (g refl))
-same-test false false f g = refl
 
 pub or-false : (a : Bool) → (a || false) ≡ a
 or-false true = refl

@@ -1,12 +1,13 @@
 -- More numbers below n than n hold one twice. Assumes nothing.
-use mathlib.Core.Path.{_≡_, refl, sym, ap, ap₂, _∙_, subst}
-use mathlib.Core.List.{List, [], _∷_, _++_, map, List·Memᴰ, List·Memᴰ·head, List·Memᴰ·tail, Memᴰ·cast, List·Memᴰ·not-nil, List·Memᴰ·cases-cons}
+use mathlib.Core.Path.{_≡_, refl, sym, ap}
+use mathlib.Core.List.{List, [], _∷_, List·Memᴰ, List·Memᴰ·head, List·Memᴰ·tail, Memᴰ·cast, List·Memᴰ·not-nil, List·Memᴰ·cases-cons}
 use mathlib.Core.Logic.{_⊎_, inl, inr, ⊎-elim}
-use Prim.Native.Nat.{ℕ, zero, suc, _+_, _≤_, _<_}
+use Prim.Native.Nat.{ℕ, zero, suc, _<_}
 use native.Mathlib.Omega.{arith}
 use native.Mathlib.Decide.{ℕ-discrete}
 use lib.ListN.{length}
 use Rattle.lists.specs.Lists.{Dup, here, there}
+use Rattle.lists.proofs.Once.{dup-cases}
 
 module _ {A : Type 0} where
   without : {x : A} {l : List A} → List·Memᴰ x l → List A
@@ -23,10 +24,6 @@ module _ {A : Type 0} where
   without-mem (List·Memᴰ·head e) w = List·Memᴰ·tail w
   without-mem {x} {y} (List·Memᴰ·tail {x = z} {xs = l} m) w =
       ⊎-elim (λ (e : y ≡ z). List·Memᴰ·head e) (λ (v : List·Memᴰ y (without m)). List·Memᴰ·tail (without-mem m v)) (List·Memᴰ·cases-cons w)
-
-  dup-cases : {x : A} {l : List A} → Dup (x ∷ l) → List·Memᴰ x l ⊎ Dup l
-  dup-cases (here m) = inl m
-  dup-cases (there d) = inr d
 
   without-dup : {x : A} {l : List A} (m : List·Memᴰ x l) → Dup (without m) → Dup l
   unfolding without

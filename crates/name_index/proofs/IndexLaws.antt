@@ -1,5 +1,5 @@
 -- The index as a whole: empty, searched, and with one name more. Assumes nothing.
-use mathlib.Core.Path.{_≡_, refl, sym, ap, ap₂, _∙_}
+use mathlib.Core.Path.{_≡_, sym, ap, ap₂, _∙_}
 use mathlib.Core.Bool.{true, false, not, false≢true}
 use mathlib.Core.List.{List, [], _∷_, _++_, map}
 use Prim.Native.Nat.{ℕ, suc, _+_, _*_, _-_, _%_, _≤_, _<_}
@@ -31,9 +31,6 @@ index-empty text =
       held = λ e l. absurd (omega arith);
       once = λ d e l u. absurd (omega arith);
     }
-
-pub entries-empty : (text : Bytes) (cells : List ℕ) → entriesOf text cells 0 ≡ []
-entries-empty text cells = refl
 
 -- ---- a search
 

@@ -3,9 +3,8 @@
 use mathlib.Core.Path.{_≡_, sym, ap, _∙_}
 use mathlib.Core.Bool.{Bool, true, _&&_, cond}
 use mathlib.Core.List.{List, map}
-use mathlib.Core.Option.{Option, none, some}
+use mathlib.Core.Option.{Option, none, some, Option·none-ne-some}
 use Prim.Native.Nat.{ℕ, _+_, _*_, _<_}
-use native.Mathlib.Omega.{arith}
 use native.Mathlib.Nat.{zero-add}
 use lib.Dec.{leb, ltb}
 use lib.ListN.{length, getElem?, length-map}
@@ -34,7 +33,7 @@ module _ (cells ps : List ℕ) (g : ℕ) (x : Gate) (e : gateAt cells ps g ≡ s
   opened = e
 
   is-inside : inside ≡ true
-  is-inside = by-test inside (λ t. t) (λ t. let q : none ≡ some x = rw t at opened in let z : _≡_ {A = ℕ} 0 1 = cc in absurd (omega arith))
+  is-inside = by-test inside (λ t. t) (λ t. absurd (Option·none-ne-some x (rw t at opened)))
 
   pub has-run : HasRun cells ps g
   has-run =

@@ -12,19 +12,20 @@ use lib.Seq.{length-take-le}
 use borrow.Author.Tests.{lt-ltb, ltb-true, eq-eqb, eqb-true}
 use Rattle.lists.specs.Lists.{all, range}
 use Rattle.lists.proofs.Tests.{and-left, and-right, and-both}
-use Rattle.lists.proofs.Places.{place-lt, mem-place, mem-take, mem-getD}
+use Rattle.lists.proofs.Places.{place-lt, mem-place, run-getD}
 use Rattle.lists.proofs.Range.{all-mem, mem-all, length-range, map-range, range-all}
 use Rattle.signal.specs.Signal.{Node, Const, Input, Gated, Signal}
 use Rattle.signal.specs.Cell.{sigCell, nodeOf, sigOf}
-use Rattle.signal.proofs.Cells.{Small}
-use Rattle.signal.proofs.Cells.{signal-again, cells-again, signals-again}
+use Rattle.signal.proofs.Cells.{Small, signal-again, cells-again, signals-again}
 use Rattle.gates.specs.Gate.{Gate, pins}
 use Rattle.gates.specs.Forms.{formed}
 use Rattle.network.specs.Net.{Net, GateIs, ValidNode, Valid, Formed}
 use Rattle.network.specs.Cells.{gateWidth, runAt, gateAt, pinCells, Lent, sizesFit, startAt, recordFits, recordsFit, validNode, allValid, isNetwork, netOf, countsOf, Laid, Words}
 use Rattle.network.specs.declared.Counts.{Counts}
 use Rattle.network.proofs.Records.{Sizes, sizes-give, sizes-from}
-use Rattle.network.proofs.LaidCells.{Fitting, heldAt, read-at, held-is, run-mem, gates-laid, pins-laid, Holds, Again, held-again, pin-mem}
+use Rattle.network.proofs.PinCells.{pin-mem}
+use Rattle.network.proofs.FittingRecords.{Fitting, heldAt, read-at, held-is, run-mem, gates-laid, pins-laid}
+use Rattle.network.proofs.HeldGates.{Holds, Again, held-again}
 
 -- ---- valid nodes
 
@@ -79,7 +80,7 @@ module _ (l : Lent) (w : Words l) (t : Tests l) where
         pinsInside = t .sizes .pins-lent;
         fit = t .fits;
         total = t .total;
-        words = λ c m. mem-getD 0 (λ x. x < 2 ^ 32) (l .pinsLent) (w .pinWords) c (mem-take (l .counts .pins) (l .pinsLent) c m);
+        words = run-getD 0 (λ x. x < 2 ^ 32) 0 (l .counts .pins) (l .pinsLent) (w .pinWords);
       }
 
   gates-counted : length (netOf l .gates) ≡ l .counts .gates
@@ -111,7 +112,7 @@ module _ (l : Lent) (w : Words l) (t : Tests l) where
         pinsLaid = ap (λ (k : ℕ). take k (l .pinsLent)) pins-counted ∙ sym pins-are;
         outsLaid = ap (λ (k : ℕ). take k (l .outsLent)) outs-counted
             ∙ sym (cells-again (take (l .counts .outputs) (l .outsLent))
-            (λ c m. mem-getD 0 (λ x. x < 2 ^ 32) (l .outsLent) (w .outWords) c (mem-take (l .counts .outputs) (l .outsLent) c m)));
+            (run-getD 0 (λ x. x < 2 ^ 32) 0 (l .counts .outputs) (l .outsLent) (w .outWords)));
       }
 
   -- a gate of the network is the one that its record holds

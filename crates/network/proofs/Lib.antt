@@ -6,7 +6,10 @@ pub mod Renumbering
 pub mod Permuting
 pub mod Records
 pub mod Summary
-pub mod LaidCells
+pub mod RecordCells
+pub mod PinCells
+pub mod FittingRecords
+pub mod HeldGates
 pub mod Lent
 pub mod Laying
 pub mod GateRead

@@ -13,7 +13,7 @@ use Rattle.signal.specs.Signal.{Node, Const, Input, Gated, Signal, flip}
 use Rattle.gates.specs.Gate.{Form, Gate, Comb, Dff, pins, formBit}
 use Rattle.network.specs.Net.{Net, GateIs, ValidNode, Valid, Feeds, Way, last, more, Loop}
 use Rattle.network.specs.Clock.{Fits, Clock, nodeBit, sigBit, gateBit, nextBit, Runs, done, tick}
-use Rattle.network.specs.Settle.{bitAt, round, settle, nextOf, runFrom, run}
+use Rattle.network.specs.Settle.{bitAt, round, settle, nextOf, runFrom}
 use Rattle.lists.proofs.Places.{place-lt, lt-place, map-on}
 use Rattle.lists.proofs.Twice.{Below, pigeons}
 use Rattle.network.proofs.Runs.{nextOf-is, runs-nil, runs-cons}
@@ -21,10 +21,14 @@ use Rattle.network.proofs.Depth.{deepest, depthOf, depth, deepest-ge, d
 
 -- ---- ranks
 
--- a number for each gate that rises from each gate input to a combinational gate
+-- the number rises from each gate input to a combinational gate
+abbrev pub RisesBy : Net → (ℕ → ℕ) → Type 0
+RisesBy net rank = (g h : ℕ) (f : Form) (ps : List Signal) (s : Signal) → GateIs net g (Comb f ps) → List·Memᴰ s ps → s .node ≡ Gated h → rank h < rank g
+
+-- such a number for each gate, none above the number of gates
 pub record Ranked (net : Net) : Type 0 where
   pub rank : ℕ → ℕ
-  pub rises : (g h : ℕ) (f : Form) (ps : List Signal) (s : Signal) → GateIs net g (Comb f ps) → List·Memᴰ s ps → s .node ≡ Gated h → rank h < rank g
+  pub rises : RisesBy net rank
   pub most : (g : ℕ) → rank g ≤ length (net .gates)
 
 -- ---- chains
@@ -119,18 +123,22 @@ ranked net free =
 
 -- ---- the one choice
 
--- bits that agree on a combinational gate's inputs give it the same bit
+-- bits that agree on the gate that a signal points at give it the same bit
+pub sig-agrees : (row : List Bool) (b c : ℕ → Bool) (s : Signal) → ((g : ℕ) → s .node ≡ Gated g → b g ≡ c g) → sigBit row b s ≡ sigBit row c s
+sig-agrees row b c s same = ap (flip (s .inv)) (node (s .node) same)
+  where
+    node : (n : Node) → ((g : ℕ) → n ≡ Gated g → b g ≡ c g) → nodeBit row b n ≡ nodeBit row c n
+    node Const h = refl
+    node (Input i) h = refl
+    node (Gated g) h = h g refl
+
+-- so do bits that agree on a combinational gate's inputs
 pub gate-agrees : (row : List Bool) (b c : ℕ → Bool) (v : Bool) (x : Gate)
     → ((f : Form) (s : Signal) (h : ℕ) → x ≡ Comb f (pins x) → List·Memᴰ s (pins x) → s .node ≡ Gated h → b h ≡ c h)
     → gateBit (sigBit row b) v x ≡ gateBit (sigBit row c) v x
 gate-agrees row b c v (Dff s) same = refl
 gate-agrees row b c v (Comb f ps) same =
-    ap (formBit f) (map-on (sigBit row b) (sigBit row c) ps (λ s m. ap (flip (s .inv)) (node s m (s .node) refl)))
-  where
-    node : (s : Signal) → List·Memᴰ s ps → (n : Node) → s .node ≡ n → nodeBit row b n ≡ nodeBit row c n
-    node s m Const e = refl
-    node s m (Input i) e = refl
-    node s m (Gated h) e = same f s h refl m e
+    ap (formBit f) (map-on (sigBit row b) (sigBit row c) ps (λ s m. sig-agrees row b c s (λ h e. same f s h refl m e)))
 
 settles : (net : Net) (rk : Ranked net) (row : List Bool) (held : ℕ → Bool) (k g : ℕ) → rk .rank g < k → round net row held (suc k) g ≡ round net row held k g
 settles net rk row held zero g u = absurd (omega arith)
@@ -169,13 +177,8 @@ module _ (net : Net) (valid : Valid net) (rk : Ranked net) where
   pub fits-unique : (row : List Bool) (held held′ b c : ℕ → Bool) → Same net held held′ → Fits net row held b → Fits net row held′ c → Same net b c
   fits-unique row held held′ b c hs fb fc g l = same-below row held held′ b c hs fb fc (suc (rk .rank g)) g l (omega arith)
 
-  sig-agrees : (row : List Bool) (b c : ℕ → Bool) → Same net b c → (s : Signal) → ValidNode net (s .node) → sigBit row b s ≡ sigBit row c s
-  sig-agrees row b c h s v = ap (flip (s .inv)) (node (s .node) v)
-    where
-      node : (n : Node) → ValidNode net n → nodeBit row b n ≡ nodeBit row c n
-      node Const w = refl
-      node (Input i) w = refl
-      node (Gated g) w = h g w
+  valid-agrees : (row : List Bool) (b c : ℕ → Bool) → Same net b c → (s : Signal) → ValidNode net (s .node) → sigBit row b s ≡ sigBit row c s
+  valid-agrees row b c h s v = sig-agrees row b c s (λ g e. h g (subst (ValidNode net) e v))
 
   next-agrees : (σ τ : Signal → Bool) (u v : Bool) (x : Gate) → ((s : Signal) → List·Memᴰ s (pins x) → σ s ≡ τ s) → u ≡ v → nextBit σ u x ≡ nextBit τ v x
   next-agrees σ τ u v (Comb f ps) h e = e
@@ -190,12 +193,12 @@ module _ (net : Net) (valid : Valid net) (rk : Ranked net) where
       → (out ≡ out′) × Same net next next′
   clock-unique held held′ next next′ row out out′ hs c d =
       let bs : Same net (c .bits) (d .bits) = fits-unique row held held′ (c .bits) (d .bits) hs (c .fits) (d .fits) in (
-        c .answers ∙ map-on (sigBit row (c .bits)) (sigBit row (d .bits)) (net .outputs) (λ s m. sig-agrees row (c .bits) (d .bits) bs s (valid .outsValid s m)) ∙ sym (d .answers),
+        c .answers ∙ map-on (sigBit row (c .bits)) (sigBit row (d .bits)) (net .outputs) (λ s m. valid-agrees row (c .bits) (d .bits) bs s (valid .outsValid s m)) ∙ sym (d .answers),
         λ g l.
             let x : (y : Gate) × (getElem? (net .gates) g ≡ some y) = lt-place (net .gates) g l in
             c .steps g (x .0) (x .1)
             ∙ next-agrees (sigBit row (c .bits)) (sigBit row (d .bits)) (held g) (held′ g) (x .0)
-            (λ s m. sig-agrees row (c .bits) (d .bits) bs s (valid .pinsValid g (x .0) s (x .1) m)) (hs g l)
+            (λ s m. valid-agrees row (c .bits) (d .bits) bs s (valid .pinsValid g (x .0) s (x .1) m)) (hs g l)
             ∙ sym (d .steps g (x .0) (x .1)),
       )
 
@@ -215,16 +218,13 @@ module _ (net : Net) (valid : Valid net) (rk : Ranked net) where
 
 -- ---- ranks rule out a loop
 
-pub record Rises (net : Net) : Type 0 where
-  pub height : ℕ → ℕ
-  pub higher : (g h : ℕ) (f : Form) (ps : List Signal) (s : Signal) → GateIs net g (Comb f ps) → List·Memᴰ s ps → s .node ≡ Gated h → height h < height g
+module _ (net : Net) (height : ℕ → ℕ) (r : RisesBy net height) where
+  feeds-rises : (a b : ℕ) → Feeds net a b → height a < height b
+  feeds-rises a b f = r b a (f .formB) (f .pinsB) (f .by) (f .isB) (f .among) (f .points)
 
-feeds-rises : (net : Net) (r : Rises net) (a b : ℕ) → Feeds net a b → r .height a < r .height b
-feeds-rises net r a b f = r .higher b a (f .formB) (f .pinsB) (f .by) (f .isB) (f .among) (f .points)
+  way-rises : {a b : ℕ} → Way net a b → height a < height b
+  way-rises {a} {b} (last f) = feeds-rises a b f
+  way-rises {a} {b = c} (more {b = b} f w) = omega (arith, feeds-rises a b f, way-rises w)
 
-way-rises : (net : Net) (r : Rises net) {a b : ℕ} → Way net a b → r .height a < r .height b
-way-rises net r {a} {b} (last f) = feeds-rises net r a b f
-way-rises net r {a} {b = c} (more {b = b} f w) = let u : r .height a < r .height b = feeds-rises net r a b f in let v : r .height b < r .height c = way-rises net r w in omega arith
-
-pub rises-free : (net : Net) → Rises net → Loop net → ⊥
-rises-free net r l = let u : r .height (l .0) < r .height (l .0) = way-rises net r (l .1) in omega arith
+  pub rises-free : Loop net → ⊥
+  rises-free l = omega (arith, way-rises (l .1))

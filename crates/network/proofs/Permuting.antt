@@ -1,18 +1,16 @@
 -- A list that holds every gate's number, and no other, renumbers a network. Assumes nothing.
-use mathlib.Core.Path.{_≡_, refl, sym, ap, ap₂, _∙_, subst}
-use mathlib.Core.List.{List, [], _∷_, _++_, map, List·Memᴰ}
+use mathlib.Core.Path.{_≡_, refl, sym, ap, _∙_, subst}
+use mathlib.Core.List.{List, [], List·Memᴰ}
 use mathlib.Core.Option.{Option, none, some}
-use Prim.Native.Nat.{ℕ, zero, suc, _+_, _≤_, _<_}
-use native.Mathlib.Omega.{arith}
+use Prim.Native.Nat.{ℕ, _<_}
 use native.Mathlib.Decide.{ℕ-discrete}
 use lib.ListN.{length, getD, getElem?, length-map}
 use Rattle.lists.specs.Lists.{find}
 use Rattle.signal.specs.Signal.{Node, Const, Input, Gated}
-use Rattle.gates.specs.Gate.{Comb}
+use Rattle.gates.specs.Gate.{Comb, Buf}
 use Rattle.network.specs.Net.{Net, GateIs, ValidNode, Valid}
 use Rattle.network.specs.Renumber.{remapGate, NodeKept, Renumbered, orZero, placeOf, gateOr, permuted}
-use Rattle.gates.specs.Gate.{Buf}
-use Rattle.lists.proofs.Places.{place-lt, place-mem, lt-place, getD-place, map-at}
+use Rattle.lists.proofs.Places.{place-lt, place-mem, getD-place, place-getD, map-at}
 use Rattle.lists.proofs.Find.{find-some, find-none}
 
 -- the list holds every gate's number, and no other
@@ -21,7 +19,7 @@ pub record Orders (n : ℕ) (l : List ℕ) : Type 0 where
   pub only : (g : ℕ) → List·Memᴰ g l → g < n
 
 pub gate-at : (net : Net) (g : ℕ) → g < length (net .gates) → GateIs net g (gateOr net g)
-gate-at net g u = let t = lt-place (net .gates) g u in t .1 ∙ ap some (sym (getD-place (Comb Buf []) (net .gates) g (t .0) (t .1)))
+gate-at net g u = place-getD (Comb Buf []) (net .gates) g u
 
 pub place-of : (l : List ℕ) (g : ℕ) → List·Memᴰ g l → getElem? l (placeOf l g) ≡ some g
 place-of l g m = go (find ℕ-discrete l g) refl

@@ -1,28 +1,28 @@
 -- The tests that refusal 20 asks for, as the code makes them. Assumes nothing.
-use mathlib.Core.Path.{_≡_, refl, sym, ap, ap₂, _∙_, subst}
-use mathlib.Core.Bool.{Bool, true, false, not, _&&_, true≢false, false≢true}
-use mathlib.Core.List.{List, [], _∷_, map}
-use mathlib.Core.Option.{Option, none, some}
-use Prim.Native.Nat.{ℕ, zero, suc, _+_, _-_, _*_, _/_, _^_, _≤_, _<_}
+use mathlib.Core.Path.{_≡_, refl, sym, ap, ap₂, _∙_}
+use mathlib.Core.Bool.{Bool, true, false, true≢false}
+use mathlib.Core.List.{List}
+use mathlib.Core.Option.{none}
+use Prim.Native.Nat.{ℕ, _+_, _-_, _*_, _/_, _≤_, _<_}
 use native.Mathlib.Omega.{arith}
 use native.Mathlib.Numerals.{add-one}
 use lib.Dec.{eqb, leb, ltb}
-use lib.ListN.{length, getD, take, drop, length-take, length-drop}
-use lib.Seq.{length-take-le}
-use borrow.Author.Tests.{le-leb, lt-leb, le-ltb, lt-ltb, leb-true}
-use Rattle.lists.specs.Lists.{all, range, sumTo}
+use lib.ListN.{length, take, drop}
+use borrow.Author.Tests.{le-leb, lt-leb, le-ltb, leb-true}
 use Rattle.lists.proofs.Tests.{and-false, and-left, and-right}
+use Rattle.lists.proofs.Places.{length-run}
 use Rattle.lists.proofs.Range.{TestedTo, to-start, to-next, to-fails, to-done}
 use Rattle.signal.specs.Signal.{Node, Const, Input, Gated, inputNode, gateNode}
-use Rattle.signal.specs.Cell.{nodeOf, sigOf, inputNumber, gateNumber}
+use Rattle.signal.specs.Cell.{nodeOf, inputNumber, gateNumber}
 use Rattle.signal.proofs.Cells.{input-number, gate-number}
-use Rattle.gates.specs.Forms.{kindOf, kindTakes, gateFrom}
+use Rattle.gates.specs.Forms.{kindOf, kindTakes}
 use Rattle.gates.specs.Decode.{decodedIn, withPins}
 use Rattle.gates.specs.declared.Kind.{Kind}
 use Rattle.gates.specs.declared.Decoded.{Decoded}
 use Rattle.gates.proofs.Decode.{RunAt, decode-is}
 use Rattle.network.specs.Cells.{maxInputs, maxOutputs, maxGates, maxPins, WithinSizes, gateWidth, formAt, firstAt, countAt, runAt, CellIs, gateAt, sizesFit, startAt, recordFits, recordsFit, validNode, allValid, lent, isNetwork}
 use Rattle.network.specs.declared.Counts.{Counts}
+use Rattle.network.proofs.RecordCells.{gate-there}
 
 -- ---- valid signals
 
@@ -131,7 +131,7 @@ module _ (cells pins : List ℕ) (g : ℕ) where
   no-record h = rw (le-ltb (g * gateWidth + 2) (length cells) (omega arith))
 
   module _ {first count : ℕ} (f : CellIs (firstAt cells g) first) (c : CellIs (countAt cells g) count) where
-    end-is : firstAt cells g + countAt cells g ≡ first + count
+    pub end-is : firstAt cells g + countAt cells g ≡ first + count
     end-is = sym (ap₂ _+_ (f .cell) (c .cell))
 
     pub no-run : length pins < first + count → none ≡ gateAt cells pins g
@@ -139,24 +139,22 @@ module _ (cells pins : List ℕ) (g : ℕ) where
     no-run h = rw (lt-leb (firstAt cells g + countAt cells g) (length pins) (omega (arith, end-is)), and-false (ltb (g * gateWidth + 2) (length cells)))
 
     -- the run from the first pin to the end, as the code cuts it
-    cut-run : take (first + count - first) (drop first pins) ≡ runAt cells pins g
+    pub cut-run : take (first + count - first) (drop first pins) ≡ runAt cells pins g
     cut-run =
         let k : first + count - first ≡ count = omega arith in
         ap (λ (m : ℕ). take m (drop first pins)) k ∙ ap₂ (λ (m i : ℕ). take m (drop i pins)) (c .cell) (f .cell)
 
     run-at : first + count ≤ length pins → RunAt pins (firstAt cells g) (runAt cells pins g)
     run-at h =
-        let k : length (runAt cells pins g) ≡ countAt cells g =
-        length-take-le (countAt cells g) (drop (firstAt cells g) pins) (rw (length-drop (firstAt cells g) pins) (omega (arith, end-is))) in
+        let k : length (runAt cells pins g) ≡ countAt cells g = length-run (firstAt cells g) (countAt cells g) pins (omega (arith, end-is)) in
         ap (λ (m : ℕ). take m (drop (firstAt cells g) pins)) k
 
     pub gate-read : {form : ℕ} {k : Kind} {d : Decoded} → g < length cells / 3 → first + count ≤ length pins → form ≡ formAt cells g → k ≡ kindOf form
         → d ≡ withPins k first (take (first + count - first) (drop first pins)) → decodedIn d pins ≡ gateAt cells pins g
-    unfolding gateAt
     gate-read h l p q e =
         ap (λ (x : Decoded). decodedIn x pins) (e ∙ (λ i. withPins ((q ∙ ap kindOf p) i) (f .cell i) (cut-run i)))
         ∙ decode-is pins (firstAt cells g) (runAt cells pins g) (run-at l) (formAt cells g)
-        ∙ sym (rw (lt-ltb (g * gateWidth + 2) (length cells) (omega arith), le-leb (firstAt cells g + countAt cells g) (length pins) (omega (arith, end-is))))
+        ∙ sym (gate-there cells pins g (omega arith) (omega (arith, end-is)))
 
 -- ---- all of refusal 20
 

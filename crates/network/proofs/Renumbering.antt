@@ -1,11 +1,11 @@
 -- A renumbered network has the clocks of the old one. Assumes nothing.
 use mathlib.Core.Path.{_≡_, refl, sym, ap, ap₂, _∙_, subst}
-use mathlib.Core.List.{List, [], _∷_, _++_, map, List·Memᴰ, List·Memᴰ·head, List·Memᴰ·tail, Memᴰ·of-map}
-use mathlib.Core.Bool.{Bool, true, false, cond}
-use mathlib.Core.Option.{Option, none, some}
-use Prim.Native.Nat.{ℕ, zero, suc, _+_, _≤_, _<_}
+use mathlib.Core.List.{List, map, List·Memᴰ, List·Memᴰ·head, List·Memᴰ·tail, Memᴰ·of-map}
+use mathlib.Core.Bool.{Bool}
+use mathlib.Core.Option.{some}
+use Prim.Native.Nat.{ℕ, _<_}
 use native.Mathlib.Omega.{arith}
-use lib.ListN.{length, getD, getElem?}
+use lib.ListN.{length}
 use Rattle.signal.specs.Signal.{Node, Const, Input, Gated, Signal, flip, remapNode, remap}
 use Rattle.gates.specs.Gate.{Form, Gate, Comb, Dff, pins, formBit}
 use Rattle.network.specs.Net.{Net, GateIs, ValidNode, Valid, Loop}
@@ -13,13 +13,23 @@ use Rattle.network.specs.Clock.{Clock, nodeBit, sigBit, gateBit, nextBit
 use Rattle.network.specs.Settle.{nextOf, runFrom}
 use Rattle.network.specs.Renumber.{remapGate, NodeKept, From, Renumbered}
 use Rattle.lists.proofs.Places.{map-on, map-map}
-use Rattle.network.proofs.OneChoice.{Ranked, ranked, Rises, rises-free, run-is, runs-unique}
+use Rattle.network.proofs.OneChoice.{Ranked, ranked, rises-free, run-is, runs-unique}
 use Rattle.network.proofs.Runs.{Simulates, runs-along, nextOf-is}
 
 -- the inputs of a renumbered gate
 pub pins-remap : (π : ℕ → ℕ) (y : Gate) → pins (remapGate π y) ≡ map (remap π) (pins y)
 pins-remap π (Comb f ps) = refl
 pins-remap π (Dff s) = refl
+
+-- what a renumbered node and a renumbered combinational gate were
+pub node-from : (π : ℕ → ℕ) (n : Node) (d : ℕ) → remapNode π n ≡ Gated d → (v : ℕ) × (n ≡ Gated v) × (π v ≡ d)
+node-from π Const d e = absurd (let z : _≡_ {A = ℕ} 0 1 = cc in omega arith)
+node-from π (Input i) d e = absurd (let z : _≡_ {A = ℕ} 0 1 = cc in omega arith)
+node-from π (Gated g) d e = (g, refl, cc)
+
+pub comb-from : (π : ℕ → ℕ) (y : Gate) (f : Form) (ps : List Signal) → Comb f ps ≡ remapGate π y → (qs : List Signal) × (y ≡ Comb f qs) × (ps ≡ map (remap π) qs)
+comb-from π (Comb h qs) f ps e = (qs, (let q : h ≡ f = cc in ap (λ (x : Form). Comb x qs) q), cc)
+comb-from π (Dff s) f ps e = absurd (let z : _≡_ {A = ℕ} 0 1 = cc in omega arith)
 
 module _ (old new : Net) (π order : ℕ → ℕ) (ren : Renumbered old new π order) where
   abbrev pub HoldsAt : (ℕ → Bool) → (ℕ → Bool) → Type 0
@@ -95,27 +105,20 @@ module _ (old new : Net) (π order : ℕ → ℕ) (ren : Renumbered old new π o
       outsValid = λ s m. sigs-valid (old .outputs) (ren .outputsKept) (λ t w. valid .outsValid t w) s (subst (List·Memᴰ s) (ren .sameOutputs) m);
     }
 
-  comb-was : (f : Form) (ps : List Signal) (y : Gate) → Comb f ps ≡ remapGate π y → (qs : List Signal) × (y ≡ Comb f qs) × (ps ≡ map (remap π) qs)
-  comb-was f ps (Comb f′ qs) e = (qs, (let q : f′ ≡ f = cc in ap (λ (x : Form). Comb x qs) q), cc)
-  comb-was f ps (Dff s) e = absurd (let z : _≡_ {A = ℕ} 0 1 = cc in omega arith)
-
   node-was : (n : Node) (h : ℕ) → NodeKept (length (new .gates)) π order n → remapNode π n ≡ Gated h → n ≡ Gated (order h)
-  node-was Const h k e = absurd (let z : _≡_ {A = ℕ} 0 1 = cc in omega arith)
-  node-was (Input i) h k e = absurd (let z : _≡_ {A = ℕ} 0 1 = cc in omega arith)
-  node-was (Gated g) h k e = let q : π g ≡ h = cc in ap Gated (sym (k .1) ∙ ap order q)
+  node-was n h k e =
+      let t = node-from π n h e in
+      t .1 ∙ ap Gated (sym (subst (NodeKept (length (new .gates)) π order) (t .1) k .1) ∙ ap order (t .2))
 
   pub renumbered-free : (Loop old → ⊥) → Loop new → ⊥
   renumbered-free free =
       let rk : Ranked old = ranked old free in
-      rises-free new (record {
-        height = λ i. rk .rank (order i);
-        higher = λ i h f ps s p m q.
-            let fr : From old (length (new .gates)) π order i (Comb f ps) = ren .gatesFrom i (Comb f ps) p in
-            let c = comb-was f ps (fr .was) (fr .renamed) in
-            let t = Memᴰ·of-map (remap π) (c .0) (subst (List·Memᴰ s) (c .2) m) in
-            let k : NodeKept (length (new .gates)) π order (t .0 .node) = fr .kept (t .0) (subst (λ (y : Gate). List·Memᴰ (t .0) (pins y)) (sym (c .1)) (t .1)) in
-            rk .rises (order i) (order h) f (c .0) (t .0) (fr .wasAt ∙ ap some (c .1)) (t .1) (node-was (t .0 .node) h k (ap (λ (u : Signal). u .node) (t .2) ∙ q));
-      })
+      rises-free new (λ i. rk .rank (order i)) (λ i h f ps s p m q.
+      let fr : From old (length (new .gates)) π order i (Comb f ps) = ren .gatesFrom i (Comb f ps) p in
+      let c = comb-from π (fr .was) f ps (fr .renamed) in
+      let t = Memᴰ·of-map (remap π) (c .0) (subst (List·Memᴰ s) (c .2) m) in
+      let k : NodeKept (length (new .gates)) π order (t .0 .node) = fr .kept (t .0) (subst (λ (y : Gate). List·Memᴰ (t .0) (pins y)) (sym (c .1)) (t .1)) in
+      rk .rises (order i) (order h) f (c .0) (t .0) (fr .wasAt ∙ ap some (c .1)) (t .1) (node-was (t .0 .node) h k (ap (λ (u : Signal). u .node) (t .2) ∙ q)))
 
   -- equal outputs at every clock: the sort's case, and that of gates left out (CR 8)
   pub renumbered-same : Valid old → (Loop old → ⊥) → (held held′ : ℕ → Bool) → HoldsAt held held′ → (rows : List (List Bool)) → runFrom new held′ rows ≡ runFrom old held rows

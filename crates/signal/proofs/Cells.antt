@@ -1,16 +1,15 @@
 -- Cells and signals, there and back: every 32-bit number is the cell of exactly one signal. Assumes nothing.
 use mathlib.Core.Path.{_≡_, refl, sym, ap, ap₂, _∙_, subst}
-use mathlib.Core.Bool.{Bool, true, false, not, cond, false≢true}
+use mathlib.Core.Bool.{Bool, true, false, not, false≢true}
 use mathlib.Core.List.{List, [], _∷_, map, List·Memᴰ, List·Memᴰ·head, List·Memᴰ·tail}
-use mathlib.Core.Logic.{⊎-elim}
 use Prim.Native.Nat.{ℕ, _+_, _-_, _*_, _/_, _%_, _^_, _≤_, _<_}
 use native.Mathlib.Omega.{arith}
 use lib.Dec.{eqb, ltb}
 use lib.Bits.{bitXor, xor-zero-r}
 use borrow.Author.Tests.{eq-eqb, ne-eqb, lt-ltb, le-ltb}
 use mir.Val.{boolByte}
-use Rattle.lists.proofs.Tests.{le-or-lt}
-use Rattle.signal.specs.Signal.{Node, Const, Input, Gated, Signal, plain, flip, xorS, turned, inputNode, constNode, gateNode}
+use Rattle.lists.proofs.Tests.{by-order}
+use Rattle.signal.specs.Signal.{Node, Const, Input, Gated, Signal, plain, xorS, turned, inputNode, constNode, gateNode}
 use Rattle.signal.specs.Cell.{bitOf, nodeCell, sigCell, nodeOf, sigOf, gateCell, inputCell, gateNumber, inputNumber}
 use Rattle.signal.proofs.Bits.{xor-one}
 
@@ -30,14 +29,9 @@ pub data Kind (c : ℕ) : Type 0 where
 
 pub kind : (c : ℕ) → Kind c
 kind c =
-    ⊎-elim
-    (λ (h : 2 ≤ c).
-    ⊎-elim
-    (λ (k : 2 ^ 31 ≤ c). input k (rw (le-ltb c 2 h, le-ltb c (2 ^ 31) k)))
-    (λ (k : c < 2 ^ 31). gate h k (rw (le-ltb c 2 h, lt-ltb c (2 ^ 31) k)))
-    (le-or-lt (2 ^ 31) c))
-    (λ (h : c < 2). const h (rw (lt-ltb c 2 h)))
-    (le-or-lt 2 c)
+    by-order 2 c
+    (λ h. by-order (2 ^ 31) c (λ k. input k (rw (le-ltb c 2 h, le-ltb c (2 ^ 31) k))) (λ k. gate h k (rw (le-ltb c 2 h, lt-ltb c (2 ^ 31) k))))
+    (λ h. const h (rw (lt-ltb c 2 h)))
 
 -- ---- from a number to its signal and back
 
@@ -51,10 +45,9 @@ node-cell c l = go (kind c)
 
 inv-bit : (c : ℕ) → bitOf (eqb (c % 2) 1) ≡ c % 2
 inv-bit c =
-    ⊎-elim
-    (λ (h : c % 2 ≤ 0). ap bitOf (ne-eqb (c % 2) 1 (λ e. omega arith)) ∙ omega arith)
-    (λ (h : 0 < c % 2). ap bitOf (eq-eqb (c % 2) 1 (omega arith)) ∙ omega arith)
-    (le-or-lt (c % 2) 0)
+    by-order (c % 2) 0
+    (λ h. ap bitOf (ne-eqb (c % 2) 1 (λ e. omega arith)) ∙ omega arith)
+    (λ h. ap bitOf (eq-eqb (c % 2) 1 (omega arith)) ∙ omega arith)
 
 -- every 32-bit number is the cell of its signal
 pub cell-again : (c : ℕ) → c < 2 ^ 32 → sigCell (sigOf c) ≡ c
@@ -216,10 +209,9 @@ input-cell v h = omega arith
 
 turn-bit : (c : ℕ) → bitOf (not (eqb (c % 2) 1)) ≡ 1 - c % 2
 turn-bit c =
-    ⊎-elim
-    (λ (h : c % 2 ≤ 0). ap (λ (b : Bool). bitOf (not b)) (ne-eqb (c % 2) 1 (λ e. omega arith)) ∙ omega arith)
-    (λ (h : 0 < c % 2). ap (λ (b : Bool). bitOf (not b)) (eq-eqb (c % 2) 1 (omega arith)) ∙ omega arith)
-    (le-or-lt (c % 2) 0)
+    by-order (c % 2) 0
+    (λ h. ap (λ (b : Bool). bitOf (not b)) (ne-eqb (c % 2) 1 (λ e. omega arith)) ∙ omega arith)
+    (λ h. ap (λ (b : Bool). bitOf (not b)) (eq-eqb (c % 2) 1 (omega arith)) ∙ omega arith)
 
 pub turn-cell : (c : ℕ) → c < 2 ^ 32 → bitXor c 1 ≡ sigCell (turned (sigOf c))
 turn-cell c l = omega (arith, xor-one c, node-cell c l, turn-bit c)

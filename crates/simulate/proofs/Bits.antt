@@ -1,16 +1,15 @@
 -- Laws for a clock's bits as the program works them out: a signal's bit, counts of ones, and the bits of a run of pins. Assumes nothing.
 use mathlib.Core.Path.{_≡_, refl, sym, ap, ap₂, _∙_}
-use mathlib.Core.Bool.{Bool, true, false, not, Bool·beq, true≢false}
+use mathlib.Core.Bool.{Bool, true, false, not, Bool·beq, Bool·not-not, true≢false}
 use mathlib.Core.List.{List, [], _∷_, map}
 use Prim.Native.Nat.{ℕ, zero, suc, _+_, _%_, _≤_, _<_}
 use native.Mathlib.Omega.{arith}
 use native.Mathlib.Nat.{zero-add}
-use native.Mathlib.Numerals.{add-one}
 use lib.Dec.{eqb, leb}
 use lib.ListN.{length, getD, drop, length-map, drop-of-length-le, List·getD-eq-default}
-use lib.Seq.{drop-cons}
 use borrow.Author.Tests.{eq-eqb, ne-eqb, eqb-true, eqb-false}
 use Rattle.lists.proofs.Tests.{by-test}
+use Rattle.lists.proofs.Places.{drop-next}
 use Rattle.signal.specs.Signal.{Node, Const, Input, Gated, flip, inputNode, gateNode}
 use Rattle.signal.specs.Cell.{nodeOf, sigOf, inputNumber, gateNumber}
 use Rattle.signal.proofs.Cells.{input-number, gate-number}
@@ -71,10 +70,6 @@ any-is [] = refl
 any-is (true ∷ bs) = ap not (sym (ne-eqb (suc (ones bs)) 0 (λ (e : suc (ones bs) ≡ 0). omega arith)))
 any-is (false ∷ bs) = any-is bs
 
-not-not : (b : Bool) → not (not b) ≡ b
-not-not true = refl
-not-not false = refl
-
 even-is : (n : ℕ) → eqb (n % 2) 0 ≡ not (eqb (n % 2) 1)
 even-is n =
     by-test (eqb (n % 2) 1)
@@ -93,7 +88,7 @@ module _ (m n : ℕ) (bs : List Bool) (l : length bs ≡ m) (o : ones bs ≡ n) 
   any-by = sym (any-is bs ∙ ap (λ (k : ℕ). not (eqb k 0)) o)
 
   pub none-by : eqb n 0 ≡ not (anyOf bs)
-  none-by = sym (not-not (eqb n 0)) ∙ ap not any-by
+  none-by = sym (Bool·not-not (eqb n 0)) ∙ ap not any-by
 
   pub odd-by : eqb (n % 2) 1 ≡ odd bs
   odd-by = sym (xor-is bs ∙ ap (λ (k : ℕ). eqb (k % 2) 1) o)
@@ -138,8 +133,7 @@ module _ {row bits : List Bool} {run : List ℕ} where
   module _ {n i : ℕ} (c : Counted row bits run n i) (h : i < length run) where
     next-pin : (b : Bool) → b ≡ signalBit row bits (sigOf (getD run i 0)) → ones (pinBits row bits (drop i run)) ≡ ones (b ∷ pinBits row bits (drop (i + 1) run))
     next-pin b e =
-        ap (λ (l : List ℕ). ones (pinBits row bits l)) (drop-cons run i 0 h)
-        ∙ ap₂ (λ (x : Bool) (k : ℕ). ones (x ∷ pinBits row bits (drop k run))) (sym e) (sym (add-one i))
+        ap (λ (l : List ℕ). ones (pinBits row bits l)) (drop-next run i 0 h) ∙ ap (λ (x : Bool). ones (x ∷ pinBits row bits (drop (i + 1) run))) (sym e)
 
     pub counted-one : {b : Bool} {m : ℕ} → b ≡ signalBit row bits (sigOf (getD run i 0)) → b ≡ true → m ≡ n + 1 → Counted row bits run m (i + 1)
     counted-one e t k = record { within = omega arith; few = omega (arith, c .few, k); rest = omega (arith, c .rest, k, next-pin true (sym t ∙ e)) }

@@ -1,18 +1,16 @@
 -- Laws for a clock as the program runs it: steps and digits, that this is a clock by the definition, and that without a loop the bits
 -- settle. Assumes nothing.
-use mathlib.Core.Path.{_≡_, refl, sym, ap, ap₂, _∙_, subst}
+use mathlib.Core.Path.{_≡_, refl, sym, ap, ap₂, _∙_}
 use mathlib.Core.Bool.{Bool, true, false}
 use mathlib.Core.List.{List, [], _∷_, map}
-use mathlib.Core.Logic.{⊎-elim}
 use mathlib.Core.Option.{Option, none, some}
 use Prim.Native.Nat.{ℕ, zero, suc, _+_, _≤_, _<_}
 use native.Mathlib.Omega.{arith}
 use lib.Dec.{eqb}
 use lib.ListN.{length, getD, set, take, getElem?, replicate, length-set, length-replicate, getD-replicate, List·getD-eq-default}
 use lib.Seq.{getD-set-same, getD-set-other}
-use Rattle.lists.proofs.Counting.{last-or}
 use Rattle.lists.proofs.Places.{place-lt}
-use Rattle.lists.proofs.Tests.{by-order}
+use Rattle.lists.proofs.Tests.{by-order, below-next}
 use Rattle.signal.specs.Signal.{Signal}
 use Rattle.signal.specs.Cell.{sigOf}
 use Rattle.gates.specs.Gate.{Gate}
@@ -50,11 +48,10 @@ module _ {cells pins : List ℕ} {row bits held₀ : List Bool} where
           ∙ ap (λ (y : Bool). nextBit (signalBit row bits) y (orBuf (gateAt cells pins g))) (eh ∙ s .rest g (omega arith))
 
       done : SteppedTo (g + 1) cells pins row bits held₀ next
-      done j l p =
-          ⊎-elim
-          (λ (e : j ≡ g). subst (λ (k : ℕ). bitsOf next k ≡ nextBit (signalBit row bits) (bitsOf held₀ k) (orBuf (gateAt cells pins k))) (sym e) (here (omega (arith, e, p))))
-          (λ (m : j < g). other j (λ (e : j ≡ g). omega (arith, e, m)) ∙ s .done j m p)
-          (last-or (let q : j < suc g = omega (arith, l) in q))
+      done =
+          below-next (λ k. k < length held₀ → bitsOf next k ≡ nextBit (signalBit row bits) (bitsOf held₀ k) (orBuf (gateAt cells pins k))) g
+          (λ j m p. other j (λ (e : j ≡ g). omega (arith, e, m)) ∙ s .done j m p)
+          here
 
       rest : (j : ℕ) → g + 1 ≤ j → bitsOf next j ≡ bitsOf held₀ j
       rest j l = other j (λ (e : j ≡ g). omega (arith, e, l)) ∙ s .rest j (omega (arith, l))
@@ -64,19 +61,15 @@ module _ {cells pins : List ℕ} {row bits held₀ : List Bool} where
 module _ (outs : List ℕ) (row bits : List Bool) where
   pub shown-next : (line next : List ℕ) {i w d : ℕ} {b : Bool} → ShownTo i outs row bits line → w ≡ getD outs i 0 → b ≡ signalBit row bits (sigOf w) → d ≡ bitDigit b
       → next ≡ set line i d → ShownTo (i + 1) outs row bits next
-  shown-next line next {i} {w} {d} {b} s ew eb ed en j l p =
-      ⊎-elim
-      (λ (e : j ≡ i). subst (λ (k : ℕ). getD next k 0 ≡ bitDigit (signalBit row bits (sigOf (getD outs k 0)))) (sym e) (here e))
-      (λ (m : j < i). ap (λ (k : List ℕ). getD k j 0) en ∙ getD-set-other line i j d 0 (λ (e : j ≡ i). omega (arith, e, m)) ∙ s j m within)
-      (last-or (let q : j < suc i = omega (arith, l) in q))
+  shown-next line next {i} {w} {d} {b} s ew eb ed en =
+      below-next (λ k. k < length next → getD next k 0 ≡ bitDigit (signalBit row bits (sigOf (getD outs k 0)))) i
+      (λ j m p. ap (λ (k : List ℕ). getD k j 0) en ∙ getD-set-other line i j d 0 (λ (e : j ≡ i). omega (arith, e, m)) ∙ s j m (omega (arith, p, same)))
+      (λ p.
+      ap (λ (k : List ℕ). getD k i 0) en ∙ getD-set-same line i d 0 (omega (arith, p, same)) ∙ ed
+      ∙ ap bitDigit (eb ∙ ap (λ (c : ℕ). signalBit row bits (sigOf c)) ew))
     where
-      within : j < length line
-      within = omega (arith, p, ap length en, length-set line i d)
-
-      here : j ≡ i → getD next i 0 ≡ bitDigit (signalBit row bits (sigOf (getD outs i 0)))
-      here e =
-          ap (λ (k : List ℕ). getD k i 0) en ∙ getD-set-same line i d 0 (omega (arith, e, within)) ∙ ed
-          ∙ ap bitDigit (eb ∙ ap (λ (c : ℕ). signalBit row bits (sigOf c)) ew)
+      same : length next ≡ length line
+      same = ap length en ∙ length-set line i d
 
 -- ---- the clock
 

@@ -2,12 +2,12 @@
 use mathlib.Core.Path.{_≡_, refl, sym, ap, ap₂, _∙_}
 use mathlib.Core.Bool.{Bool, true, false, not, cond, false≢true}
 use mathlib.Core.List.{List, [], _∷_, map}
-use mathlib.Core.Option.{Option, none, some}
-use Prim.Native.Nat.{ℕ, suc, _+_, _-_, _*_, _/_, _%_, _≤_, _<_}
+use mathlib.Core.Option.{Option, some}
+use Prim.Native.Nat.{ℕ, suc, _+_, _-_, _/_, _%_, _≤_, _<_}
 use native.Mathlib.Omega.{arith}
 use lib.Dec.{eqb, leb}
 use lib.ListN.{length, getD, take, drop, length-map}
-use borrow.Author.Tests.{eqb-true, le-leb, lt-ltb}
+use borrow.Author.Tests.{eqb-true}
 use Rattle.signal.specs.Signal.{Signal}
 use Rattle.signal.specs.Cell.{sigOf}
 use Rattle.gates.specs.Gate.{Form, Buf, Gate, Comb, Dff, ones, mux, formBit}
@@ -30,8 +30,9 @@ use Rattle.signal.specs.declared.Signal as code
 use Rattle.gates.proofs.Decode.{none-kind}
 use Rattle.gates.proofs.Forms.{binary-count, ternary-count}
 use Rattle.network.specs.Clock.{gateBit, nextBit}
-use Rattle.network.specs.Cells.{gateWidth, formAt, firstAt, countAt, CellIs, runAt, gateAt, orBuf}
-use Rattle.network.proofs.Records.{no-record, no-run}
+use Rattle.network.specs.Cells.{formAt, firstAt, countAt, CellIs, gateAt, orBuf}
+use Rattle.network.proofs.RecordCells.{gate-there}
+use Rattle.network.proofs.Records.{no-record, no-run, end-is, cut-run}
 use Rattle.simulate.specs.Bits.{signalBit, pinBits, Makes, MakesOfThree, NextOf}
 use Rattle.simulate.proofs.Bits.{all-by, any-by, none-by, odd-by, even-by, maj-by, one-bit, length-pins}
 
@@ -156,20 +157,12 @@ module _ (row bits : List Bool) (cells pins : List ℕ) (g : ℕ) (held : Bool) 
     pub bit-no-run : length pins < first + count → BitOf row bits [] held false (gateAt cells pins g)
     bit-no-run h = ap (λ (x : Option Gate). gateBit (signalBit row bits) held (orBuf x)) (no-run cells pins g f c h)
 
-    cut : take (first + count - first) (drop first pins) ≡ runAt cells pins g
-    cut =
-        let k : first + count - first ≡ count = omega arith in
-        ap (λ (m : ℕ). take m (drop first pins)) k ∙ ap₂ (λ (m i : ℕ). take m (drop i pins)) (c .cell) (f .cell)
-
-    end-is : firstAt cells g + countAt cells g ≡ first + count
-    end-is = sym (ap₂ _+_ (f .cell) (c .cell))
-
     gate-is : {form : ℕ} {k : Kind} → g < length cells / 3 → first + count ≤ length pins → form ≡ formAt cells g → k ≡ kindOf form
         → gateOfKind k (map sigOf (take (first + count - first) (drop first pins))) ≡ gateAt cells pins g
-    unfolding gateAt gateFrom
+    unfolding gateFrom
     gate-is h l p q =
-        ap₂ (λ (x : Kind) (y : List ℕ). gateOfKind x (map sigOf y)) (q ∙ ap kindOf p) cut
-        ∙ sym (rw (lt-ltb (g * gateWidth + 2) (length cells) (omega arith), le-leb (firstAt cells g + countAt cells g) (length pins) (omega (arith, end-is))))
+        ap₂ (λ (x : Kind) (y : List ℕ). gateOfKind x (map sigOf y)) (q ∙ ap kindOf p) (cut-run cells pins g f c)
+        ∙ sym (gate-there cells pins g (omega arith) (omega (arith, end-is cells pins g f c)))
 
     pub bit-read : {form : ℕ} {k : Kind} {b : Bool} → g < length cells / 3 → first + count ≤ length pins → form ≡ formAt cells g → k ≡ kindOf form
         → BitOf row bits [] held b (gateOfKind k (map sigOf (take (first + count - first) (drop first pins)))) → BitOf row bits [] held b (gateAt cells pins g)

@@ -3,15 +3,13 @@
 use mathlib.Core.Path.{_≡_, refl, sym, ap, _∙_, subst}
 use mathlib.Core.Bool.{Bool, true, false, not, Bool·beq, true≢false, false≢true}
 use mathlib.Core.List.{List}
-use mathlib.Core.Logic.{⊎-elim}
-use Prim.Native.Nat.{ℕ, suc, _+_, _≤_, _<_}
+use Prim.Native.Nat.{ℕ, _+_, _≤_, _<_}
 use native.Mathlib.Omega.{arith}
 use native.Mathlib.Decide.{ℕ-discrete}
 use lib.ListN.{length, getD, set, length-set}
 use lib.Seq.{getD-set-same, getD-set-other, set-getD}
-use Rattle.lists.proofs.Counting.{last-or}
-use Rattle.lists.proofs.Tests.{by-order}
-use Rattle.network.specs.Clock.{sigBit, gateBit}
+use Rattle.lists.proofs.Tests.{by-order, below-next}
+use Rattle.network.specs.Clock.{gateBit}
 use Rattle.network.specs.Cells.{gateAt, orBuf}
 use Rattle.network.proofs.OneChoice.{gate-agrees}
 use Rattle.simulate.specs.Bits.{bitsOf, signalBit, FitTo, Target, RightTo, Swept, Settled}
@@ -89,11 +87,7 @@ module _ {n : ℕ} {cells pins : List ℕ} {row held bits₀ : List Bool} where
             go (no f) = other j f ∙ near .right j low
 
         done : (j : ℕ) → j < g + 1 → rank j < k + 1 → bitsOf next j ≡ s j
-        done j l low =
-            ⊎-elim
-            (λ (e : j ≡ g). subst (λ (i : ℕ). bitsOf next i ≡ s i) (sym e) (here (subst (λ (i : ℕ). rank i < k + 1) e low)))
-            (λ (m : j < g). other j (λ (e : j ≡ g). omega (arith, e, m)) ∙ near .done j m low)
-            (last-or (let q : j < suc g = omega (arith, l) in q))
+        done = below-next (λ j. rank j < k + 1 → bitsOf next j ≡ s j) g (λ j m low. other j (λ (e : j ≡ g). omega (arith, e, m)) ∙ near .done j m low) here
 
     kept : length next ≡ length bits₀
     kept = ap length en ∙ length-set bits g b ∙ sweep .same
@@ -106,11 +100,7 @@ module _ {n : ℕ} {cells pins : List ℕ} {row held bits₀ : List Bool} where
         is = sym (beq-same b x same ∙ ex)
 
         more : FitTo g cells pins row held bits → FitTo (g + 1) cells pins row held bits
-        more fits j l =
-            ⊎-elim
-            (λ (e : j ≡ g). subst (λ (k : ℕ). bitsOf bits k ≡ gateBit (signalBit row bits) (bitsOf held k) (orBuf (gateAt cells pins k))) (sym e) (is ∙ worked))
-            (λ (m : j < g). fits j m)
-            (last-or (let q : j < suc g = omega (arith, l) in q))
+        more fits = below-next (λ k. bitsOf bits k ≡ gateBit (signalBit row bits) (bitsOf held k) (orBuf (gateAt cells pins k))) g fits (is ∙ worked)
 
         fit : now ≡ false → FitTo (g + 1) cells pins row held next
         fit f = subst (FitTo (g + 1) cells pins row held) (sym (en ∙ ap (set bits g) (sym is) ∙ set-getD bits g false)) (more (sweep .fit (sym ew ∙ f)))

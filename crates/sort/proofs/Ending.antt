@@ -5,11 +5,11 @@ use mathlib.Core.List.{List, [], _∷_, _++_, map, List·Memᴰ, List·Memᴰ·h
 use mathlib.Core.Option.{Option, none, some}
 use Prim.Native.Nat.{ℕ, _+_, _-_, _*_, _^_, _≤_, _<_}
 use native.Mathlib.Omega.{arith}
-use lib.ListN.{length, getD, getElem?, take, drop, length-map, length-append, length-take}
-use lib.Seq.{getD-take, getD-drop}
+use lib.ListN.{length, getD, getElem?, take, drop, length-map}
 use Rattle.lists.specs.Lists.{occ, over}
 use Rattle.lists.proofs.Counting.{getD-occ, mem-occ}
-use Rattle.lists.proofs.Places.{place-lt, mem-place, getD-place, map-on, map-map}
+use Rattle.lists.proofs.FirstPlace.{place, place-at}
+use Rattle.lists.proofs.Places.{place-lt, getD-place, map-on, map-map, run-getD}
 use Rattle.signal.specs.Signal.{Node, Const, Input, Gated, Signal, plain, remap}
 use Rattle.signal.specs.Cell.{sigCell, nodeOf, sigOf, gateCell, remapCell}
 use Rattle.signal.proofs.Cells.{signal-again, gate-cell}
@@ -20,6 +20,7 @@ use Rattle.network.specs.declared.Counts.{Counts}
 use Rattle.network.specs.Net.{Net, GateIs, ValidNode}
 use Rattle.network.specs.Cells.{gateWidth, formAt, firstAt, countAt, runAt, lent, netOf, gateCells, pinCells}
 use Rattle.network.specs.Renumber.{remapGate, placeOf, gateOr, permuted}
+use Rattle.network.proofs.PinCells.{pins-next}
 use Rattle.network.proofs.Permuting.{place-of}
 use Rattle.network.proofs.Renumbering.{pins-remap}
 use Rattle.sort.specs.declared.Sorted.the-variants.{Order, Loop}
@@ -28,9 +29,9 @@ use Rattle.sort_order.specs.Sorted.{graph, sorted}
 use Rattle.sort.specs.Into.{sortOutcome, sortInto}
 use Rattle.sort_order.specs.Sortable.{Sortable}
 use Rattle.sort.specs.Steps.{ordered, cellGraph, Numbers, Tabled, movedGates, movedPins, pinsIn, Movable, Renewed}
-use Rattle.sort_order.proofs.Ordering.{place, sort-length}
+use Rattle.sort_order.proofs.Ordering.{sort-length}
 use Rattle.sort_order.proofs.Sorting.{graph-valid, order-sorted, none-sorted, order-has, order-orders}
-use Rattle.sort_order.proofs.Keeps.{place-at, once, kept-pins}
+use Rattle.sort_order.proofs.Keeps.{once, kept-pins}
 use Rattle.network.proofs.GateRead.{gate-is, cell-gate}
 use Rattle.sort.proofs.Reading.{net-gates, net-outputs, net-size, graph-cells, sortable-cells}
 
@@ -38,19 +39,9 @@ use Rattle.sort.proofs.Reading.{net-gates, net-outputs, net-size, graph
 abbrev pub WordCells : List ℕ → Type 0
 WordCells l = (i : ℕ) → getD l i 0 < 2 ^ 32
 
--- a part of 32-bit cells has such cells
-word-in : (l : List ℕ) → WordCells l → (c : ℕ) → List·Memᴰ c l → c < 2 ^ 32
-word-in l w c m = let p = mem-place l c m in subst (λ (x : ℕ). x < 2 ^ 32) (getD-place 0 l (p .0) c (p .1)) (w (p .0))
-
-word-take : (k : ℕ) (l : List ℕ) → WordCells l → (c : ℕ) → List·Memᴰ c (take k l) → c < 2 ^ 32
-word-take k l w c m =
-    let p = mem-place (take k l) c m in
-    let h : p .0 < length (take k l) = place-lt (take k l) (p .0) c (p .1) in
-    let u : p .0 < k = omega (arith, h, length-take k l) in
-    subst (λ (x : ℕ). x < 2 ^ 32) (sym (getD-take k l (p .0) 0 u) ∙ getD-place 0 (take k l) (p .0) c (p .1)) (w (p .0))
-
-word-drop : (j : ℕ) (l : List ℕ) → WordCells l → WordCells (drop j l)
-word-drop j l w i = subst (λ (x : ℕ). x < 2 ^ 32) (sym (getD-drop j l i 0)) (w (j + i))
+-- a run of 32-bit cells has such cells
+word-run : (j k : ℕ) (l : List ℕ) → WordCells l → (c : ℕ) → List·Memᴰ c (take k (drop j l)) → c < 2 ^ 32
+word-run j k l w = run-getD 0 (λ x. x < 2 ^ 32) j k l w
 
 form-remap : (π : ℕ → ℕ) (x : Gate) → formCell (remapGate π x) ≡ formCell x
 form-remap π (Comb f ps) = refl
@@ -141,13 +132,7 @@ module _ (n : Counts) (gs ps os : List ℕ) {a b : ℕ} (s : Sortable (lent n gs
   unfolding pinCells
   pins-in [] h = refl
   pins-in (g ∷ k) h =
-      omega (
-        arith,
-        new-count g (h g (List·Memᴰ·head refl)),
-        length-append (map sigCell (pins (new g))) (pinCells (map new k)),
-        length-map (pins (new g)) sigCell,
-        pins-in k (λ v m. h v (List·Memᴰ·tail m)),
-      )
+      omega (arith, new-count g (h g (List·Memᴰ·head refl)), pins-next (new g) (map new k), pins-in k (λ v m. h v (List·Memᴰ·tail m)))
 
   mem-below : (g : ℕ) → List·Memᴰ g l → g < n .gates
   mem-below g m = below g (mem-occ g l m)
@@ -193,7 +178,7 @@ module _ (n : Counts) (gs ps os : List ℕ) {a b : ℕ} (s : Sortable (lent n gs
     module _ (wp : WordCells ps) where
       run-renamed : (g : ℕ) (u : g < n .gates) → map (remapCell t) (runAt gs ps g) ≡ map sigCell (pins (new g))
       run-renamed g u =
-          cells-renamed (runAt gs ps g) (word-take (countAt gs g) (drop (firstAt gs g) ps) (word-drop (firstAt gs g) ps wp)) (pin-valid g u) ∙ ap (map sigCell) (sym (new-pins g u))
+          cells-renamed (runAt gs ps g) (word-run (firstAt gs g) (countAt gs g) ps wp) (pin-valid g u) ∙ ap (map sigCell) (sym (new-pins g u))
 
       runs-are : (k : List ℕ) → ((g : ℕ) → List·Memᴰ g k → g < n .gates) → movedPins gs ps t k ≡ pinCells (map new k)
       unfolding pinCells
@@ -212,7 +197,7 @@ module _ (n : Counts) (gs ps os : List ℕ) {a b : ℕ} (s : Sortable (lent n gs
 
     outs-renamed : WordCells os → map (remapCell t) (take (n .outputs) os) ≡ map sigCell (permuted l net .outputs)
     outs-renamed w =
-        cells-renamed (take (n .outputs) os) (word-take (n .outputs) os w)
+        cells-renamed (take (n .outputs) os) (word-run 0 (n .outputs) os w)
         (λ c m. s .valid .outsValid (sigOf c) (subst (List·Memᴰ (sigOf c)) (sym (net-outputs n gs ps os)) (Memᴰ·map sigOf m)))
         ∙ ap (λ (y : List Signal). map sigCell (map (remap π) y)) (sym (net-outputs n gs ps os))
 

@@ -1,18 +1,17 @@
 -- The translation table, and gates, pins and outputs moved by it. Assumes nothing.
 use mathlib.Core.Path.{_≡_, refl, sym, ap, _∙_}
 use mathlib.Core.List.{List, [], _∷_, map}
-use mathlib.Core.Logic.{⊎-elim}
 use Prim.Native.Nat.{ℕ, suc, _+_, _*_, _≤_, _<_}
 use native.Mathlib.Omega.{arith}
-use native.Mathlib.Numerals.{add-one}
+use native.Mathlib.Nat.{zero-add}
 use lib.ListN.{length, getD, take, drop, set, length-set, length-map, drop-of-length-le}
 use lib.Seq.{getD-set-same, getD-set-other, getD-take, length-take-le}
 use Rattle.lists.specs.Lists.{over, overAt}
-use Rattle.lists.proofs.Counting.{last-or}
+use Rattle.lists.proofs.Places.{drop-next}
+use Rattle.lists.proofs.Tests.{below-next}
 use Rattle.signal.specs.Cell.{gateCell, remapCell}
 use Rattle.network.specs.Cells.{gateWidth, maxGates, formAt, runAt}
 use Rattle.sort.specs.Steps.{Numbers, Tabled, movedGates, movedPins, pinsIn, RoomFor, GateMoved, Movable, Moved}
-use Rattle.sort.proofs.Naming.{drop-next}
 use Rattle.lists.proofs.OverAt.{length-overAt, overAt-nil, over-first, over-append}
 
 -- ---- the translation table
@@ -33,15 +32,12 @@ tabling-next {o} {t} {i} {g} {x} n l e q h =
       tabled =
           record {
             long = length-set t g x ∙ h .tabled .long;
-            each = λ j u.
-                ⊎-elim
-                (λ w.
-                ap (λ (k : ℕ). getD (set t g x) (getD o k 0) 0) w ∙ ap (λ (k : ℕ). getD (set t g x) k 0) (sym e) ∙ getD-set-same t g x 0 b ∙ q
-                ∙ ap (λ (k : ℕ). gateCell k) (sym w))
-                (λ w.
+            each =
+                below-next (λ k. getD (set t g x) (getD o k 0) 0 ≡ gateCell k) i
+                (λ j w.
                 let ne : getD o j 0 ≡ g → ⊥ = λ z. let s : j ≡ i = n .distinct j i (omega arith) l (z ∙ e) in omega arith in
                 getD-set-other t g (getD o j 0) x 0 ne ∙ h .tabled .each j w)
-                (last-or {v = j} {n = i} (omega arith));
+                (ap (λ (k : ℕ). getD (set t g x) k 0) (sym e) ∙ getD-set-same t g x 0 b ∙ q);
           };
     }
 
@@ -73,7 +69,7 @@ copying-next {f} {run} {to₀} {to} {at} {i} {x} l q h =
           ap (λ (k : ℕ). overAt k r (set to (at + i) x)) e
           ∙ sym (over-first (at + i) x r to)
           ∙ ap (λ (y : ℕ). overAt (at + i) (y ∷ r) to) q
-          ∙ ap (λ (s : List ℕ). overAt (at + i) (map f s) to) (sym (drop-next run i l))
+          ∙ ap (λ (s : List ℕ). overAt (at + i) (map f s) to) (sym (drop-next run i 0 l))
           ∙ h .rest;
     }
 
@@ -102,7 +98,7 @@ module _ {gates pins t o ng₀ np₀ ng np : List ℕ} {at i : ℕ} (m : Movable
 
   -- the pins that are left: this gate's run, and the others
   pins-left : pinsIn gates pins (drop i o) ≡ length run + pinsIn gates pins (drop (i + 1) o)
-  pins-left = ap (pinsIn gates pins) (drop-next o i l)
+  pins-left = ap (pinsIn gates pins) (drop-next o i 0 l)
 
   pub moving-fits : RoomFor i at (length run) ng np
   moving-fits =
@@ -126,12 +122,12 @@ module _ {gates pins t o ng₀ np₀ ng np : List ℕ} {at i : ℕ} (m : Movable
         records =
             rw (w, g .end, g .records)
             (sym (over-append (i * gateWidth) three (movedGates gates pins (at + length run) rest) ng)
-            ∙ ap (λ (s : List ℕ). overAt (i * gateWidth) (movedGates gates pins at s) ng) (sym (drop-next o i l))
+            ∙ ap (λ (s : List ℕ). overAt (i * gateWidth) (movedGates gates pins at s) ng) (sym (drop-next o i 0 l))
             ∙ h .records);
         runs =
             rw (g .end, g .runs, ← lr)
             (sym (over-append at (map (remapCell t) run) (movedPins gates pins t rest) np)
-            ∙ ap (λ (s : List ℕ). overAt at (movedPins gates pins t s) np) (sym (drop-next o i l))
+            ∙ ap (λ (s : List ℕ). overAt at (movedPins gates pins t s) np) (sym (drop-next o i 0 l))
             ∙ h .runs);
         end = omega (arith, g .end, pins-left, h .end);
       }
@@ -148,35 +144,27 @@ moving-done {gates} {pins} {t} {o} {ng₀} {np₀} {ng} {np} {at} {i} l h =
 
 -- ---- outputs
 
--- what is left of the first n, laid from here on, gives what all give; the cells from here on are as they were
+-- the first n are copied onto themselves, renamed; the cells from here on are as they were
 pub record Renaming (f : ℕ → ℕ) (n : ℕ) (s₀ s : List ℕ) (i : ℕ) : Type 0 where
   pub within : i ≤ n
   pub same : length s ≡ length s₀
-  pub rest : overAt i (map f (drop i (take n s₀))) s ≡ over (map f (take n s₀)) s₀
+  pub copied : Copying f (take n s₀) s₀ s 0 i
   pub behind : (k : ℕ) → i ≤ k → getD s k 0 ≡ getD s₀ k 0
 
 pub renaming-start : {f : ℕ → ℕ} {n : ℕ} {s : List ℕ} → Renaming f n s s 0
-renaming-start = record { within = omega arith; same = refl; rest = refl; behind = λ k h. refl }
+renaming-start = record { within = omega arith; same = refl; copied = copying-start; behind = λ k h. refl }
 
 pub renaming-next : {f : ℕ → ℕ} {n : ℕ} {s₀ s : List ℕ} {i x : ℕ} → n ≤ length s₀ → i < n → x ≡ f (getD s i 0) → Renaming f n s₀ s i → Renaming f n s₀ (set s i x) (i + 1)
 renaming-next {f} {n} {s₀} {s} {i} {x} ln l q h =
     let b : i < length (take n s₀) = rw (length-take-le n s₀ ln) l in
     let c : getD (take n s₀) i 0 ≡ getD s i 0 = getD-take n s₀ i 0 l ∙ sym (h .behind i (omega arith)) in
-    let r = map f (drop (i + 1) (take n s₀)) in
+    let d : Copying f (take n s₀) s₀ (set s i x) 0 (i + 1) = rw (zero-add i) at (copying-next b (q ∙ ap f (sym c)) (h .copied)) in
     record {
       within = omega arith;
-      same = length-set s i x ∙ h .same;
-      rest =
-          ap (λ (k : ℕ). overAt k r (set s i x)) (add-one i)
-          ∙ sym (over-first i x r s)
-          ∙ ap (λ (y : ℕ). overAt i (y ∷ r) s) (q ∙ ap f (sym c))
-          ∙ ap (λ (m : List ℕ). overAt i (map f m) s) (sym (drop-next (take n s₀) i b))
-          ∙ h .rest;
+      same = d .same;
+      copied = d;
       behind = λ k u. getD-set-other s i k x 0 (λ z. omega arith) ∙ h .behind k (omega arith);
     }
 
 pub renaming-done : {f : ℕ → ℕ} {n : ℕ} {s₀ s : List ℕ} {i : ℕ} → n ≤ length s₀ → n ≤ i → Renaming f n s₀ s i → s ≡ over (map f (take n s₀)) s₀
-renaming-done {f} {n} {s₀} {s} {i} ln l h =
-    let k : length (take n s₀) ≤ i = rw (length-take-le n s₀ ln) l in
-    let e : drop i (take n s₀) ≡ [] = drop-of-length-le (take n s₀) k in
-    sym (overAt-nil i s) ∙ ap (λ (m : List ℕ). overAt i (map f m) s) (sym e) ∙ h .rest
+renaming-done {n = n} {s₀} ln l h = copying-done (rw (length-take-le n s₀ ln) l) (h .copied)

@@ -5,11 +5,10 @@ use mathlib.Core.List.{List, [], _∷_, _++_, map}
 use mathlib.Core.Logic.{⊎-elim}
 use Prim.Native.Nat.{ℕ, _+_, _≤_, _<_}
 use native.Mathlib.Omega.{arith}
-use native.Mathlib.Numerals.{add-one}
 use lib.ListN.{length, getD, drop, set, drop-of-length-le}
-use lib.Seq.{getD-set-same, getD-set-other, drop-cons}
 use Rattle.lists.specs.Lists.{hit, occ}
-use Rattle.lists.proofs.Counting.{hit-or, hit-same, occ-append}
+use Rattle.lists.proofs.Counting.{hit-same, set-hit, occ-append}
+use Rattle.lists.proofs.Places.{drop-next}
 use Rattle.signal.specs.Signal.{Node, Const, Input, Gated, gateNode}
 use Rattle.signal.specs.Cell.{nodeOf, sigOf, gateNumber}
 use Rattle.signal.proofs.Cells.{gate-number}
@@ -55,28 +54,14 @@ ins-nums (c ∷ cs) = go (nodeOf c) (gateIns cs) (gateNums (map sigOf cs)) (ins-
     go (Input i) a b e = e
     go (Gated g) a b e = ap (λ (l : List ℕ). g ∷ l) e
 
-pub drop-next : (p : List ℕ) (i : ℕ) → i < length p → drop i p ≡ getD p i 0 ∷ drop (i + 1) p
-drop-next p i h = rw add-one (drop-cons p i 0 h)
-
 -- one pin less to come
 occ-less : (v : ℕ) (p : List ℕ) (i : ℕ) → i < length p → occ v (gateIns (drop i p)) ≡ occ v (gateNamed (getD p i 0)) + occ v (gateIns (drop (i + 1) p))
-occ-less v p i h = rw (drop-next p i h) (occ-append v (gateNamed (getD p i 0)) (gateIns (drop (i + 1) p)))
+occ-less v p i h = rw (drop-next p i 0 h) (occ-append v (gateNamed (getD p i 0)) (gateIns (drop (i + 1) p)))
 
 -- ---- counts
 
 pub raised-at : (c : List ℕ) (d v : ℕ) → d < length c → getD (set c d (getD c d 0 + 1)) v 0 ≡ getD c v 0 + hit v d
-raised-at c d v l =
-    ⊎-elim
-    (λ w.
-    omega (
-      arith,
-      w .1,
-      ap (λ (x : ℕ). getD (set c d (getD c d 0 + 1)) x 0) (w .0),
-      ap (λ (x : ℕ). getD c x 0) (w .0),
-      getD-set-same c d (getD c d 0 + 1) 0 l,
-    ))
-    (λ w. omega (arith, w .1, getD-set-other c d v (getD c d 0 + 1) 0 (w .0)))
-    (hit-or v d)
+raised-at c d v l = ⊎-elim (λ w. omega (arith, w .0, w .1)) (λ w. omega (arith, w .0, w .1)) (set-hit (λ n. n + 1) c d v l)
 
 pub raised-gate : (s : ℕ) {g : ℕ} {c : List ℕ} → gateNode (nodeOf s) ≡ true → g ≡ gateNumber s → g < length c → Raised (gateNamed s) c (set c g (getD c g 0 + 1))
 raised-gate s {g} {c} e q l = record { each = λ v. omega (arith, raised-at c g v l, occ-gate s e q v) }

@@ -9,7 +9,8 @@ use native.Mathlib.Numerals.{add-one}
 use lib.ListN.{length, getD, drop, set, drop-of-length-le}
 use lib.Seq.{getD-set-same, getD-set-other}
 use Rattle.lists.specs.Lists.{occ}
-use Rattle.lists.proofs.Counting.{hit-or, sum-occ, sum-le}
+use Rattle.lists.proofs.Counting.{hit-or, once-short}
+use Rattle.lists.proofs.Places.{drop-next}
 use Rattle.signal.specs.Signal.{gateNode}
 use Rattle.signal.specs.Cell.{nodeOf, gateNumber}
 use Rattle.network.specs.Cells.{maxGates}
@@ -17,7 +18,7 @@ use Rattle.sort_order.specs.Order.{Graph, lowered, pushed, countsAfter, stackAf
 use Rattle.sort_order.specs.Walk.{WalkState}
 use Rattle.sort.specs.Steps.{gateNamed, gateIns, down, Walks, Lowers, Lowered}
 use Rattle.sort_order.proofs.Walk.{good-lower, next-below, next-count, next-fresh}
-use Rattle.sort.proofs.Naming.{named-gate, named-none, named-own, drop-next}
+use Rattle.sort.proofs.Naming.{named-gate, named-none, named-own}
 
 pub length-down : (k : ℕ) (l : List ℕ) → length (down k l) ≡ k
 length-down zero l = refl
@@ -54,17 +55,13 @@ good-part G (d ∷ a) b c st done g = good-part G a b (lowered c d) (pushed (get
 -- there is room on the stack for the next input
 pub next-room : (G : Graph) (c st done : List ℕ) (d : ℕ) (rest : List ℕ) → WalkState G c st done (d ∷ rest) → length st < G .size
 next-room G c st done d rest g =
-    omega (
-      arith,
-      sum-occ (G .size) (d ∷ st)
-          (λ v p. ⊎-elim (λ w. rw (w .0) (next-below G c st done d rest g)) (λ w. g .low v (omega (arith, w .1)) .0) (hit-or v d)),
-      sum-le (G .size) (λ v. occ v (d ∷ st))
-          (λ v l.
-          ⊎-elim
-          (λ w. omega (arith, w .1, ap (λ (x : ℕ). occ x st) (w .0), next-fresh G c st done d rest g))
-          (λ w. omega (arith, w .1, g .once v))
-          (hit-or v d)),
-    )
+    once-short (G .size) (d ∷ st)
+    (λ v p. ⊎-elim (λ w. rw (w .0) (next-below G c st done d rest g)) (λ w. g .low v (omega (arith, w .1)) .0) (hit-or v d))
+    (λ v.
+    ⊎-elim
+    (λ w. omega (arith, w .1, ap (λ (x : ℕ). occ x st) (w .0), next-fresh G c st done d rest g))
+    (λ w. omega (arith, w .1, g .once v))
+    (hit-or v d))
 
 -- what lowering one pin asks
 pub walks-next : (c st : List ℕ) (s : ℕ) (pins : List ℕ) → Walks c st (s ∷ pins) → Lowers s c (length st)
@@ -94,7 +91,7 @@ walks-after c st s pins c′ st′ w l =
 pushed-zero : (m d : ℕ) (st : List ℕ) → m ≡ 0 → pushed m d st ≡ d ∷ st
 pushed-zero m d st e = rw e
 
-pushed-more : (m d : ℕ) (st : List ℕ) → (m ≡ 0 → ⊥) → pushed m d st ≡ st
+pub pushed-more : (m d : ℕ) (st : List ℕ) → (m ≡ 0 → ⊥) → pushed m d st ≡ st
 pushed-more zero d st e = absurd (e refl)
 pushed-more (suc m) d st e = refl
 
@@ -131,19 +128,19 @@ lowering-start lc ls w = record { within = omega arith; counts-long = lc; stack-
 
 module _ {pins c₀ st₀ : List ℕ} {top : ℕ} {c st : List ℕ} {t i : ℕ} (l : i < length pins) (h : Lowering pins c₀ st₀ top c st t i) where
   pub lowering-asks : Lowers (getD pins i 0) c t
-  lowering-asks = rw (length-down t st) at (walks-next c (down t st) (getD pins i 0) (drop (i + 1) pins) (rw (drop-next pins i l) at (h .walks)))
+  lowering-asks = rw (length-down t st) at (walks-next c (down t st) (getD pins i 0) (drop (i + 1) pins) (rw (drop-next pins i 0 l) at (h .walks)))
 
   pub lowering-next : {c′ st′ : List ℕ} {t′ : ℕ} → length c′ ≡ length c → length st′ ≡ length st
       → Lowered (gateNamed (getD pins i 0)) c (down t st) c′ (down t′ st′) → Lowering pins c₀ st₀ top c′ st′ t′ (i + 1)
   lowering-next {c′} {st′} {t′} kc ks e =
       let s = getD pins i 0 in
       let r = gateIns (drop (i + 1) pins) in
-      let q : gateIns (drop i pins) ≡ gateNamed s ++ r = ap gateIns (drop-next pins i l) in
+      let q : gateIns (drop i pins) ≡ gateNamed s ++ r = ap gateIns (drop-next pins i 0 l) in
       record {
         within = omega arith;
         counts-long = kc ∙ h .counts-long;
         stack-long = ks ∙ h .stack-long;
-        walks = walks-after c (down t st) s (drop (i + 1) pins) c′ (down t′ st′) (rw (drop-next pins i l) at (h .walks)) e;
+        walks = walks-after c (down t st) s (drop (i + 1) pins) c′ (down t′ st′) (rw (drop-next pins i 0 l) at (h .walks)) e;
         counts = rw (e .counts) (sym (countsAfter-append (gateNamed s) r c) ∙ (rw q at (h .counts)));
         stack = rw (e .counts, e .stack) (sym (stackAfter-append (gateNamed s) r c (down t st)) ∙ (rw q at (h .stack)));
       }

@@ -1,27 +1,23 @@
 -- Marked flip-flops and the first stack. Assumes nothing.
 use mathlib.Core.Path.{_≡_, refl, sym, ap, _∙_}
 use mathlib.Core.Bool.{Bool, true, false, cond}
-use mathlib.Core.List.{List, [], _∷_, _++_, append-assoc}
+use mathlib.Core.List.{List, [], _∷_, _++_, append-assoc, append-nil}
 use mathlib.Core.Logic.{⊎-elim}
 use Prim.Native.Nat.{ℕ, zero, suc, _+_, _≤_, _<_}
 use native.Mathlib.Omega.{arith}
 use native.Mathlib.Numerals.{add-one}
-use native.Mathlib.Decide.{decLt}
 use lib.Dec.{eqb}
 use lib.ListN.{length, getD, drop, set, replicate, length-append, length-drop}
-use lib.Seq.{set-at, drop-cons, getD-set-same, getD-set-other}
+use lib.Seq.{set-at, getD-set-same, getD-set-other}
 use borrow.Author.Tests.{eq-eqb, ne-eqb, lt-ltb, le-ltb}
 use Rattle.lists.proofs.Counting.{hit-or}
-use Rattle.lists.proofs.Tests.{le-or-lt}
+use Rattle.lists.proofs.Places.{drop-next}
+use Rattle.lists.proofs.Tests.{by-order}
 use Rattle.network.specs.Cells.{maxGates}
 use Rattle.sort_order.specs.Order.{Graph, pushed, flopsTo, startTo}
 use Rattle.sort.specs.Steps.{flopMark, Flopped, unmarked, Started, GatesMarked}
-use Rattle.sort.proofs.Stack.{down-push}
+use Rattle.sort.proofs.Stack.{down-push, pushed-more}
 use Rattle.sort.proofs.Uses.{getD-zeros}
-
-append-nil : (l : List ℕ) → l ++ [] ≡ l
-append-nil [] = refl
-append-nil (x ∷ l) = ap (λ (m : List ℕ). x ∷ m) (append-nil l)
 
 module _ (comb : ℕ → Bool) where
   mark-below : (k v : ℕ) → v < k → flopMark comb k v ≡ cond (comb v) 0 1
@@ -34,11 +30,10 @@ module _ (comb : ℕ → Bool) where
 
   -- marks before and after gate k, elsewhere
   mark-else : (k v : ℕ) → (v ≡ k → ⊥) → flopMark comb k v ≡ flopMark comb (k + 1) v
-  mark-else k v z = go (decLt v k)
-    where
-      go : Dec (v < k) → flopMark comb k v ≡ flopMark comb (k + 1) v
-      go (yes l) = mark-below k v l ∙ sym (mark-below (k + 1) v (omega arith))
-      go (no n) = mark-above k v (omega arith) ∙ sym (mark-above (k + 1) v (omega arith))
+  mark-else k v z =
+      by-order k v
+      (λ l. mark-above k v l ∙ sym (mark-above (k + 1) v (omega arith)))
+      (λ l. mark-below k v l ∙ sym (mark-below (k + 1) v (omega arith)))
 
   flops-next : (k : ℕ) → flopsTo comb (k + 1) ≡ flopsTo comb k ++ cond (comb k) [] (k ∷ [])
   flops-next k = rw add-one
@@ -61,8 +56,7 @@ module _ (comb : ℕ → Bool) where
   flopped-mark {k} {o₀} {m} {o} {k′} e lm lo h =
       let f : flopsTo comb (k + 1) ≡ flopsTo comb k ++ k ∷ [] = rw flops-next (rw e) in
       let q : k′ < length o₀ = omega (arith, ap length (h .front), length-append (flopsTo comb k) (drop k′ o₀), length-drop k′ o₀, h .count) in
-      let d : drop k′ o₀ ≡ getD o₀ k′ 0 ∷ drop (k′ + 1) o₀ = rw add-one (drop-cons o₀ k′ 0 q) in
-      let s : o ≡ flopsTo comb k ++ getD o₀ k′ 0 ∷ drop (k′ + 1) o₀ = rw d at (h .front) in
+      let s : o ≡ flopsTo comb k ++ getD o₀ k′ 0 ∷ drop (k′ + 1) o₀ = rw (drop-next o₀ k′ 0 q) at (h .front) in
       record {
         count = rw f (omega (arith, h .count, length-append (flopsTo comb k) (k ∷ [])));
         few = omega (arith, h .few);
@@ -97,10 +91,9 @@ flops-same comb comb′ (suc k) h = rw (flops-same comb comb′ k (λ v l. h v (
 
 mark-same : (comb comb′ : ℕ → Bool) (k : ℕ) → ((v : ℕ) → v < k → comb v ≡ comb′ v) → (v : ℕ) → flopMark comb k v ≡ flopMark comb′ k v
 mark-same comb comb′ k h v =
-    ⊎-elim
-    (λ (l : k ≤ v). mark-above comb k v l ∙ sym (mark-above comb′ k v l))
-    (λ (l : v < k). mark-below comb k v l ∙ ap (λ (b : Bool). cond b 0 1) (h v l) ∙ sym (mark-below comb′ k v l))
-    (le-or-lt k v)
+    by-order k v
+    (λ l. mark-above comb k v l ∙ sym (mark-above comb′ k v l))
+    (λ l. mark-below comb k v l ∙ ap (λ (b : Bool). cond b 0 1) (h v l) ∙ sym (mark-below comb′ k v l))
 
 pub flopped-same : {comb comb′ : ℕ → Bool} {k : ℕ} {o₀ m o : List ℕ} {k′ : ℕ} → ((v : ℕ) → v < k → comb v ≡ comb′ v) → Flopped comb k o₀ m o k′
     → Flopped comb′ k o₀ m o k′
@@ -125,16 +118,12 @@ pub started-marked : {m c : List ℕ} {k : ℕ} {st : List ℕ} {top : ℕ} → 
 started-marked {m} {c} {k} {st} {top} e h =
     record { stack = h .stack ∙ sym (start-next (unmarked m) (λ v. getD c v 0) k ∙ (rw (ne-eqb (getD m k 0) 0 e))); low = omega (arith, h .low) }
 
-not-pushed : (x k : ℕ) (l : List ℕ) → (x ≡ 0 → ⊥) → pushed x k l ≡ l
-not-pushed zero k l e = absurd (e refl)
-not-pushed (suc x) k l e = refl
-
 pub started-used : {m c : List ℕ} {k : ℕ} {st : List ℕ} {top : ℕ} → getD m k 0 ≡ 0 → (getD c k 0 ≡ 0 → ⊥) → Started m c k st top → Started m c (k + 1) st top
 started-used {m} {c} {k} {st} {top} e z h =
     record {
       stack =
           h .stack
-          ∙ sym (start-next (unmarked m) (λ v. getD c v 0) k ∙ (rw (eq-eqb (getD m k 0) 0 e) (not-pushed (getD c k 0) k (startTo (unmarked m) (λ v. getD c v 0) k) z)));
+          ∙ sym (start-next (unmarked m) (λ v. getD c v 0) k ∙ (rw (eq-eqb (getD m k 0) 0 e) (pushed-more (getD c k 0) k (startTo (unmarked m) (λ v. getD c v 0) k) z)));
       low = omega (arith, h .low);
     }
 

@@ -1,14 +1,13 @@
 -- The use counts, gate by gate. Assumes nothing.
-use mathlib.Core.Path.{_≡_, refl, sym, ap, _∙_}
+use mathlib.Core.Path.{_≡_, refl, sym, _∙_}
 use mathlib.Core.Bool.{true, false}
 use mathlib.Core.List.{List, []}
-use mathlib.Core.Logic.{⊎-elim}
 use Prim.Native.Nat.{ℕ, zero, suc, _+_, _≤_, _<_}
 use native.Mathlib.Omega.{arith}
 use native.Mathlib.Numerals.{add-one}
 use lib.ListN.{length, getD, replicate, length-replicate}
 use Rattle.lists.specs.Lists.{occ, sumTo}
-use Rattle.lists.proofs.Counting.{last-or}
+use Rattle.lists.proofs.Counting.{front-le}
 use Rattle.network.specs.Cells.{maxGates, runAt}
 use Rattle.sort_order.specs.Order.{Graph, uses, useCount}
 use Rattle.sort.specs.Steps.{gateIns, formComb, cellGraph, Cells, Raised, Countable, Counted}
@@ -27,15 +26,6 @@ module _ {gates pins : List ℕ} {n g : ℕ} (h : Cells gates pins n) (l : g < n
   pub comb-uses : formComb gates g ≡ true → gateIns (runAt gates pins g) ≡ uses (cellGraph gates pins n) g
   comb-uses e = h .inputs g l ∙ sym (uses-comb (cellGraph gates pins n) g (sym (h .combs g l) ∙ e))
 
--- a part of the sum is at most the whole
-part-sum : (f : ℕ → ℕ) (n k : ℕ) → k ≤ n → sumTo k f ≤ sumTo n f
-part-sum f zero k l = let e : k ≡ 0 = omega arith in omega (arith, ap (λ (m : ℕ). sumTo m f) e)
-part-sum f (suc n) k l =
-    ⊎-elim
-    (λ e. omega (arith, ap (λ (m : ℕ). sumTo m f) e))
-    (λ w. omega (arith, part-sum f n k (omega arith)))
-    (last-or {v = k} {n = suc n} (omega arith))
-
 -- the counts of the uses of the first k gates
 pub record CountedTo (G : Graph) (c : List ℕ) (k : ℕ) : Type 0 where
   pub within : k ≤ G .size
@@ -52,7 +42,7 @@ counted-asks {gates} {pins} {n} {c} {k} h l q =
     let G = cellGraph gates pins n in
     record {
       index = λ v p. omega (arith, h .few, q .long, h .valid k v l (uses-ins G k v p .1));
-      small = λ v. omega (arith, q .each v, h .counted v, part-sum (λ g. occ v (uses G g)) n (suc k) l);
+      small = λ v. omega (arith, q .each v, h .counted v, front-le (λ g. occ v (uses G g)) n (suc k) l);
     }
 
 pub counted-next : {G : Graph} {c c′ : List ℕ} {k : ℕ} → k < G .size → CountedTo G c k → length c′ ≡ length c → Raised (uses G k) c c′ → CountedTo G c′ (k + 1)

@@ -8,33 +8,22 @@ use native.Mathlib.Omega.{arith}
 use lib.ListN.{length, getD, take, drop, set, length-set, take-append-drop}
 use lib.Seq.{drop-cons, getD-set-same, getD-set-other, drop-set-lt, take-set-le, take-take}
 use Rattle.lists.specs.Lists.{occ, listTo}
-use Rattle.lists.proofs.Counting.{hit-or, sum-occ, sum-le, length-listTo, getD-listTo}
+use Rattle.lists.proofs.Counting.{hit-or, once-short, length-listTo, getD-listTo}
 use Rattle.network.specs.Cells.{maxGates}
 use Rattle.sort_order.specs.Order.{Graph, uses, pushed, lowered, kept, countsAfter, stackAfter, walk, recorded, useCount}
 use Rattle.sort_order.specs.Walk.{ValidGraph, WalkState}
-use Rattle.sort_order.proofs.Walk.{budget}
 use Rattle.sort.specs.Steps.{gateIns, down, Lowered, Walks, GatesMarked, Ready, Visited, Begins, Recorded}
-use Rattle.sort_order.proofs.Walk.{good-lower, next-below, good-pop, good-all, budget-all, top-low, top-fresh, uses-comb, uses-flop}
+use Rattle.sort_order.proofs.Walk.{budget, good-lower, next-below, good-pop, good-all, budget-all, top-low, top-fresh, uses-comb, uses-flop}
 use Rattle.sort_order.proofs.WalkEnds.{good-start, budget-start}
 use Rattle.sort.proofs.Stack.{length-down}
 
 -- ---- lengths of the stack and of the recorded gates
 
 pub stack-short : (G : Graph) (c st done rest : List ℕ) → WalkState G c st done rest → length st ≤ G .size
-stack-short G c st done rest g =
-    omega (
-      arith,
-      sum-occ (G .size) st (λ v p. g .low v (omega arith) .0),
-      sum-le (G .size) (λ v. occ v st) (λ v l. omega (arith, g .once v)),
-    )
+stack-short G c st done rest g = once-short (G .size) st (λ v p. g .low v (omega arith) .0) (λ v. omega (arith, g .once v))
 
 pub done-short : (G : Graph) (c st done rest : List ℕ) → WalkState G c st done rest → length done ≤ G .size
-done-short G c st done rest g =
-    omega (
-      arith,
-      sum-occ (G .size) done (λ v p. g .low v (omega arith) .0),
-      sum-le (G .size) (λ v. occ v done) (λ v l. omega (arith, g .once v)),
-    )
+done-short G c st done rest g = once-short (G .size) done (λ v p. g .low v (omega arith) .0) (λ v. omega (arith, g .once v))
 
 -- ---- the walk goes by the counts of the gates alone
 

@@ -1,55 +1,33 @@
 -- What the sort keeps, and that every gate input of a combinational gate gets a lower number. Assumes nothing.
 use mathlib.Core.Path.{_≡_, refl, sym, ap, _∙_, subst}
-use mathlib.Core.List.{List, [], _∷_, _++_, map, List·Memᴰ, Memᴰ·of-map}
+use mathlib.Core.List.{List, [], _∷_, map, List·Memᴰ, Memᴰ·of-map}
 use mathlib.Core.Option.{Option, some}
 use mathlib.Core.Logic.{⊎-elim}
-use Prim.Native.Nat.{ℕ, zero, suc, _+_, _≤_, _<_}
+use Prim.Native.Nat.{ℕ, suc, _≤_, _<_}
 use native.Mathlib.Omega.{arith}
-use native.Mathlib.Nat.{le-of-lt}
-use native.Mathlib.Decide.{ℕ-discrete}
-use lib.ListN.{length, getD, getElem?, take, drop, length-map, length-append}
-use lib.Seq.{split-at, length-take-le}
-use Rattle.lists.specs.Lists.{hit, occ, sumTo, found, find}
-use Rattle.lists.proofs.Counting.{hit-same, hit-eq, hit-ne, hit-or, occ-append, zero-or, sum-mono, sumOver, sum-perm, mem-occ}
+use lib.ListN.{length, getD, getElem?, length-map}
+use Rattle.lists.specs.Lists.{occ, sumOf, sumTo}
+use Rattle.lists.proofs.Counting.{hit-or, zero-or, sum-head, sum-mono, sum-perm, mem-occ}
+use Rattle.lists.proofs.FirstPlace.{place, place-at, find-place}
 use Rattle.lists.proofs.Places.{place-getD, place-lt}
-use Rattle.signal.specs.Signal.{Node, Const, Input, Gated, Signal, remapNode, remap}
-use Rattle.signal.specs.Cell.{sigCell}
+use Rattle.signal.specs.Signal.{Node, Const, Input, Gated, Signal, remap}
 use Rattle.gates.specs.Gate.{Form, Buf, Gate, Comb, Dff, pins}
 use Rattle.gates.specs.Forms.{canHave, formed}
 use Rattle.network.specs.Net.{Net, GateIs, Valid, Formed}
 use Rattle.network.specs.Cells.{pinCells}
 use Rattle.network.specs.Renumber.{remapGate, orZero, placeOf, gateOr, permuted}
-use Rattle.network.proofs.Renumbering.{renumbered-valid, pins-remap}
+use Rattle.network.proofs.PinCells.{pins-next}
+use Rattle.network.proofs.Renumbering.{renumbered-valid, pins-remap, node-from, comb-from}
 use Rattle.sort_order.specs.Order.{uses, useCount, sortOrder}
 use Rattle.sort_order.specs.Sorted.{nodeGate, gateNums, combAt, insAt, graph}
 use Rattle.sort_order.proofs.Walk.{uses-comb, uses-ins}
-use Rattle.sort_order.proofs.Ordering.{place, place-here, place-there, place-right, sort-permutes, sort-length, sort-inputs, order-once, some-full}
+use Rattle.sort_order.proofs.Ordering.{sort-permutes, sort-length, sort-inputs, order-once, some-full}
 use Rattle.sort_order.proofs.Sorting.{point-nums, graph-valid, order-has, order-renumbers}
 
 -- ---- the new number is the place in the order
 
-pub find-place : (v : ℕ) (l : List ℕ) → 0 < occ v l → find ℕ-discrete l v ≡ some (place v l)
-find-place v [] p = absurd (omega arith)
-find-place v (x ∷ l) p = go (ℕ-discrete x v) (find-place v l)
-  where
-    go : (d : Dec (x ≡ v)) → (0 < occ v l → find ℕ-discrete l v ≡ some (place v l)) → found d (find ℕ-discrete l v) ≡ some (place v (x ∷ l))
-    go (yes e) ih = ap some (sym (place-here v x l (hit-eq (sym e))))
-    go (no e) ih =
-        let z : hit v x ≡ 0 = hit-ne (λ q. e (sym q)) in
-        ap (found (no e)) (ih (omega (arith, z))) ∙ ap some (sym (place-there v x l z))
-
 pub new-place : (v : ℕ) (l : List ℕ) → 0 < occ v l → placeOf l v ≡ place v l
 new-place v l p = ap orZero (find-place v l p)
-
--- the place of the i-th number is i
-pub place-at : (l : List ℕ) (i : ℕ) → i < length l → ((v : ℕ) → occ v l ≤ 1) → place (getD l i 0) l ≡ i
-place-at l i h once =
-    let x = getD l i 0 in
-    let e : l ≡ take i l ++ x ∷ drop (suc i) l = split-at l i 0 h in
-    let z : occ x (take i l) ≡ 0 = omega (arith, ap (occ x) e, occ-append x (take i l) (x ∷ drop (suc i) l), hit-same x, once x) in
-    ap (place x) e
-    ∙ place-right x (take i l) (x ∷ drop (suc i) l) z
-    ∙ (rw (place-here x x (drop (suc i) l) (hit-same x), length-take-le i l (le-of-lt h)) (omega arith))
 
 -- ---- counting pins
 
@@ -57,21 +35,10 @@ place-at l i h once =
 abbrev pub pinsAt : List Gate → ℕ → ℕ
 pinsAt gs g = length (pins (getD gs g (Comb Buf [])))
 
-sum-head : (k : ℕ) (f : ℕ → ℕ) → sumTo (suc k) f ≡ f 0 + sumTo k (λ i. f (suc i))
-sum-head zero f = omega arith
-sum-head (suc k) f = omega (arith, sum-head k f)
-
 pub length-pinCells : (gs : List Gate) → length (pinCells gs) ≡ sumTo (length gs) (pinsAt gs)
 unfolding pinCells
 length-pinCells [] = refl
-length-pinCells (x ∷ gs) =
-    omega (
-      arith,
-      length-append (map sigCell (pins x)) (pinCells gs),
-      length-map (pins x) sigCell,
-      length-pinCells gs,
-      sum-head (length gs) (pinsAt (x ∷ gs)),
-    )
+length-pinCells (x ∷ gs) = omega (arith, pins-next x gs, length-pinCells gs, sum-head (length gs) (pinsAt (x ∷ gs)))
 
 pub occ-nums : (v : ℕ) (ss : List Signal) → occ v (gateNums ss) ≤ length ss
 occ-nums v [] = omega arith
@@ -102,15 +69,6 @@ uses-within net v =
     )
 
 -- ---- a renumbered gate
-
-node-from : (π : ℕ → ℕ) (n : Node) (d : ℕ) → remapNode π n ≡ Gated d → (v : ℕ) × (n ≡ Gated v) × (π v ≡ d)
-node-from π Const d e = absurd (let z : _≡_ {A = ℕ} 0 1 = cc in omega arith)
-node-from π (Input i) d e = absurd (let z : _≡_ {A = ℕ} 0 1 = cc in omega arith)
-node-from π (Gated g) d e = (g, refl, cc)
-
-comb-from : (π : ℕ → ℕ) (y : Gate) (f : Form) (ps : List Signal) → Comb f ps ≡ remapGate π y → (qs : List Signal) × (y ≡ Comb f qs) × (ps ≡ map (remap π) qs)
-comb-from π (Comb h qs) f ps e = (qs, (let q : h ≡ f = cc in ap (λ (x : Form). Comb x qs) q), cc)
-comb-from π (Dff s) f ps e = absurd (let z : _≡_ {A = ℕ} 0 1 = cc in omega arith)
 
 formed-remap : (π : ℕ → ℕ) (y : Gate) → formed (remapGate π y) ≡ formed y
 formed-remap π (Comb f ps) = ap (canHave f) (length-map ps (remap π))
@@ -164,18 +122,11 @@ module _ (net : Net) (valid : Valid net) (l : List ℕ) (e : sortOrder (graph ne
   pub kept-outputs : length (permuted l net .outputs) ≡ length (net .outputs)
   kept-outputs = length-map (net .outputs) (remap (placeOf l))
 
-  cells-over : (π : ℕ → ℕ) (k : List ℕ) → length (pinCells (map (λ (o : ℕ). remapGate π (gateOr net o)) k)) ≡ sumOver (pinsAt (net .gates)) k
+  cells-over : (π : ℕ → ℕ) (k : List ℕ) → length (pinCells (map (λ (o : ℕ). remapGate π (gateOr net o)) k)) ≡ sumOf (pinsAt (net .gates)) k
   unfolding pinCells
   cells-over π [] = refl
   cells-over π (o ∷ k) =
-      let r = map (λ (p : ℕ). remapGate π (gateOr net p)) k in
-      omega (
-        arith,
-        length-append (map sigCell (pins (remapGate π (gateOr net o)))) (pinCells r),
-        length-map (pins (remapGate π (gateOr net o))) sigCell,
-        pins-many π (gateOr net o),
-        cells-over π k,
-      )
+      omega (arith, pins-next (remapGate π (gateOr net o)) (map (λ (p : ℕ). remapGate π (gateOr net p)) k), pins-many π (gateOr net o), cells-over π k)
 
   pub kept-pins : length (pinCells (permuted l net .gates)) ≡ length (pinCells (net .gates))
   kept-pins =

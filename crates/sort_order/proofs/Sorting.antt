@@ -2,7 +2,7 @@
 use mathlib.Core.Path.{_≡_, refl, sym, ap, _∙_, subst}
 use mathlib.Core.List.{List, [], _∷_, List·Memᴰ, List·Memᴰ·head, List·Memᴰ·tail, List·Memᴰ·not-nil, List·Memᴰ·cases-cons}
 use mathlib.Core.Bool.{true, false≢true}
-use mathlib.Core.Option.{Option, none, some}
+use mathlib.Core.Option.{Option, none, some, Option·none-ne-some}
 use mathlib.Core.Logic.{_↔_, ⊎-elim}
 use Prim.Native.Nat.{ℕ, _<_}
 use native.Mathlib.Omega.{arith}
@@ -14,14 +14,14 @@ use Rattle.signal.specs.Signal.{Node, Const, Input, Gated, Signal}
 use Rattle.gates.specs.Gate.{Form, Gate, Comb, Dff, pins}
 use Rattle.network.specs.Net.{Net, Valid, ValidNode, Feeds, Way, last, Loop}
 use Rattle.network.specs.Renumber.{permuted, placeOf, Renumbered}
-use Rattle.network.proofs.Permuting.{Orders}
 use Rattle.network.proofs.OneChoice.{way-snoc}
-use Rattle.network.proofs.Permuting.{permuted-renumbers}
+use Rattle.network.proofs.Permuting.{Orders, permuted-renumbers}
 use Rattle.sort_order.specs.Order.{sortOrder}
 use Rattle.sort_order.specs.Sorted.{nodeGate, gateNums, combAt, insAt, graph, sortedBy, sorted}
 use Rattle.sort_order.specs.Walk.{ValidGraph}
-use Rattle.sort_order.proofs.Ordering as ord
-use Rattle.sort_order.proofs.Ordering.{one, more, some-full, order-below, sort-permutes, sort-none}
+use Rattle.sort_order.proofs.Ordering.{some-full, order-below, sort-permutes}
+use Rattle.sort_order.proofs.Rings as rings
+use Rattle.sort_order.proofs.Rings.{one, more, sort-none}
 
 -- a gate among the signals' gates is what a signal points at
 nums-point : (d : ℕ) (ss : List Signal) → List·Memᴰ d (gateNums ss) → (s : Signal) × List·Memᴰ s ss × (s .node ≡ Gated d)
@@ -61,7 +61,7 @@ module _ (net : Net) (valid : Valid net) where
       let t = ins-point d (getElem? (net .gates) g) u in
       subst (ValidNode net) (t .2 .2) (valid .pinsValid g (t .0) (t .2 .0) (t .1) (t .2 .1))
 
-  feeds-back : (d g : ℕ) → ord.Feeds (graph net) d g → Feeds net d g
+  feeds-back : (d g : ℕ) → rings.Feeds (graph net) d g → Feeds net d g
   feeds-back d g f =
       let a = comb-is (getElem? (net .gates) d) (f .from) in
       let b = comb-is (getElem? (net .gates) g) (f .to) in
@@ -70,14 +70,14 @@ module _ (net : Net) (valid : Valid net) where
       let e : t .0 ≡ Comb (b .0) (b .1) = cc in
       record { formA = a .0; pinsA = a .1; isA = a .2; formB = b .0; pinsB = b .1; isB = b .2; by = t .2 .0; among = subst (λ (x : Gate). List·Memᴰ (t .2 .0) (pins x)) e (t .2 .1); points = t .2 .2 }
 
-  chain-back : {a b : ℕ} → ord.Chain (graph net) a b → Way net a b
+  chain-back : {a b : ℕ} → rings.Chain (graph net) a b → Way net a b
   chain-back {a} {b} (one f) = last (feeds-back a b f)
   chain-back {a} {b = c} (more {b = b} w f) = way-snoc (chain-back w) (feeds-back b c f)
 
-  loop-back : ord.Ring (graph net) → Loop net
+  loop-back : rings.Ring (graph net) → Loop net
   loop-back l = (l .at, chain-back (l .ring))
 
-  feeds-to : (d g : ℕ) → Feeds net d g → ord.Feeds (graph net) d g
+  feeds-to : (d g : ℕ) → Feeds net d g → rings.Feeds (graph net) d g
   feeds-to d g f = record {
     below = place-lt (net .gates) g (Comb (f .formB) (f .pinsB)) (f .isB);
     from = ap combAt (f .isA);
@@ -85,40 +85,40 @@ module _ (net : Net) (valid : Valid net) where
     input = subst (λ (o : Option Gate). 0 < occ d (insAt o)) (sym (f .isB)) (mem-occ d (gateNums (f .pinsB)) (point-nums d (f .pinsB) (f .by) (f .among) (f .points)));
   }
 
-  chain-cons : {a b c : ℕ} → ord.Feeds (graph net) a b → ord.Chain (graph net) b c → ord.Chain (graph net) a c
+  chain-cons : {a b c : ℕ} → rings.Feeds (graph net) a b → rings.Chain (graph net) b c → rings.Chain (graph net) a c
   chain-cons f (one g) = more (one f) g
   chain-cons f (more w g) = more (chain-cons f w) g
 
-  chain-to : {a b : ℕ} → Way net a b → ord.Chain (graph net) a b
+  chain-to : {a b : ℕ} → Way net a b → rings.Chain (graph net) a b
   chain-to {a} {b} (last f) = one (feeds-to a b f)
   chain-to {a} {b = c} (Way.more {b = b} f w) = chain-cons (feeds-to a b f) (chain-to w)
 
   -- ---- the network sorted
 
+  sorted-as : {o : Option (List ℕ)} → sortOrder (graph net) ≡ o → sorted net ≡ sortedBy o net
+  unfolding sorted
+  sorted-as p = ap (λ (r : Option (List ℕ)). sortedBy r net) p
+
   -- an order, where the network is sorted
   pub sorted-order : (new : Net) → sorted net ≡ some new → (l : List ℕ) × (sortOrder (graph net) ≡ some l) × (permuted l net ≡ new)
-  unfolding sorted
   sorted-order new e = go (sortOrder (graph net)) refl
     where
       go : (o : Option (List ℕ)) → sortOrder (graph net) ≡ o → (l : List ℕ) × (sortOrder (graph net) ≡ some l) × (permuted l net ≡ new)
-      go none p = absurd (let q : none ≡ some new = sym (ap (λ (r : Option (List ℕ)). sortedBy r net) p) ∙ e in let z : _≡_ {A = ℕ} 0 1 = cc in omega arith)
-      go (some l) p = (l, p, (let q : some (permuted l net) ≡ some new = sym (ap (λ (r : Option (List ℕ)). sortedBy r net) p) ∙ e in cc))
+      go none p = absurd (Option·none-ne-some new (sym (sorted-as p) ∙ e))
+      go (some l) p = (l, p, (let q : some (permuted l net) ≡ some new = sym (sorted-as p) ∙ e in cc))
 
   pub order-sorted : (l : List ℕ) → sortOrder (graph net) ≡ some l → sorted net ≡ some (permuted l net)
-  unfolding sorted
-  order-sorted l p = ap (λ (r : Option (List ℕ)). sortedBy r net) p
+  order-sorted l p = sorted-as p
 
   pub none-sorted : sortOrder (graph net) ≡ none → sorted net ≡ none
-  unfolding sorted
-  none-sorted p = ap (λ (r : Option (List ℕ)). sortedBy r net) p
+  none-sorted p = sorted-as p
 
   pub sorted-none : sorted net ≡ none → sortOrder (graph net) ≡ none
-  unfolding sorted
   sorted-none e = go (sortOrder (graph net)) refl
     where
       go : (o : Option (List ℕ)) → sortOrder (graph net) ≡ o → sortOrder (graph net) ≡ none
       go none p = p
-      go (some l) p = absurd (let q : some (permuted l net) ≡ none = sym (ap (λ (r : Option (List ℕ)). sortedBy r net) p) ∙ e in let z : _≡_ {A = ℕ} 0 1 = cc in omega arith)
+      go (some l) p = absurd (Option·none-ne-some (permuted l net) (sym e ∙ sorted-as p))
 
   pub none-loop : (sorted net ≡ none) ↔ Loop net
   none-loop = (
@@ -127,7 +127,7 @@ module _ (net : Net) (valid : Valid net) where
   )
 
   pub sorted-free : (new : Net) → sorted net ≡ some new → Loop net → ⊥
-  sorted-free new e r = let q : sorted net ≡ none = none-loop .1 r in let z : _≡_ {A = ℕ} 0 1 = cc in omega arith
+  sorted-free new e r = Option·none-ne-some new (sym (none-loop .1 r) ∙ e)
 
   module _ (l : List ℕ) (e : sortOrder (graph net) ≡ some l) where
     pub order-has : (g : ℕ) → 0 < occ g l → g < length (net .gates)

@@ -19,7 +19,7 @@ use Rattle.network.specs.Renumber.{placeOf, permuted}
 use Rattle.network.proofs.Summary.{renumbered-runs}
 use Rattle.sort_order.specs.Order.{useCount, startTo, walk, recorded, sortOrder}
 use Rattle.sort_order.specs.Sorted.{graph, sorted, Preserved}
-use Rattle.sort_order.proofs.WalkEnds.{good-start, budget-start}
+use Rattle.sort_order.proofs.WalkEnds.{good-start, budget-start, walk-enough}
 use Rattle.sort_order.proofs.Ordering as ord
 use Rattle.sort_order.proofs.Sorting.{graph-valid, sorted-order, none-loop, sorted-free, order-renumbers}
 use Rattle.sort_order.proofs.Keeps.{lower, uses-within, kept-valid, kept-formed, kept-gates, kept-outputs, kept-pins}
@@ -43,7 +43,7 @@ pops-enough net valid k h =
     let same : (v : ℕ) → v < G .size → getD c v 0 ≡ useCount G v = λ v l. getD-listTo (G .size) (useCount G) v l in
     let long : G .size ≤ length c = omega (arith, length-listTo (G .size) (useCount G)) in
     let b = budget-start G c same long in
-    ord.walk-enough G (graph-valid net valid) k (G .size) c (startTo (G .comb) (useCount G) (G .size)) [] (good-start G c same long) (omega (arith, b)) b
+    walk-enough G (graph-valid net valid) k (G .size) c (startTo (G .comb) (useCount G) (G .size)) [] (good-start G c same long) (omega (arith, b)) b
 
 -- "After a sort, every gate input of a combinational gate has a lower number"
 pub inputs-lower : (net new : Net) → Valid net → sorted net ≡ some new → (i d : ℕ) (f : Form) (ps : List Signal) (s : Signal)

@@ -6,9 +6,9 @@ use mathlib.Core.Path.{_≡_, refl, sym, ap, _∙_}
 use Prim.Native.Nat.{ℕ, zero, suc, _+_, _-_, _≤_, _<_}
 use native.Mathlib.Omega.{arith}
 use lib.ListN.{length, getD, length-set}
-use lib.Seq.{getD-set-same, getD-set-other}
+use lib.Seq.{getD-set-other}
 use Rattle.lists.specs.Lists.{sumTo, hit, occ}
-use Rattle.lists.proofs.Counting.{hit-ne, hit-or, hit-same, sum-point, part-le, zero-or}
+use Rattle.lists.proofs.Counting.{hit-ne, hit-or, hit-same, set-hit, sum-point, part-le, is-zero, is-over}
 use Rattle.sort_order.specs.Order.{Graph, uses, lowered, pushed, countsAfter, stackAfter, kept, walk}
 use Rattle.sort_order.specs.Walk.{ValidGraph, left, usesLeft, WalkState}
 
@@ -24,18 +24,7 @@ budget G c st = length st + sumTo (G .size) (λ v. pos (getD c v 0))
 -- ---- one input
 
 pub lowered-at : (c : List ℕ) (d v : ℕ) → d < length c → getD (lowered c d) v 0 ≡ getD c v 0 - hit v d
-lowered-at c d v l =
-    ⊎-elim
-    (λ w.
-    omega (
-      arith,
-      w .1,
-      ap (λ (x : ℕ). getD (lowered c d) x 0) (w .0),
-      ap (λ (x : ℕ). getD c x 0) (w .0),
-      getD-set-same c d (getD c d 0 - 1) 0 l,
-    ))
-    (λ w. omega (arith, w .1, getD-set-other c d v (getD c d 0 - 1) 0 (w .0)))
-    (hit-or v d)
+lowered-at c d v l = ⊎-elim (λ w. omega (arith, w .0, w .1)) (λ w. omega (arith, w .0, w .1)) (set-hit (λ n. n - 1) c d v l)
 
 module _ (G : Graph) (c st done : List ℕ) (d : ℕ) (rest : List ℕ) (g : WalkState G c st done (d ∷ rest)) where
   -- d is a gate, its count is not zero, and it is neither on the stack nor recorded
@@ -46,7 +35,7 @@ module _ (G : Graph) (c st done : List ℕ) (d : ℕ) (rest : List ℕ) (g : Wal
   next-count = omega (arith, g .counted d next-below, hit-same d)
 
   pub next-fresh : occ d st + occ d done ≡ 0
-  next-fresh = ⊎-elim (λ e. e) (λ p. absurd (omega (arith, g .low d p, next-count))) (zero-or (occ d st + occ d done))
+  next-fresh = is-zero (λ p. omega (arith, g .low d p, next-count))
 
   at : (v : ℕ) → getD (lowered c d) v 0 ≡ getD c v 0 - hit v d
   at v = lowered-at c d v (omega (arith, next-below, g .long))
@@ -90,25 +79,21 @@ module _ (G : Graph) (c st done : List ℕ) (d : ℕ) (rest : List ℕ) (g : Wal
   pub good-lower : WalkState G (lowered c d) (pushed (getD c d 0 - 1) d st) done rest
   good-lower = good-push (getD c d 0 - 1) refl
 
+  -- only the term of d changes
+  sum-lower : (a : ℕ) → pos (getD (lowered c d) d 0) + a ≡ pos (getD c d 0) → sumTo (G .size) (λ v. pos (getD (lowered c d) v 0)) + a ≡ sumTo (G .size) (λ v. pos (getD c v 0))
+  sum-lower a q =
+      sum-point (G .size) (λ v. pos (getD c v 0)) (λ v. pos (getD (lowered c d) v 0)) d a next-below q
+      (λ v z. ap pos (sym (getD-set-other c d v (getD c d 0 - 1) 0 z)))
+
   budget-push : (m : ℕ) → getD c d 0 - 1 ≡ m → budget G (lowered c d) (pushed m d st) ≡ budget G c st
   budget-push zero e =
-      omega (
-        arith,
-        sum-point (G .size) (λ v. pos (getD c v 0)) (λ v. pos (getD (lowered c d) v 0)) d 1 next-below
-            (let a : getD (lowered c d) d 0 ≡ 0 = omega (arith, at d, e, hit-same d) in
-            let b : getD c d 0 ≡ 1 = omega (arith, e, next-count) in
-            rw (a, b))
-            (λ v z. ap pos (sym (getD-set-other c d v (getD c d 0 - 1) 0 z))),
-      )
+      let a : getD (lowered c d) d 0 ≡ 0 = omega (arith, at d, e, hit-same d) in
+      let b : getD c d 0 ≡ 1 = omega (arith, e, next-count) in
+      omega (arith, sum-lower 1 (rw (a, b)))
   budget-push (suc m) e =
-      omega (
-        arith,
-        sum-point (G .size) (λ v. pos (getD c v 0)) (λ v. pos (getD (lowered c d) v 0)) d 0 next-below
-            (let a : getD (lowered c d) d 0 ≡ suc m = omega (arith, at d, e, hit-same d) in
-            let b : getD c d 0 ≡ suc (suc m) = omega (arith, e, next-count) in
-            rw (a, b))
-            (λ v z. ap pos (sym (getD-set-other c d v (getD c d 0 - 1) 0 z))),
-      )
+      let a : getD (lowered c d) d 0 ≡ suc m = omega (arith, at d, e, hit-same d) in
+      let b : getD c d 0 ≡ suc (suc m) = omega (arith, e, next-count) in
+      omega (arith, sum-lower 0 (rw (a, b)))
 
   pub budget-lower : budget G (lowered c d) (pushed (getD c d 0 - 1) d st) ≡ budget G c st
   budget-lower = budget-push (getD c d 0 - 1) refl
@@ -166,19 +151,15 @@ module _ (G : Graph) (valid : ValidGraph G) (c st done : List ℕ) (x : ℕ) (g 
   -- no gate that is not recorded uses x
   top-users : (u : ℕ) → u < G .size → 0 < occ x (uses G u) → 0 < occ u done
   top-users u l p =
-      ⊎-elim
-      (λ e.
-      absurd
-      (omega (
+      is-over (λ e.
+      omega (
         arith,
         p,
         left-none (occ u done) (occ x (uses G u)) e,
         part-le (G .size) (λ y. left (occ y done) (occ x (uses G y))) u l,
         g .counted x (top-low .0),
         top-low .1,
-      )))
-      (λ q. q)
-      (zero-or (occ u done))
+      ))
 
   good-kept : (b : Bool) → G .comb x ≡ b → WalkState G c st (kept b x done) (uses G x)
   good-kept true e =

@@ -1,4 +1,4 @@
--- The walk's start is good, and its end. Assumes nothing.
+-- The walk's start is good, and its end; more pops change nothing. Assumes nothing.
 use mathlib.Core.Bool.{Bool, true, false, cond}
 use mathlib.Core.Logic.{⊎-elim}
 use mathlib.Core.List.{List, [], _∷_, _++_}
@@ -7,29 +7,36 @@ use Prim.Native.Nat.{ℕ, zero, suc, _+_, _≤_, _<_}
 use native.Mathlib.Omega.{arith}
 use lib.ListN.{length, getD}
 use Rattle.lists.specs.Lists.{hit, occ, sumTo, listTo}
-use Rattle.lists.proofs.Counting.{hit-eq, hit-or, sum-cong, last-or, zero-or, occ-append, length-listTo, getD-listTo}
-use Rattle.sort_order.specs.Order.{Graph, useCount, pushed, flopsTo, startTo, recorded}
+use Rattle.lists.proofs.Counting.{hit-eq, hit-or, sum-cong, last-or, is-zero, occ-append, length-listTo, getD-listTo}
+use Rattle.sort_order.specs.Order.{Graph, uses, useCount, pushed, flopsTo, startTo, recorded, walk, countsAfter, stackAfter, kept}
 use Rattle.sort_order.specs.Walk.{ValidGraph, WalkState}
-use Rattle.sort_order.proofs.Walk.{pos, budget}
-use Rattle.sort_order.proofs.Walk.{Ended, walk-ends}
+use Rattle.sort_order.proofs.Walk.{pos, budget, Ended, good-pop, good-all, budget-all, walk-ends}
 
-module _ (G : Graph) (f : ℕ → ℕ) where
-  -- v stands in l at most once, and only if it is below k with count zero
-  abbrev Only : ℕ → ℕ → List ℕ → Type 0
-  Only v k l = (occ v l ≤ 1) × (0 < occ v l → (v < k) × (f v ≡ 0))
+-- v stands in l at most once, and only if it is below k and has the property
+abbrev Only : (ℕ → Type 0) → ℕ → ℕ → List ℕ → Type 0
+Only P v k l = (occ v l ≤ 1) × (0 < occ v l → (v < k) × P v)
 
-  only-next : (v k : ℕ) (l : List ℕ) (b : Bool) (m : ℕ) → f k ≡ m → Only v k l → Only v (suc k) (cond b (pushed m k l) l)
-  only-next v k l false m e h = (h .0, λ p. let q = h .1 p in (omega arith, q .1))
-  only-next v k l true (suc m) e h = (h .0, λ p. let q = h .1 p in (omega arith, q .1))
-  only-next v k l true zero e h =
+-- so it is for the next k, whether k is left out or taken in
+module _ (P : ℕ → Type 0) (v k : ℕ) (l : List ℕ) (h : Only P v k l) (next : List ℕ) where
+  only-same : occ v next ≡ occ v l → Only P v (suc k) next
+  only-same e = (omega (arith, h .0), λ p. let q = h .1 (omega arith) in (omega (arith, q .0), q .1))
+
+  only-more : occ v next ≡ occ v l + hit v k → P k → Only P v (suc k) next
+  only-more e x =
       ⊎-elim
       (λ w.
-      let z : occ v l ≡ 0 = ⊎-elim (λ z. z) (λ p. absurd (omega (arith, w .0, h .1 p))) (zero-or (occ v l)) in
-      (omega (arith, w .1), λ p. (omega (arith, w .0), ap f (w .0) ∙ e)))
-      (λ w. (omega (arith, w .1, h .0), λ p. let q = h .1 (omega (arith, w .1)) in (omega arith, q .1)))
+      let z : occ v l ≡ 0 = is-zero (λ p. omega (arith, w .0, h .1 p)) in
+      (omega (arith, w .1), λ p. (omega (arith, w .0), rw (w .0) x)))
+      (λ w. (omega (arith, w .1, h .0), λ p. let q = h .1 (omega (arith, w .1)) in (omega (arith, q .0), q .1)))
       (hit-or v k)
 
-  pub start-only : (v k : ℕ) → Only v k (startTo (G .comb) f k)
+module _ (G : Graph) (f : ℕ → ℕ) where
+  only-next : (v k : ℕ) (l : List ℕ) (b : Bool) (m : ℕ) → f k ≡ m → Only (λ u. f u ≡ 0) v k l → Only (λ u. f u ≡ 0) v (suc k) (cond b (pushed m k l) l)
+  only-next v k l false m e h = only-same (λ u. f u ≡ 0) v k l h l refl
+  only-next v k l true (suc m) e h = only-same (λ u. f u ≡ 0) v k l h l refl
+  only-next v k l true zero e h = only-more (λ u. f u ≡ 0) v k l h (k ∷ l) (omega arith) e
+
+  pub start-only : (v k : ℕ) → Only (λ u. f u ≡ 0) v k (startTo (G .comb) f k)
   start-only v zero = (omega arith, λ p. absurd (omega arith))
   start-only v (suc k) = only-next v k (startTo (G .comb) f k) (G .comb k) (f k) refl (start-only v k)
 
@@ -62,23 +69,11 @@ module _ (G : Graph) (f : ℕ → ℕ) where
 -- ---- flip-flops
 
 module _ (G : Graph) where
-  abbrev OnlyFlop : ℕ → ℕ → List ℕ → Type 0
-  OnlyFlop v k l = (occ v l ≤ 1) × (0 < occ v l → (v < k) × (G .comb v ≡ false))
+  flop-next : (v k : ℕ) (l : List ℕ) (b : Bool) → G .comb k ≡ b → Only (λ u. G .comb u ≡ false) v k l → Only (λ u. G .comb u ≡ false) v (suc k) (l ++ cond b [] (k ∷ []))
+  flop-next v k l true e h = only-same (λ u. G .comb u ≡ false) v k l h (l ++ []) (omega (arith, occ-append v l []))
+  flop-next v k l false e h = only-more (λ u. G .comb u ≡ false) v k l h (l ++ k ∷ []) (omega (arith, occ-append v l (k ∷ []))) e
 
-  flop-next : (v k : ℕ) (l : List ℕ) (b : Bool) → G .comb k ≡ b → OnlyFlop v k l → OnlyFlop v (suc k) (l ++ cond b [] (k ∷ []))
-  flop-next v k l true e h =
-      let q : occ v (l ++ []) ≡ occ v l = omega (arith, occ-append v l []) in
-      (omega (arith, q, h .0), λ p. let r = h .1 (omega (arith, q, p)) in (omega arith, r .1))
-  flop-next v k l false e h =
-      let q : occ v (l ++ k ∷ []) ≡ occ v l + hit v k = omega (arith, occ-append v l (k ∷ [])) in
-      ⊎-elim
-      (λ w.
-      let z : occ v l ≡ 0 = ⊎-elim (λ z. z) (λ p. absurd (omega (arith, w .0, h .1 p))) (zero-or (occ v l)) in
-      (omega (arith, w .1), λ p. (omega (arith, w .0), ap (G .comb) (w .0) ∙ e)))
-      (λ w. (omega (arith, w .1, h .0), λ p. let r = h .1 (omega (arith, w .1)) in (omega arith, r .1)))
-      (hit-or v k)
-
-  pub flop-only : (v k : ℕ) → OnlyFlop v k (flopsTo (G .comb) k)
+  pub flop-only : (v k : ℕ) → Only (λ u. G .comb u ≡ false) v k (flopsTo (G .comb) k)
   flop-only v zero = (omega arith, λ p. absurd (omega arith))
   flop-only v (suc k) = flop-next v k (flopsTo (G .comb) k) (G .comb k) refl (flop-only v k)
 
@@ -125,3 +120,20 @@ module _ (G : Graph) where
       let same : (v : ℕ) → v < G .size → getD c v 0 ≡ useCount G v = λ v l. getD-listTo (G .size) (useCount G) v l in
       let long : G .size ≤ length c = omega (arith, length-listTo (G .size) (useCount G)) in
       walk-ends G valid (G .size) c (startTo (G .comb) (useCount G) (G .size)) [] (good-start c same long) (budget-start c same long)
+
+-- ---- more pops change nothing
+
+pub walk-enough : (G : Graph) → ValidGraph G → (k j : ℕ) (c st done : List ℕ) → WalkState G c st done [] → budget G c st ≤ k → budget G c st ≤ j → walk G k c st done ≡ walk G j c st done
+walk-enough G valid zero zero c st done g l m = refl
+walk-enough G valid zero (suc j) c [] done g l m = refl
+walk-enough G valid zero (suc j) c (x ∷ st) done g l m = absurd (omega arith)
+walk-enough G valid (suc k) zero c [] done g l m = refl
+walk-enough G valid (suc k) zero c (x ∷ st) done g l m = absurd (omega arith)
+walk-enough G valid (suc k) (suc j) c [] done g l m = refl
+walk-enough G valid (suc k) (suc j) c (x ∷ st) done g l m =
+    let p = good-pop G valid c st done x g in
+    let b = budget-all G (uses G x) c st (kept (G .comb x) x done) p in
+    walk-enough G valid k j (countsAfter (uses G x) c) (stackAfter (uses G x) c st) (kept (G .comb x) x done)
+    (good-all G (uses G x) c st (kept (G .comb x) x done) p)
+    (omega arith)
+    (omega arith)

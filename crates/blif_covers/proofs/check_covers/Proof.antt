@@ -68,13 +68,18 @@ sub-line-fits : tie.Need-sub-line-fits Inv-loop2 μ-loop2 Inv-loop μ-loop Inv-p
 sub-line-fits c = search steps
 
 line-fits-requires : tie.Need-line-fits-requires Inv-loop2 μ-loop2 Inv-loop μ-loop Inv-pass μ-pass
-line-fits-requires c κs = line-some (c .before .before .before .before .before .before .loop .inv) (c .before .before .before .before .before .loop-test .taken) (c .before .before .before .before .row-end .ensures)
+line-fits-requires c κs =
+    let loop = c .before .before .before .before .before .before .loop in
+    let loop-test = c .before .before .before .before .before .loop-test in
+    line-some (loop .inv) (loop-test .taken) (c .before .before .before .before .row-end .ensures)
 
 loop2-holds : tie.Need-loop2-holds Inv-loop2 μ-loop2 Inv-loop μ-loop Inv-pass μ-pass
 loop2-holds c =
-    let r = c .before .before .before .before .before .before in
+    let before = c .before .before .before .before .before .before in
+    let line-columns = c .before .before .before .before .before .line-columns in
+    let r = before in
     enter-line (r .before .before .loop .inv) (r .before .loop-test .taken) (r .row-end .ensures)
-    (c .before .before .before .before .before .line-columns .ensures) (c .before .before .before .token .ensures) (c .before .before .output-of .ensures) (c .before .line-fits .ensures) (c .if2 .left)
+    (line-columns .ensures) (c .before .before .before .token .ensures) (c .before .before .output-of .ensures) (c .before .line-fits .ensures) (c .if2 .left)
 
 shared-slice-read-is-column :
     tie.Need-shared-slice-read-is-column Inv-loop2 μ-loop2 Inv-loop μ-loop Inv-pass μ-pass

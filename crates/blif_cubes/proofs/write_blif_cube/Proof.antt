@@ -16,7 +16,9 @@ same-length c = search needs
 
 returns : tie.Need-returns
 unfolding cubeOf
-returns c = from-start (and-append (to-start (c .before .before .before .before .before .before .put-columns .ensures)) (c .before .before .append-output .ensures))
+returns c =
+    let put-columns = c .before .before .before .before .before .before .put-columns in
+    from-start (and-append (to-start (put-columns .ensures)) (c .before .before .append-output .ensures))
 
 pub write-blif-cube-spec : {M : Type 1} → statement M
 write-blif-cube-spec =

@@ -15,7 +15,9 @@ same-length : tie.Need-same-length
 same-length c = search needs
 
 returns-2 : tie.Need-returns-2
-returns-2 c = as-wrote (minterm-is (c .before .before .before .before .before .before .args .parity) (c .before .before .before .before .before .before .args .num-vars) (c .before .before .before .before .before .before .args .mask) (c .before .before .before .before .if1 .left)) (c .before .before .write-blif-cube .ensures)
+returns-2 c =
+    let args = c .before .before .before .before .before .before .args in
+    as-wrote (minterm-is (args .parity) (args .num-vars) (args .mask) (c .before .before .before .before .if1 .left)) (c .before .before .write-blif-cube .ensures)
 
 pub write-minterm-spec : {M : Type 1} → statement M
 write-minterm-spec = tie.close (tie.spec returns write-blif-cube-requires same-length returns-2)

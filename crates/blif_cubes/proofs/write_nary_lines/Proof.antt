@@ -1,8 +1,10 @@
 -- `write_nary_lines` writes the lines by the type. Assumes nothing.
 use mathlib.Core.Path.{refl}
+use mathlib.Core.Bool.{true, false}
+use Rattle.blif_model.specs.Blif.{C0, C1}
 use borrow.Author.Needs.{needs}
 use Rattle.blif_names.proofs.Laws.{as-wrote}
-use Rattle.blif_cubes.proofs.FormLines.{within-narrow, lines-at, and-line, or-line, nand-line, nor-line, xor-lines, xnor-lines}
+use Rattle.blif_cubes.proofs.FormLines.{within-narrow, lines-at, same-line, xor-lines, xnor-lines}
 use Rattle.blif_cubes.proofs.write_nary_lines.Statement.{statement}
 use Rattle.blif_cubes.proofs.write_nary_lines.Tie as tie
 
@@ -46,37 +48,49 @@ same-length : tie.Need-same-length
 same-length c = search needs
 
 returns : tie.Need-returns
-returns c = as-wrote (lines-at (c .before .before .before .before .before .before .before .args .num-vars) (c .before .before .before .before .enum-told .given .1) (and-line (c .before .before .before .before .before .before .before .args .num-vars))) (c .before .before .write-same-cube .ensures)
+returns c =
+    let args = c .before .before .before .before .before .before .before .args in
+    as-wrote (lines-at (args .num-vars) (c .before .before .before .before .enum-told .given .1) (same-line (args .num-vars) C1 true)) (c .before .before .write-same-cube .ensures)
 
 same-length-2 : tie.Need-same-length-2
 same-length-2 c = search needs
 
 returns-2 : tie.Need-returns-2
-returns-2 c = as-wrote (lines-at (c .before .before .before .before .before .before .before .args .num-vars) (c .before .before .before .before .enum-told2 .given .1) (or-line (c .before .before .before .before .before .before .before .args .num-vars))) (c .before .before .write-same-cube2 .ensures)
+returns-2 c =
+    let args = c .before .before .before .before .before .before .before .args in
+    as-wrote (lines-at (args .num-vars) (c .before .before .before .before .enum-told2 .given .1) (same-line (args .num-vars) C0 false)) (c .before .before .write-same-cube2 .ensures)
 
 same-length-3 : tie.Need-same-length-3
 same-length-3 c = search needs
 
 returns-3 : tie.Need-returns-3
-returns-3 c = as-wrote (lines-at (c .before .before .before .before .before .before .before .args .num-vars) (c .before .before .before .before .enum-told3 .given .1) (nand-line (c .before .before .before .before .before .before .before .args .num-vars))) (c .before .before .write-same-cube3 .ensures)
+returns-3 c =
+    let args = c .before .before .before .before .before .before .before .args in
+    as-wrote (lines-at (args .num-vars) (c .before .before .before .before .enum-told3 .given .1) (same-line (args .num-vars) C1 false)) (c .before .before .write-same-cube3 .ensures)
 
 same-length-4 : tie.Need-same-length-4
 same-length-4 c = search needs
 
 returns-4 : tie.Need-returns-4
-returns-4 c = as-wrote (lines-at (c .before .before .before .before .before .before .before .args .num-vars) (c .before .before .before .before .enum-told4 .given .1) (nor-line (c .before .before .before .before .before .before .before .args .num-vars))) (c .before .before .write-same-cube4 .ensures)
+returns-4 c =
+    let args = c .before .before .before .before .before .before .before .args in
+    as-wrote (lines-at (args .num-vars) (c .before .before .before .before .enum-told4 .given .1) (same-line (args .num-vars) C0 true)) (c .before .before .write-same-cube4 .ensures)
 
 same-length-5 : tie.Need-same-length-5
 same-length-5 c = search needs
 
 returns-5 : tie.Need-returns-5
-returns-5 c = as-wrote (lines-at (c .before .before .before .before .before .before .before .args .num-vars) (c .before .before .before .before .enum-told5 .given .1) (xor-lines (c .before .before .before .before .before .before .before .args .num-vars))) (c .before .before .write-masks .ensures)
+returns-5 c =
+    let args = c .before .before .before .before .before .before .before .args in
+    as-wrote (lines-at (args .num-vars) (c .before .before .before .before .enum-told5 .given .1) (xor-lines (args .num-vars))) (c .before .before .write-masks .ensures)
 
 same-length-6 : tie.Need-same-length-6
 same-length-6 c = search needs
 
 returns-6 : tie.Need-returns-6
-returns-6 c = as-wrote (lines-at (c .before .before .before .before .before .before .before .args .num-vars) (c .before .before .before .before .enum-told6 .given .1) (xnor-lines (c .before .before .before .before .before .before .before .args .num-vars))) (c .before .before .write-masks2 .ensures)
+returns-6 c =
+    let args = c .before .before .before .before .before .before .before .args in
+    as-wrote (lines-at (args .num-vars) (c .before .before .before .before .enum-told6 .given .1) (xnor-lines (args .num-vars))) (c .before .before .write-masks2 .ensures)
 
 pub write-nary-lines-spec : {M : Type 1} → statement M
 write-nary-lines-spec =

@@ -16,7 +16,9 @@ same-length c = search needs
 
 returns : tie.Need-returns
 unfolding sameCube
-returns c = from-start (and-append (to-start (c .before .before .before .before .before .before .put-repeated .ensures)) (c .before .before .append-output .ensures))
+returns c =
+    let put-repeated = c .before .before .before .before .before .before .put-repeated in
+    from-start (and-append (to-start (put-repeated .ensures)) (c .before .before .append-output .ensures))
 
 pub write-same-cube-spec : {M : Type 1} → statement M
 write-same-cube-spec =

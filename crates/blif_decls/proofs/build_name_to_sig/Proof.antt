@@ -24,27 +24,42 @@ define-row-requires : tie.Need-define-row-requires Inv-loop μ-loop
 define-row-requires c κs = (c .before .before .before .before .before .loop .inv .0, c .before .before .before .if1 .taken)
 
 same-length : tie.Need-same-length Inv-loop μ-loop
-same-length c = c .before .before .before .before .before .before .before .before .define-row .kept .1 .1 .1 .0 ∙ c .before .before .before .before .before .before .before .before .before .before .before .before .before .before .loop .inv .1
+same-length c =
+    let loop = c .before .before .before .before .before .before .before .before .before .before .before .before .before .before .loop in
+    let define-row = c .before .before .before .before .before .before .before .before .define-row in
+    define-row .kept .1 .1 .1 .0 ∙ loop .inv .1
 
 same-length-2 : tie.Need-same-length-2 Inv-loop μ-loop
-same-length-2 c = c .before .before .before .before .before .before .before .before .define-row .kept .1 .1 .1 .1 .0 ∙ c .before .before .before .before .before .before .before .before .before .before .before .before .before .before .loop .inv .2
+same-length-2 c =
+    let loop = c .before .before .before .before .before .before .before .before .before .before .before .before .before .before .loop in
+    let define-row = c .before .before .before .before .before .before .before .before .define-row in
+    define-row .kept .1 .1 .1 .1 .0 ∙ loop .inv .2
 
 same-length-3 : tie.Need-same-length-3 Inv-loop μ-loop
-same-length-3 c = c .before .before .before .before .before .before .before .before .define-row .kept .1 .1 .1 .1 .1 .0 ∙ c .before .before .before .before .before .before .before .before .before .before .before .before .before .before .loop .inv .3
+same-length-3 c =
+    let loop = c .before .before .before .before .before .before .before .before .before .before .before .before .before .before .loop in
+    let define-row = c .before .before .before .before .before .before .before .before .define-row in
+    define-row .kept .1 .1 .1 .1 .1 .0 ∙ loop .inv .3
 
 returns : tie.Need-returns Inv-loop μ-loop
-returns c = record { refused = c .before .before .before .before .before .before .before .before .define-row .ensures .refused (c .if2 .taken); tables = λ z. absurd (c .if2 .taken z) }
+returns c =
+    let define-row = c .before .before .before .before .before .before .before .before .define-row in
+    record { refused = define-row .ensures .refused (c .if2 .taken); tables = λ z. absurd (c .if2 .taken z) }
 
 loop-less : tie.Need-loop-less Inv-loop μ-loop
 loop-less c =
-    let s = c .before .before .before .before .before .before .before .before .define-row .ensures in
-    omega (arith, s .low, s .goes (c .if2 .left) .rest .rows .high, c .before .before .before .before .before .before .before .before .before .before .before .before .if1 .taken)
+    let if1 = c .before .before .before .before .before .before .before .before .before .before .before .before .if1 in
+    let define-row = c .before .before .before .before .before .before .before .before .define-row in
+    let s = define-row .ensures in
+    omega (arith, s .low, s .goes (c .if2 .left) .rest .rows .high, if1 .taken)
 
 loop-again : tie.Need-loop-again Inv-loop μ-loop
 loop-again c =
-    let k = c .before .before .before .before .before .before .before .before .define-row .kept .1 .1 .1 in
-    let v = c .before .before .before .before .before .before .before .before .before .before .before .before .before .before .loop .inv in
-    (c .before .before .before .before .before .before .before .before .define-row .ensures .goes (c .if2 .left), k .0 ∙ v .1, k .1 .0 ∙ v .2, k .1 .1 .0 ∙ v .3)
+    let loop = c .before .before .before .before .before .before .before .before .before .before .before .before .before .before .loop in
+    let define-row = c .before .before .before .before .before .before .before .before .define-row in
+    let k = define-row .kept .1 .1 .1 in
+    let v = loop .inv in
+    (define-row .ensures .goes (c .if2 .left), k .0 ∙ v .1, k .1 .0 ∙ v .2, k .1 .1 .0 ∙ v .3)
 
 same-length-4 : tie.Need-same-length-4 Inv-loop μ-loop
 same-length-4 c = c .before .before .loop .inv .1

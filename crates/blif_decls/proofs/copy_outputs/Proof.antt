@@ -23,12 +23,12 @@ shared-slice-read-out-names c = omega (arith, c .before .before .loop .inv .room
 mul-out-names-2 : tie.Need-mul-out-names-2 Inv-loop μ-loop
 mul-out-names-2 c =
     let v = c .before .before .loop .inv in
-    omega (arith, v .counted, v .low, v .fits, v .kept, c .before .loop-test .taken)
+    omega (arith, v .counted, v .low, v .fits, v .laying .kept, c .before .loop-test .taken)
 
 slice-write-out-names : tie.Need-slice-write-out-names Inv-loop μ-loop
 slice-write-out-names c =
     let v = c .before .before .loop .inv in
-    omega (arith, v .counted, v .low, v .fits, v .kept, c .before .loop-test .taken)
+    omega (arith, v .counted, v .low, v .fits, v .laying .kept, c .before .loop-test .taken)
 
 add-j : tie.Need-add-j Inv-loop μ-loop
 add-j c = omega (arith, c .before .before .loop .inv .room, c .before .loop-test .taken)
@@ -36,7 +36,7 @@ add-j c = omega (arith, c .before .before .loop .inv .room, c .before .loop-test
 add-o : tie.Need-add-o Inv-loop μ-loop
 add-o c =
     let v = c .before .before .loop .inv in
-    omega (arith, v .counted, v .low, v .fits, v .kept, c .before .loop-test .taken)
+    omega (arith, v .counted, v .low, v .fits, v .laying .kept, c .before .loop-test .taken)
 
 loop-less : tie.Need-loop-less Inv-loop μ-loop
 loop-less c = omega (arith, c .before .loop-test .taken)
@@ -45,7 +45,7 @@ loop-again : tie.Need-loop-again Inv-loop μ-loop
 loop-again c = copying-next (c .before .before .loop .inv) (c .before .loop-test .taken)
 
 same-length : tie.Need-same-length Inv-loop μ-loop
-same-length c = c .before .loop .inv .kept
+same-length c = c .before .loop .inv .laying .kept
 
 returns : tie.Need-returns Inv-loop μ-loop
 returns c = copying-done (c .before .loop .inv) (c .loop-test .left)

@@ -24,7 +24,9 @@ same-length : tie.Need-same-length
 same-length c = search needs
 
 returns : tie.Need-returns
-returns c = gate-known (c .before .before .before .before .before .before .before .before .before .pre) (c .before .before .before .enter-name .ensures) (not-true _ (c .if1 .taken))
+returns c =
+    let pre = c .before .before .before .before .before .before .before .before .before .pre in
+    gate-known (pre) (c .before .before .before .enter-name .ensures) (not-true _ (c .if1 .taken))
 
 put-block-requires : tie.Need-put-block-requires
 put-block-requires c κs = search needs
@@ -36,7 +38,11 @@ same-length-3 : tie.Need-same-length-3
 same-length-3 c = search needs
 
 returns-2 : tie.Need-returns-2
-returns-2 c = gate-new (c .before .before .before .before .before .before .before .before .before .before .before .before .before .pre) (c .before .before .before .before .before .before .before .enter-name .ensures) (not-false _ (c .before .before .before .before .if1 .left)) (c .before .before .before .before .before .before .before .before .before .from-var .ensures) (c .before .before .put-block .ensures)
+returns-2 c =
+    let pre = c .before .before .before .before .before .before .before .before .before .before .before .before .before .pre in
+    let from-var = c .before .before .before .before .before .before .before .before .before .from-var in
+    let enter-name = c .before .before .before .before .before .before .before .enter-name in
+    gate-new (pre) (enter-name .ensures) (not-false _ (c .before .before .before .before .if1 .left)) (from-var .ensures) (c .before .before .put-block .ensures)
 
 pub define-gate-spec : {M : Type 1} → statement M
 define-gate-spec =

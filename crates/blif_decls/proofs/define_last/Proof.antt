@@ -43,7 +43,9 @@ same-length-2 : tie.Need-same-length-2
 same-length-2 c = search needs
 
 returns-2 : tie.Need-returns-2
-returns-2 c = record { empty = λ e. absurd (c .before .before .before .before .before .before .before .before .before .if1 .left e); last = λ f. c .before .before .before .before .define-gate .ensures }
+returns-2 c =
+    let if1 = c .before .before .before .before .before .before .before .before .before .if1 in
+    record { empty = λ e. absurd (if1 .left e); last = λ f. c .before .before .before .before .define-gate .ensures }
 
 pub define-last-spec : {M : Type 1} → statement M
 define-last-spec =

@@ -30,7 +30,9 @@ add-enter-inputs : tie.Need-add-enter-inputs
 add-enter-inputs c = search needs
 
 enter-inputs-requires : tie.Need-enter-inputs-requires
-enter-inputs-requires c κs = inputs-fit (c .before .before .before .before .before .before .before .before .before .before .pre .0) (row-as (c .before .before .before .before .row-at .ensures) (c .before .before .enum-told3 .given .1))
+enter-inputs-requires c κs =
+    let pre = c .before .before .before .before .before .before .before .before .before .before .pre in
+    inputs-fit (pre .0) (row-as (c .before .before .before .before .row-at .ensures) (c .before .before .enum-told3 .given .1))
 
 sub-next : tie.Need-sub-next
 sub-next c = search needs
@@ -39,7 +41,11 @@ sub-next-2 : tie.Need-sub-next-2
 sub-next-2 c = search needs
 
 add-next : tie.Need-add-next
-add-next c = omega (arith, inputs-fit (c .before .before .before .before .before .before .before .before .before .before .before .before .before .before .before .pre .0) (row-as (c .before .before .before .before .before .before .before .before .before .row-at .ensures) (c .before .before .before .before .before .before .before .enum-told3 .given .1)) .inputs)
+add-next c =
+    let pre = c .before .before .before .before .before .before .before .before .before .before .before .before .before .before .before .pre in
+    let row-at = c .before .before .before .before .before .before .before .before .before .row-at in
+    let enum-told3 = c .before .before .before .before .before .before .before .enum-told3 in
+    omega (arith, inputs-fit (pre .0) (row-as (row-at .ensures) (enum-told3 .given .1)) .inputs)
 
 enum-told-4 : tie.Need-enum-told-4
 enum-told-4 c = search needs
@@ -48,7 +54,9 @@ add-copy-outputs : tie.Need-add-copy-outputs
 add-copy-outputs c = search needs
 
 copy-outputs-requires : tie.Need-copy-outputs-requires
-copy-outputs-requires c κs = outputs-fit (c .before .before .before .before .before .before .before .before .before .before .pre .0) (row-as (c .before .before .before .before .row-at .ensures) (c .before .before .enum-told4 .given .1))
+copy-outputs-requires c κs =
+    let pre = c .before .before .before .before .before .before .before .before .before .before .pre in
+    outputs-fit (pre .0) (row-as (c .before .before .before .before .row-at .ensures) (c .before .before .enum-told4 .given .1))
 
 sub-next-3 : tie.Need-sub-next-3
 sub-next-3 c = search needs
@@ -57,21 +65,28 @@ sub-next-4 : tie.Need-sub-next-4
 sub-next-4 c = search needs
 
 add-next-2 : tie.Need-add-next-2
-add-next-2 c = omega (arith, outputs-small (c .before .before .before .before .before .before .before .before .before .before .before .before .before .before .before .pre .0) (row-as (c .before .before .before .before .before .before .before .before .before .row-at .ensures) (c .before .before .before .before .before .before .before .enum-told4 .given .1)))
+add-next-2 c =
+    let pre = c .before .before .before .before .before .before .before .before .before .before .before .before .before .before .before .pre in
+    let row-at = c .before .before .before .before .before .before .before .before .before .row-at in
+    let enum-told4 = c .before .before .before .before .before .before .before .enum-told4 in
+    omega (arith, outputs-small (pre .0) (row-as (row-at .ensures) (enum-told4 .given .1)))
 
 enum-told-5 : tie.Need-enum-told-5
 enum-told-5 c = search needs
 
 define-latch-requires : tie.Need-define-latch-requires
-define-latch-requires c κs = latch-fit (c .before .before .before .before .before .before .before .before .before .before .pre .0) (row-as (c .before .before .before .before .row-at .ensures) (c .before .before .enum-told5 .given .1))
+define-latch-requires c κs =
+    let pre = c .before .before .before .before .before .before .before .before .before .before .pre in
+    latch-fit (pre .0) (row-as (c .before .before .before .before .row-at .ensures) (c .before .before .enum-told5 .given .1))
 
 enum-told-6 : tie.Need-enum-told-6
 enum-told-6 c = search needs
 
 define-cover-requires : tie.Need-define-cover-requires
 define-cover-requires c κs =
+    let pre = c .before .before .before .before .before .before .before .before .before .before .pre in
     let w = c .before .before .before .before .row-at .ensures in
-    (cover-fit (c .before .before .before .before .before .before .before .before .before .before .pre .0) (row-as (c .before .before .before .before .row-at .ensures) (c .before .before .enum-told6 .given .1)), (w .rest, c .before .before .before .before .before .before .before .before .before .before .pre .0 .few, w .low))
+    (cover-fit (pre .0) (row-as (c .before .before .before .before .row-at .ensures) (c .before .before .enum-told6 .given .1)), (w .rest, pre .0 .few, w .low))
 
 enum-told-7 : tie.Need-enum-told-7
 enum-told-7 c = search needs
@@ -83,22 +98,34 @@ enum-told-9 : tie.Need-enum-told-9
 enum-told-9 c = search needs
 
 returns : tie.Need-returns
-returns c = go-model (c .before .before .before .before .before .before .before .before .before .pre .0) (row-as (c .before .before .before .row-at .ensures) (c .before .enum-told .given .1)) (c .model-refusal .ensures)
+returns c =
+    let pre = c .before .before .before .before .before .before .before .before .before .pre in
+    go-model (pre .0) (row-as (c .before .before .before .row-at .ensures) (c .before .enum-told .given .1)) (c .model-refusal .ensures)
 
 returns-2 : tie.Need-returns-2
-returns-2 c = go-end (c .before .before .before .before .before .before .before .before .before .pre .0) (row-as (c .before .before .before .row-at .ensures) (c .before .enum-told2 .given .1)) (c .end-refusal .ensures)
+returns-2 c =
+    let pre = c .before .before .before .before .before .before .before .before .before .pre in
+    go-end (pre .0) (row-as (c .before .before .before .row-at .ensures) (c .before .enum-told2 .given .1)) (c .end-refusal .ensures)
 
 same-length : tie.Need-same-length
 same-length c = search needs
 
 returns-3 : tie.Need-returns-3
-returns-3 c = go-inputs (c .before .before .before .before .before .before .before .before .before .before .before .before .before .before .before .pre .0) (row-as (c .before .before .before .before .before .before .before .before .before .row-at .ensures) (c .before .before .before .before .before .before .before .enum-told3 .given .1)) (c .before .before .before .before .enter-inputs .ensures)
+returns-3 c =
+    let pre = c .before .before .before .before .before .before .before .before .before .before .before .before .before .before .before .pre in
+    let row-at = c .before .before .before .before .before .before .before .before .before .row-at in
+    let enum-told3 = c .before .before .before .before .before .before .before .enum-told3 in
+    go-inputs (pre .0) (row-as (row-at .ensures) (enum-told3 .given .1)) (c .before .before .before .before .enter-inputs .ensures)
 
 same-length-2 : tie.Need-same-length-2
 same-length-2 c = search needs
 
 returns-4 : tie.Need-returns-4
-returns-4 c = go-outputs (c .before .before .before .before .before .before .before .before .before .before .before .before .before .before .before .pre .0) (row-as (c .before .before .before .before .before .before .before .before .before .row-at .ensures) (c .before .before .before .before .before .before .before .enum-told4 .given .1)) (c .before .before .before .before .copy-outputs .ensures) (c .before .before .before .before .copy-outputs .kept .1 .1 .1 .0)
+returns-4 c =
+    let pre = c .before .before .before .before .before .before .before .before .before .before .before .before .before .before .before .pre in
+    let row-at = c .before .before .before .before .before .before .before .before .before .row-at in
+    let enum-told4 = c .before .before .before .before .before .before .before .enum-told4 in
+    go-outputs (pre .0) (row-as (row-at .ensures) (enum-told4 .given .1)) (c .before .before .before .before .copy-outputs .ensures) (c .before .before .before .before .copy-outputs .kept .1 .1 .1 .0)
 
 same-length-3 : tie.Need-same-length-3
 same-length-3 c = search needs
@@ -107,7 +134,11 @@ same-length-4 : tie.Need-same-length-4
 same-length-4 c = search needs
 
 returns-5 : tie.Need-returns-5
-returns-5 c = go-latch (c .before .before .before .before .before .before .before .before .before .before .before .before .before .before .before .pre .0) (row-as (c .before .before .before .before .before .before .before .before .before .row-at .ensures) (c .before .before .before .before .before .before .before .enum-told5 .given .1)) (c .before .before .before .before .define-latch .ensures) (c .before .before .before .before .define-latch .kept .1 .1 .1 .0)
+returns-5 c =
+    let pre = c .before .before .before .before .before .before .before .before .before .before .before .before .before .before .before .pre in
+    let row-at = c .before .before .before .before .before .before .before .before .before .row-at in
+    let enum-told5 = c .before .before .before .before .before .before .before .enum-told5 in
+    go-latch (pre .0) (row-as (row-at .ensures) (enum-told5 .given .1)) (c .before .before .before .before .define-latch .ensures) (c .before .before .before .before .define-latch .kept .1 .1 .1 .0)
 
 same-length-5 : tie.Need-same-length-5
 same-length-5 c = search needs
@@ -116,13 +147,21 @@ same-length-6 : tie.Need-same-length-6
 same-length-6 c = search needs
 
 returns-6 : tie.Need-returns-6
-returns-6 c = go-cover (c .before .before .before .before .before .before .before .before .before .before .before .before .before .before .before .pre .0) (row-as (c .before .before .before .before .before .before .before .before .before .row-at .ensures) (c .before .before .before .before .before .before .before .enum-told6 .given .1)) (c .before .before .before .before .define-cover .ensures) (c .before .before .before .before .define-cover .kept .1 .1 .1 .1 .0)
+returns-6 c =
+    let pre = c .before .before .before .before .before .before .before .before .before .before .before .before .before .before .before .pre in
+    let row-at = c .before .before .before .before .before .before .before .before .before .row-at in
+    let enum-told6 = c .before .before .before .before .before .before .before .enum-told6 in
+    go-cover (pre .0) (row-as (row-at .ensures) (enum-told6 .given .1)) (c .before .before .before .before .define-cover .ensures) (c .before .before .before .before .define-cover .kept .1 .1 .1 .1 .0)
 
 returns-7 : tie.Need-returns-7
-returns-7 c = go-exdc (c .before .before .before .before .before .before .before .before .pre .0) (row-as (c .before .before .row-at .ensures) (c .enum-told7 .given .1))
+returns-7 c =
+    let pre = c .before .before .before .before .before .before .before .before .pre in
+    go-exdc (pre .0) (row-as (c .before .before .row-at .ensures) (c .enum-told7 .given .1))
 
 returns-8 : tie.Need-returns-8
-returns-8 c = go-cube (c .before .before .before .before .before .before .before .before .pre .0) (row-as (c .before .before .row-at .ensures) (c .enum-told8 .given .1))
+returns-8 c =
+    let pre = c .before .before .before .before .before .before .before .before .pre in
+    go-cube (pre .0) (row-as (c .before .before .row-at .ensures) (c .enum-told8 .given .1))
 
 returns-9 : tie.Need-returns-9
 returns-9 c = absurd ((row-as (c .before .before .row-at .ensures) (c .enum-told9 .given .1)) .starts)

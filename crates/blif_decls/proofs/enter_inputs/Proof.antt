@@ -40,10 +40,16 @@ same-length : tie.Need-same-length Inv-loop μ-loop
 same-length c = c .before .before .before .enter-name .kept .1 .0 ∙ c .before .before .before .before .before .before .before .before .loop .inv .kept
 
 returns : tie.Need-returns Inv-loop μ-loop
-returns c = entering-known (c .before .before .before .before .before .before .before .before .loop .inv) (c .before .before .before .before .before .before .before .loop-test .taken) (c .before .before .before .enter-name .ensures) (not-true _ (c .if1 .taken))
+returns c =
+    let loop = c .before .before .before .before .before .before .before .before .loop in
+    let loop-test = c .before .before .before .before .before .before .before .loop-test in
+    entering-known (loop .inv) (loop-test .taken) (c .before .before .before .enter-name .ensures) (not-true _ (c .if1 .taken))
 
 add-j : tie.Need-add-j Inv-loop μ-loop
-add-j c = omega (arith, c .before .before .before .before .before .before .before .before .loop .inv .places .room, c .before .before .before .before .before .before .before .loop-test .taken)
+add-j c =
+    let loop = c .before .before .before .before .before .before .before .before .loop in
+    let loop-test = c .before .before .before .before .before .before .before .loop-test in
+    omega (arith, loop .inv .places .room, loop-test .taken)
 
 add-i : tie.Need-add-i Inv-loop μ-loop
 add-i c = omega (arith, c .before .before .before .before .before .before .before .before .loop .inv .index-is .few)
@@ -52,7 +58,11 @@ loop-less : tie.Need-loop-less Inv-loop μ-loop
 loop-less c = omega (arith, c .before .before .before .before .before .before .before .loop-test .taken)
 
 loop-again : tie.Need-loop-again Inv-loop μ-loop
-loop-again c = entering-next (c .before .before .before .before .before .before .before .before .loop .inv) (c .before .before .before .before .before .before .before .loop-test .taken) (c .before .before .before .enter-name .ensures) (not-false _ (c .if1 .left)) (c .before .before .before .before .before .before .from-input .ensures) (c .before .before .before .enter-name .kept .1 .0)
+loop-again c =
+    let loop = c .before .before .before .before .before .before .before .before .loop in
+    let loop-test = c .before .before .before .before .before .before .before .loop-test in
+    let from-input = c .before .before .before .before .before .before .from-input in
+    entering-next (loop .inv) (loop-test .taken) (c .before .before .before .enter-name .ensures) (not-false _ (c .if1 .left)) (from-input .ensures) (c .before .before .before .enter-name .kept .1 .0)
 
 same-length-2 : tie.Need-same-length-2 Inv-loop μ-loop
 same-length-2 c = c .before .loop .inv .kept

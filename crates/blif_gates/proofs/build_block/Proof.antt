@@ -30,8 +30,11 @@ new-gates-requires c κs = search needs
 
 add-t20 : tie.Need-add-t20
 add-t20 c =
-    let s = c .before .before .before .before .before .before .before .before .before .before .before .before .before .before .before .before .before .before in
-    omega (arith, c .before .new-gates .ensures, cover-room (c .before .before .before .before .before .before .before .before .before .before .if1 .left) (s .pre .0 .0) (s .pre .0 .1) (c .before .before .before .before .before .before .before .before .before .before .before .before .block-at .ensures) (s .pre .1) .low)
+    let before = c .before .before .before .before .before .before .before .before .before .before .before .before .before .before .before .before .before .before in
+    let block-at = c .before .before .before .before .before .before .before .before .before .before .before .before .block-at in
+    let if1 = c .before .before .before .before .before .before .before .before .before .before .if1 in
+    let s = before in
+    omega (arith, c .before .new-gates .ensures, cover-room (if1 .left) (s .pre .0 .0) (s .pre .0 .1) (block-at .ensures) (s .pre .1) .low)
 
 same-length : tie.Need-same-length
 same-length c = search needs
@@ -41,8 +44,12 @@ same-length-2 c = search needs
 
 returns-2 : tie.Need-returns-2
 returns-2 c =
-    let s = c .before .before .before .before .before .before .before .before .before .before .before .before .before .before .before .before .before .before in
-    cover-built (c .before .before .before .before .before .before .before .before .before .before .if1 .left) (s .pre .0 .0) (s .pre .0 .1) (c .before .before .before .before .before .before .before .before .before .before .before .before .block-at .ensures) (s .pre .1) (c .before .new-gates .ensures) (c .before .before .before .before .before .before .build-cover .ensures)
+    let before = c .before .before .before .before .before .before .before .before .before .before .before .before .before .before .before .before .before .before in
+    let block-at = c .before .before .before .before .before .before .before .before .before .before .before .before .block-at in
+    let if1 = c .before .before .before .before .before .before .before .before .before .before .if1 in
+    let build-cover = c .before .before .before .before .before .before .build-cover in
+    let s = before in
+    cover-built (if1 .left) (s .pre .0 .0) (s .pre .0 .1) (block-at .ensures) (s .pre .1) (c .before .new-gates .ensures) (build-cover .ensures)
 
 pub build-block-spec : {M : Type 1} → statement M
 build-block-spec =

@@ -1,7 +1,8 @@
 -- `build_cover` builds the gates of no line, of one, or of more. Assumes nothing.
+use native.Mathlib.Omega.{arith}
 use mathlib.Core.Path.{sym, _∙_}
 use borrow.Author.Needs.{needs}
-use Rattle.blif_gates.proofs.CoverLaws.{first-there, first-good, rows-inputs, some-lines, none-built, one-room, one-built}
+use Rattle.blif_gates.proofs.CoverLaws.{first-there, first-good, rows-inputs, none-built, one-room, one-built}
 use Rattle.blif_gates.proofs.build_cover.Statement.{statement}
 use Rattle.blif_gates.proofs.build_cover.Tie as tie
 
@@ -31,8 +32,11 @@ same-length-2 c = search needs
 
 returns : tie.Need-returns
 returns c =
-    let s = c .before .before .before .before .before .before .before .before .before .before .before in
-    none-built _ (s .pre .1) (c .before .before .before .before .before .before .if1 .taken) (c .before .before .before .before .raw .ensures ∙ c .before .before .before .before .before .zero .ensures) (c .before .before .put-record .ensures)
+    let before = c .before .before .before .before .before .before .before .before .before .before .before in
+    let if1 = c .before .before .before .before .before .before .if1 in
+    let zero = c .before .before .before .before .before .zero in
+    let s = before in
+    none-built _ (s .pre .1) (if1 .taken) (c .before .before .before .before .raw .ensures ∙ zero .ensures) (c .before .before .put-record .ensures)
 
 join-lines-requires : tie.Need-join-lines-requires
 join-lines-requires c κs = search needs
@@ -52,14 +56,14 @@ sources-at-requires c κs = search needs
 row-end-requires : tie.Need-row-end-requires
 row-end-requires c κs =
     let s = c .before .before .before .before .before .before .before .before in
-    (first-there (s .pre .0) (some-lines _ (c .before .before .before .if1 .left)), s .pre .0 .rows .places .room)
+    (first-there (s .pre .0) (omega (arith, c .before .before .before .if1 .left)), s .pre .0 .rows .places .room)
 
 put-row-requires : tie.Need-put-row-requires
 put-row-requires c κs =
     let s = c .before .before .before .before .before .before .before .before .before .before .before in
     let from = c .before .before .before .sources-at .ensures in
     let some = c .before .before .before .before .before .before .if1 .left in (
-      first-good (rows-inputs (sym (from .1)) (s .pre .0)) (some-lines _ some) (c .before .before .row-end .ensures),
+      first-good (rows-inputs (sym (from .1)) (s .pre .0)) (omega (arith, some)) (c .before .before .row-end .ensures),
       one-room some (c .before .before .before .before .before .if2 .left) (s .pre .0) (s .pre .1) (from .0) (from .1),
     )
 
@@ -71,9 +75,14 @@ same-length-6 c = search needs
 
 returns-3 : tie.Need-returns-3
 returns-3 c =
-    let s = c .before .before .before .before .before .before .before .before .before .before .before .before .before .before .before .before in
-    let from = c .before .before .before .before .before .before .before .before .sources-at .ensures in
-    one-built (c .before .before .before .before .before .before .before .before .before .before .before .if1 .left) (c .before .before .before .before .before .before .before .before .before .before .if2 .left) (s .pre .0) (s .pre .1) (from .0) (from .1) (c .before .before .before .before .before .before .before .row-end .ensures) (c .before .before .before .before .put-row .ensures)
+    let before = c .before .before .before .before .before .before .before .before .before .before .before .before .before .before .before .before in
+    let if1 = c .before .before .before .before .before .before .before .before .before .before .before .if1 in
+    let if2 = c .before .before .before .before .before .before .before .before .before .before .if2 in
+    let sources-at = c .before .before .before .before .before .before .before .before .sources-at in
+    let row-end = c .before .before .before .before .before .before .before .row-end in
+    let s = before in
+    let from = sources-at .ensures in
+    one-built (if1 .left) (if2 .left) (s .pre .0) (s .pre .1) (from .0) (from .1) (row-end .ensures) (c .before .before .before .before .put-row .ensures)
 
 pub build-cover-spec : {M : Type 1} → statement M
 build-cover-spec =

@@ -18,8 +18,9 @@ loop-holds c = building-start
 
 build-block-requires : tie.Need-build-block-requires Inv-loop μ-loop
 build-block-requires c κs =
+    let before = c .before .before .before .before .before .before .before .before .before in
     let l = c .before .before in
-    let s = c .before .before .before .before .before .before .before .before .before in
+    let s = before in
     let h = l .loop-test .taken in
     ((h, s .pre .0), building-room (defs-long (s .args .text .now) (s .args .tokens .now) (s .args .n) (s .args .blocks .now) (s .args .g)) (s .pre .1) (l .before .loop .inv) (def-place (s .args .text .now) (s .args .tokens .now) (s .args .n) (s .args .blocks .now) (s .args .g) _ h))
 
@@ -31,8 +32,10 @@ loop-less c = omega (arith, c .before .before .before .before .before .before .b
 
 loop-again : tie.Need-loop-again Inv-loop μ-loop
 loop-again c =
-    let l = c .before .before .before .before .before .before .before in
-    let s = c .before .before .before .before .before .before .before .before .before .before .before .before .before .before in
+    let before = c .before .before .before .before .before .before .before .before .before .before .before .before .before .before in
+    let the-before = c .before .before .before .before .before .before .before in
+    let l = the-before in
+    let s = before in
     let p = c .before .before .before .before .build-block in
     building-next (defs-long (s .args .text .now) (s .args .tokens .now) (s .args .n) (s .args .blocks .now) (s .args .g)) (s .pre .1) (l .before .loop .inv) (def-place (s .args .text .now) (s .args .tokens .now) (s .args .n) (s .args .blocks .now) (s .args .g) _ (l .loop-test .taken)) (p .ensures) (p .kept .1 .1 .1 .1 .1 .1 .0) (p .kept .1 .1 .1 .1 .1 .1 .1 .0)
 
@@ -44,7 +47,8 @@ same-length-2 c = c .before .loop .inv .same-pins
 
 returns : tie.Need-returns Inv-loop μ-loop
 returns c =
-    let s = c .before .before .before .before .before .before .before in
+    let before = c .before .before .before .before .before .before .before in
+    let s = before in
     building-done (c .before .loop .w) (defs-long (s .args .text .now) (s .args .tokens .now) (s .args .n) (s .args .blocks .now) (s .args .g)) (s .pre .1) (c .before .loop .inv) (c .loop-test .left)
 
 pub build-covers-spec : {M : Type 1} → statement M

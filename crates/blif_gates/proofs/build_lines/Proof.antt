@@ -40,10 +40,14 @@ loop-less c = omega (arith, c .before .before .before .before .before .before .b
 
 loop-again : tie.Need-loop-again Inv-loop μ-loop
 loop-again c =
-    let s = c .before .before .before .before .before .before .before .before .before .before .before .before .before .before in
-    let w = c .before .before .before .before .before .before .before .before .before .loop .inv in
-    let l = c .before .before .before .before .before .before .before .before .loop-test .taken in
-    putting-next (s .pre .0) (s .pre .1) w l (c .before .before .before .before .before .before .before .row-end .ensures) (c .before .before .before .before .put-row .ensures)
+    let before = c .before .before .before .before .before .before .before .before .before .before .before .before .before .before in
+    let loop = c .before .before .before .before .before .before .before .before .before .loop in
+    let loop-test = c .before .before .before .before .before .before .before .before .loop-test in
+    let row-end = c .before .before .before .before .before .before .before .row-end in
+    let s = before in
+    let w = loop .inv in
+    let l = loop-test .taken in
+    putting-next (s .pre .0) (s .pre .1) w l (row-end .ensures) (c .before .before .before .before .put-row .ensures)
 
 same-length : tie.Need-same-length Inv-loop μ-loop
 same-length c = c .before .loop .inv .same-gates

@@ -47,10 +47,14 @@ add-build-lines c = search needs
 
 build-lines-requires : tie.Need-build-lines-requires
 build-lines-requires c κs =
-    let s = c .before .before .before .before .before .before .before .before .before .before .before .before .before .before .before .before .before .before .before .before in
-    let from = c .before .before .before .before .before .before .before .before .before .before .before .before .before .before .sources-at .ensures in (
+    let before = c .before .before .before .before .before .before .before .before .before .before .before .before .before .before .before .before .before .before .before .before in
+    let sources-at = c .before .before .before .before .before .before .before .before .before .before .before .before .before .before .sources-at in
+    let put-joins = c .before .before .before .before .before .before .before .before .before .before .put-joins in
+    let join-form = c .before .before .before .before .before .join-form in
+    let s = before in
+    let from = sources-at .ensures in (
       rows-inputs (sym (from .1)) (s .pre .0 .1),
-      joined-room (s .pre .0 .0) (s .pre .0 .1) (s .pre .1) (c .before .before .before .before .before .join-form .result) (from .0) (from .1) (c .before .before .before .before .put-record .ensures) (c .before .before .before .before .before .before .before .before .before .before .put-joins .ensures),
+      joined-room (s .pre .0 .0) (s .pre .0 .1) (s .pre .1) (join-form .result) (from .0) (from .1) (c .before .before .before .before .put-record .ensures) (put-joins .ensures),
     )
 
 same-length : tie.Need-same-length
@@ -61,12 +65,19 @@ same-length-2 c = search needs
 
 returns : tie.Need-returns
 returns c =
-    let s = c .before .before .before .before .before .before .before .before .before .before .before .before .before .before .before .before .before .before .before .before .before .before .before .before .before in
-    let from = c .before .before .before .before .before .before .before .before .before .before .before .before .before .before .before .before .before .before .before .sources-at .ensures in
-    let row = c .before .before .before .before .before .before .before .before .before .before .before .before .before .before .before .before .before .before .row-end .ensures in
-    let one = c .before .before .before .before .before .before .before .before .before .before .before .is-one .ensures ∙ row-one (first-good (s .pre .0 .1) (omega (arith, s .pre .0 .0)) row) in
-    let form = c .before .before .before .before .before .before .before .before .before .before .join-form in
-    joined-built (s .pre .0 .0) (s .pre .0 .1) (s .pre .1) (form .result) (from .0) (from .1) (c .before .before .before .before .before .before .before .before .before .put-record .ensures) (c .before .before .before .before .before .before .before .before .before .before .before .before .before .before .before .put-joins .ensures)
+    let before = c .before .before .before .before .before .before .before .before .before .before .before .before .before .before .before .before .before .before .before .before .before .before .before .before .before in
+    let sources-at = c .before .before .before .before .before .before .before .before .before .before .before .before .before .before .before .before .before .before .before .sources-at in
+    let row-end = c .before .before .before .before .before .before .before .before .before .before .before .before .before .before .before .before .before .before .row-end in
+    let put-joins = c .before .before .before .before .before .before .before .before .before .before .before .before .before .before .before .put-joins in
+    let is-one = c .before .before .before .before .before .before .before .before .before .before .before .is-one in
+    let join-form = c .before .before .before .before .before .before .before .before .before .before .join-form in
+    let put-record = c .before .before .before .before .before .before .before .before .before .put-record in
+    let s = before in
+    let from = sources-at .ensures in
+    let row = row-end .ensures in
+    let one = is-one .ensures ∙ row-one (first-good (s .pre .0 .1) (omega (arith, s .pre .0 .0)) row) in
+    let form = join-form in
+    joined-built (s .pre .0 .0) (s .pre .0 .1) (s .pre .1) (form .result) (from .0) (from .1) (put-record .ensures) (put-joins .ensures)
     row (form .ensures ∙ ap (λ (b : Bool). joinForm b) one) (c .before .before .before .before .build-lines .ensures)
 
 pub join-lines-spec : {M : Type 1} → statement M

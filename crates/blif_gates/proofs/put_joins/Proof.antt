@@ -34,7 +34,7 @@ mul-pins : tie.Need-mul-pins Inv-loop μ-loop
 mul-pins c = omega arith
 
 slice-write-pins : tie.Need-slice-write-pins Inv-loop μ-loop
-slice-write-pins c = omega (arith, c .before .before .before .loop .inv .same)
+slice-write-pins c = omega (arith, c .before .before .before .loop .inv .laying .kept)
 
 add-i : tie.Need-add-i Inv-loop μ-loop
 add-i c = omega arith
@@ -48,7 +48,7 @@ loop-again c =
     joining-next (l .before .before .before .pre .1) (l .loop-test .taken) (c .raw .ensures ∙ c .before .from-var .ensures) (l .before .loop .inv)
 
 same-length : tie.Need-same-length Inv-loop μ-loop
-same-length c = c .before .loop .inv .same
+same-length c = c .before .loop .inv .laying .kept
 
 returns : tie.Need-returns Inv-loop μ-loop
 returns c = joining-done (c .loop-test .left) (c .before .loop .inv)

@@ -32,8 +32,10 @@ same-length-2 c = search needs
 
 returns : tie.Need-returns
 returns c =
-    let w = c .before .before .before .before .before .before .before .before .write-literals in
-    line-many (w .ensures) (c .before .before .before .before .before .if1 .taken) (c .before .before .before .many-form .ensures) (c .before .before .put-record .ensures)
+    let write-literals = c .before .before .before .before .before .before .before .before .write-literals in
+    let if1 = c .before .before .before .before .before .if1 in
+    let w = write-literals in
+    line-many (w .ensures) (if1 .taken) (c .before .before .before .many-form .ensures) (c .before .before .put-record .ensures)
 
 mul-single-pin : tie.Need-mul-single-pin
 mul-single-pin c = search needs
@@ -64,10 +66,13 @@ same-length-4 c = search needs
 
 returns-2 : tie.Need-returns-2
 returns-2 c =
-    let w = c .before .before .before .before .before .before .before .before .before .write-literals in
-    let s = c .before .before .before .before .before .before .before .before .before .before .before .before .before .before in
+    let before = c .before .before .before .before .before .before .before .before .before .before .before .before .before .before in
+    let write-literals = c .before .before .before .before .before .before .before .before .before .write-literals in
+    let if1 = c .before .before .before .before .before .before .if1 in
+    let w = write-literals in
+    let s = before in
     let k = line-room (s .args .columns .now) (s .pre) (w .ensures .1) in
-    line-single (w .ensures) (c .before .before .before .before .before .before .if1 .left) (k .4) (c .before .before .before .before .single-pin .ensures) (c .before .before .put-record2 .ensures)
+    line-single (w .ensures) (if1 .left) (k .4) (c .before .before .before .before .single-pin .ensures) (c .before .before .put-record2 .ensures)
 
 pub put-line-spec : {M : Type 1} → statement M
 put-line-spec =

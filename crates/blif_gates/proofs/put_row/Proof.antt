@@ -36,8 +36,11 @@ same-length-2 c = search needs
 
 returns : tie.Need-returns
 returns c =
-    let s = c .before .before .before .before .before .before .before .before .before .before .before .before .before .before in
-    line-named (c .before .before .before .before .before .before .before .before .before .line-columns .ensures) (c .before .before .before .before .before .before .before .is-one .ensures ∙ row-one (s .pre .0)) (c .before .before .before .before .put-line .ensures)
+    let before = c .before .before .before .before .before .before .before .before .before .before .before .before .before .before in
+    let line-columns = c .before .before .before .before .before .before .before .before .before .line-columns in
+    let is-one = c .before .before .before .before .before .before .before .is-one in
+    let s = before in
+    line-named (line-columns .ensures) (is-one .ensures ∙ row-one (s .pre .0)) (c .before .before .before .before .put-line .ensures)
 
 pub put-row-spec : {M : Type 1} → statement M
 put-row-spec =

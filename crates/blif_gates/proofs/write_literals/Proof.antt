@@ -41,7 +41,8 @@ write-literal-requires c κs =
 
 add-m : tie.Need-add-m Inv-loop μ-loop
 add-m c =
-    let l = c .before .before .before .before .before .before in
+    let before = c .before .before .before .before .before .before in
+    let l = before in
     let s = l .before .before .before .before in
     omega (arith, l .loop-test .taken, writing-next (s .pre .0) (s .pre .1) (l .before .loop .inv) (l .loop-test .taken) (c .before .before .write-literal .ensures) .few)
 
@@ -58,7 +59,7 @@ loop-again c =
     writing-next (s .pre .0) (s .pre .1) (l .before .loop .inv) (l .loop-test .taken) (c .before .before .write-literal .ensures)
 
 same-length : tie.Need-same-length Inv-loop μ-loop
-same-length c = c .before .loop .inv .same
+same-length c = c .before .loop .inv .laying .kept
 
 returns : tie.Need-returns Inv-loop μ-loop
 returns c =

@@ -2,13 +2,16 @@
 use native.Mathlib.Omega.{arith}
 use borrow.Author.Needs.{needs}
 use Prim.Native.Nat.{_-_}
-use Rattle.blif_names.proofs.Laws.{append-past, going-kept, going-full, part-high}
-use Rattle.blif_inverters.proofs.Inverters.{GatesTurned, gates-start, gates-next, gates-done, gate-plain}
+use Rattle.blif_names.proofs.Laws.{append-past}
+use Rattle.blif_names.proofs.Parts.{going-kept, going-high, going-full, Before, before-start, before-part, before-done}
+use Rattle.blif_put.proofs.Texts.{gate-signal}
+use Rattle.blif_inverters.specs.Marks.{gateInverters}
+use Rattle.blif_inverters.proofs.Inverters.{gate-parts, made-plain, made-inverter}
 use Rattle.blif_inverters.proofs.append_gate_inverters.Statement.{statement}
 use Rattle.blif_inverters.proofs.append_gate_inverters.Tie as tie
 
 abbrev Inv-loop : tie.InvT-loop
-Inv-loop out₀ at marks n end₀ g₀ out end g = GatesTurned marks n out₀ at out end g
+Inv-loop out₀ at marks n end₀ g₀ out end g = Before (gateInverters marks) n out₀ at out end g
 
 abbrev μ-loop : tie.MeasureT-loop
 μ-loop out₀ at marks n end₀ g₀ out end g = n - g
@@ -20,7 +23,7 @@ returns : tie.Need-returns Inv-loop μ-loop
 returns c = append-past (c .if1 .taken)
 
 loop-holds : tie.Need-loop-holds Inv-loop μ-loop
-loop-holds c = gates-start (c .before .before .before .pre .0) (c .if1 .left)
+loop-holds c = before-start (c .if1 .left)
 
 same-length : tie.Need-same-length Inv-loop μ-loop
 same-length c = going-kept (c .before .before .loop .inv .going)
@@ -38,19 +41,30 @@ part-write-inverter-end : tie.Need-part-write-inverter-end Inv-loop μ-loop
 part-write-inverter-end c = search needs
 
 shared-slice-read-write-inverter : tie.Need-shared-slice-read-write-inverter Inv-loop μ-loop
-shared-slice-read-write-inverter c = omega (arith, c .before .before .before .loop-test .taken, c .before .before .before .before .before .before .before .before .pre .1)
+shared-slice-read-write-inverter c =
+    let pre = c .before .before .before .before .before .before .before .before .pre in
+    omega (arith, c .before .before .before .loop-test .taken, pre .1)
 
 cast-from-var : tie.Need-cast-from-var Inv-loop μ-loop
-cast-from-var c = omega (arith, c .before .before .before .loop-test .taken, c .before .before .before .before .before .before .before .before .pre .0)
+cast-from-var c =
+    let pre = c .before .before .before .before .before .before .before .before .pre in
+    omega (arith, c .before .before .before .loop-test .taken, pre .0)
 
 from-var-requires : tie.Need-from-var-requires Inv-loop μ-loop
 from-var-requires c κs = search needs
 
 write-inverter-requires : tie.Need-write-inverter-requires Inv-loop μ-loop
-write-inverter-requires c κs = gate-plain (c .from-var .result .a) (c .before .before .before .before .before .loop .g) (omega (arith, c .before .before .before .before .loop-test .taken, c .before .before .before .before .before .before .before .before .before .pre .0)) (c .from-var .ensures)
+write-inverter-requires c κs =
+    let pre = c .before .before .before .before .before .before .before .before .before .pre in
+    let loop = c .before .before .before .before .before .loop in
+    made-plain (gate-signal (c .from-var .result .a) (loop .g) (omega (arith, c .before .before .before .before .loop-test .taken, pre .0)) (c .from-var .ensures))
 
 add-end : tie.Need-add-end Inv-loop μ-loop
-add-end c = omega (arith, part-high (c .before .before .before .before .before .before .before .before .loop .out) (c .before .before .before .before .before .before .if2 .left) (c .before .before .write-inverter .ensures), going-kept (c .before .before .before .before .before .before .before .before .loop .inv .going), c .before .before .before .before .before .before .before .before .before .before .before .before .good .0 .1)
+add-end c =
+    let good = c .before .before .before .before .before .before .before .before .before .before .before .before .good in
+    let loop = c .before .before .before .before .before .before .before .before .loop in
+    let if2 = c .before .before .before .before .before .before .if2 in
+    omega (arith, going-high (loop .inv .going) (if2 .left) (c .before .before .write-inverter .ensures), good .0 .1)
 
 add-g : tie.Need-add-g Inv-loop μ-loop
 add-g c = omega (arith, c .before .before .before .before .before .before .before .loop-test .taken)
@@ -59,13 +73,18 @@ loop-less : tie.Need-loop-less Inv-loop μ-loop
 loop-less c = omega (arith, c .before .before .before .before .before .before .before .loop-test .taken)
 
 loop-again : tie.Need-loop-again Inv-loop μ-loop
-loop-again c = gates-next (c .before .before .before .before .before .before .before .before .loop .inv) (c .before .before .before .before .before .before .before .loop-test .taken) (c .before .before .before .before .before .before .if2 .left) (c .before .before .before .from-var .ensures) (c .before .before .write-inverter .ensures)
+loop-again c =
+    let pre = c .before .before .before .before .before .before .before .before .before .before .before .before .pre in
+    let loop = c .before .before .before .before .before .before .before .before .loop in
+    let loop-test = c .before .before .before .before .before .before .before .loop-test in
+    let if2 = c .before .before .before .before .before .before .if2 in
+    before-part (gate-parts _ _) (loop .inv) (loop-test .taken) (if2 .left) (made-inverter (gate-signal _ _ (omega (arith, loop-test .taken, pre .0)) (c .before .before .before .from-var .ensures)) _ (c .before .before .write-inverter .ensures))
 
 same-length-2 : tie.Need-same-length-2 Inv-loop μ-loop
 same-length-2 c = going-kept (c .before .loop .inv .going)
 
 returns-3 : tie.Need-returns-3 Inv-loop μ-loop
-returns-3 c = gates-done (c .before .loop .inv) (c .loop-test .left)
+returns-3 c = before-done (gate-parts _ _) (c .before .loop .inv) (c .loop-test .left)
 
 pub append-gate-inverters-spec : {M : Type 1} → statement M
 append-gate-inverters-spec =

@@ -1,8 +1,10 @@
 -- `append_input_inverters` passes one input after the other, the last first. Assumes nothing.
 use native.Mathlib.Omega.{arith}
 use borrow.Author.Needs.{needs}
-use Rattle.blif_names.proofs.Laws.{append-past, going-kept, going-full, part-high}
-use Rattle.blif_inverters.proofs.Inverters.{InputsTurned, inputs-start, inputs-next, inputs-done, input-plain}
+use Rattle.blif_names.proofs.Laws.{append-past}
+use Rattle.blif_names.proofs.Parts.{going-kept, going-high, going-full}
+use Rattle.blif_put.proofs.Texts.{input-signal}
+use Rattle.blif_inverters.proofs.Inverters.{made-plain, made-inverter, InputsTurned, inputs-start, inputs-next, inputs-done}
 use Rattle.blif_inverters.proofs.append_input_inverters.Statement.{statement}
 use Rattle.blif_inverters.proofs.append_input_inverters.Tie as tie
 
@@ -19,7 +21,7 @@ returns : tie.Need-returns Inv-loop μ-loop
 returns c = append-past (c .if1 .taken)
 
 loop-holds : tie.Need-loop-holds Inv-loop μ-loop
-loop-holds c = inputs-start (c .before .before .before .pre .0) (c .if1 .left)
+loop-holds c = inputs-start (c .if1 .left)
 
 same-length : tie.Need-same-length Inv-loop μ-loop
 same-length c = going-kept (c .before .before .loop .inv .going)
@@ -40,25 +42,41 @@ part-write-inverter-end : tie.Need-part-write-inverter-end Inv-loop μ-loop
 part-write-inverter-end c = search needs
 
 shared-slice-read-write-inverter : tie.Need-shared-slice-read-write-inverter Inv-loop μ-loop
-shared-slice-read-write-inverter c = omega (arith, c .before .before .before .loop-test .taken, c .before .before .before .before .before .before .before .before .pre .1, c .before .before .before .before .loop .inv .within)
+shared-slice-read-write-inverter c =
+    let pre = c .before .before .before .before .before .before .before .before .pre in
+    omega (arith, c .before .before .before .loop-test .taken, pre .1, c .before .before .before .before .loop .inv .within)
 
 cast-from-input : tie.Need-cast-from-input Inv-loop μ-loop
-cast-from-input c = omega (arith, c .before .before .before .loop-test .taken, c .before .before .before .before .before .before .before .before .pre .0, c .before .before .before .before .loop .inv .within)
+cast-from-input c =
+    let pre = c .before .before .before .before .before .before .before .before .pre in
+    omega (arith, c .before .before .before .loop-test .taken, pre .0, c .before .before .before .before .loop .inv .within)
 
 from-input-requires : tie.Need-from-input-requires Inv-loop μ-loop
 from-input-requires c κs = search needs
 
 write-inverter-requires : tie.Need-write-inverter-requires Inv-loop μ-loop
-write-inverter-requires c κs = input-plain (c .from-input .result .a) _ (omega (arith, c .before .before .before .before .loop-test .taken, c .before .before .before .before .before .before .before .before .before .pre .0, c .before .before .before .before .before .loop .inv .within)) (c .from-input .ensures)
+write-inverter-requires c κs =
+    let pre = c .before .before .before .before .before .before .before .before .before .pre in
+    let loop = c .before .before .before .before .before .loop in
+    made-plain (input-signal (c .from-input .result .a) _ (omega (arith, c .before .before .before .before .loop-test .taken, pre .0, loop .inv .within)) (c .from-input .ensures))
 
 add-end : tie.Need-add-end Inv-loop μ-loop
-add-end c = omega (arith, part-high (c .before .before .before .before .before .before .before .before .loop .out) (c .before .before .before .before .before .before .if2 .left) (c .before .before .write-inverter .ensures), going-kept (c .before .before .before .before .before .before .before .before .loop .inv .going), c .before .before .before .before .before .before .before .before .before .before .before .before .good .0 .1)
+add-end c =
+    let good = c .before .before .before .before .before .before .before .before .before .before .before .before .good in
+    let loop = c .before .before .before .before .before .before .before .before .loop in
+    let if2 = c .before .before .before .before .before .before .if2 in
+    omega (arith, going-high (loop .inv .going) (if2 .left) (c .before .before .write-inverter .ensures), good .0 .1)
 
 loop-less : tie.Need-loop-less Inv-loop μ-loop
 loop-less c = omega (arith, c .before .before .before .before .before .before .before .loop-test .taken)
 
 loop-again : tie.Need-loop-again Inv-loop μ-loop
-loop-again c = inputs-next (c .before .before .before .before .before .before .before .before .loop .inv) (c .before .before .before .before .before .before .before .loop-test .taken) (c .before .before .before .before .before .before .if2 .left) (c .before .before .before .from-input .ensures) (c .before .before .write-inverter .ensures)
+loop-again c =
+    let pre = c .before .before .before .before .before .before .before .before .before .before .before .before .pre in
+    let loop = c .before .before .before .before .before .before .before .before .loop in
+    let loop-test = c .before .before .before .before .before .before .before .loop-test in
+    let if2 = c .before .before .before .before .before .before .if2 in
+    inputs-next (loop .inv) (loop-test .taken) (if2 .left) (made-inverter (input-signal _ _ (omega (arith, loop-test .taken, pre .0, loop .inv .within)) (c .before .before .before .from-input .ensures)) _ (c .before .before .write-inverter .ensures))
 
 same-length-2 : tie.Need-same-length-2 Inv-loop μ-loop
 same-length-2 c = going-kept (c .before .loop .inv .going)

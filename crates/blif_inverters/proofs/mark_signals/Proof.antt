@@ -1,12 +1,14 @@
 -- `mark_signals` marks one signal after the other. Assumes nothing.
 use native.Mathlib.Omega.{arith}
 use borrow.Author.Needs.{needs}
-use mathlib.Core.Path.{refl}
+use mathlib.Core.Path.{refl, ap}
 use mathlib.Core.List.{map}
 use Prim.Native.Nat.{_-_}
-use lib.ListN.{length, drop}
+use lib.ListN.{length, drop, drop-of-length-le}
+use Rattle.lists.proofs.Places.{drop-next}
+use Rattle.lists.proofs.Laying.{front-all}
 use Rattle.signal.specs.Cell.{sigOf}
-use Rattle.blif_inverters.proofs.Marking.{Marking, marking-start, marking-next, marking-done, cells-next, cells-end, gates-kept, inputs-kept}
+use Rattle.blif_inverters.proofs.Marking.{Marking, marking-start, marking-next, gates-kept, inputs-kept}
 use Rattle.blif_inverters.proofs.mark_signals.Statement.{statement}
 use Rattle.blif_inverters.proofs.mark_signals.Tie as tie
 
@@ -35,16 +37,19 @@ loop-less : tie.Need-loop-less Inv-loop μ-loop
 loop-less c = omega (arith, c .before .before .before .before .before .before .before .before .loop-test .taken)
 
 loop-again : tie.Need-loop-again Inv-loop μ-loop
-loop-again c = marking-next (c .before .before .before .before .before .before .before .before .before .loop .inv) (cells-next (c .before .before .before .before .before .before .before .before .before .before .before .before .before .args .cells .now) (c .before .before .before .before .before .before .before .before .before .loop .i) (c .before .before .before .before .before .before .before .before .loop-test .taken)) (c .before .before .before .before .mark-signal .ensures)
+loop-again c =
+    let loop = c .before .before .before .before .before .before .before .before .before .loop in
+    let loop-test = c .before .before .before .before .before .before .before .before .loop-test in
+    marking-next (loop .inv) (ap (map sigOf) (drop-next _ _ 0 (loop-test .taken))) (c .before .before .before .before .mark-signal .ensures)
 
 same-length : tie.Need-same-length Inv-loop μ-loop
-same-length c = gates-kept (c .before .loop .inv .marks)
+same-length c = gates-kept (c .before .loop .inv .has)
 
 same-length-2 : tie.Need-same-length-2 Inv-loop μ-loop
-same-length-2 c = inputs-kept (c .before .loop .inv .marks)
+same-length-2 c = inputs-kept (c .before .loop .inv .has)
 
 returns : tie.Need-returns Inv-loop μ-loop
-returns c = marking-done (c .before .loop .inv) (cells-end (c .before .before .before .before .before .args .cells .now) (c .before .loop .i) (c .loop-test .left))
+returns c = front-all (ap (map sigOf) (drop-of-length-le _ (c .loop-test .left))) (c .before .loop .inv)
 
 pub mark-signals-spec : {M : Type 1} → statement M
 mark-signals-spec =

@@ -41,7 +41,16 @@ same-length : tie.Need-same-length
 same-length c = search needs
 
 returns-2 : tie.Need-returns-2
-returns-2 c = from-start (as-text (inverter-some (c .before .before .before .before .before .before .before .before .before .before .before .before .before .before .before .before .before .before .before .before .before .before .before .args .mark) (c .before .before .before .before .before .before .before .before .not .result .a) (c .before .before .before .before .before .before .before .before .before .before .before .before .before .before .before .before .before .before .before .before .before .before .before .args .s .a) (c .before .before .before .before .before .before .before .before .before .before .before .before .before .before .before .before .before .before .before .before .before .if1 .left) (omega (arith, c .before .before .before .before .before .before .before .before .before .before .before .before .before .before .before .before .before .before .before .before .before .before .before .good)) (c .before .before .before .before .before .before .before .before .before .before .before .before .before .before .before .before .before .before .before .before .before .before .before .pre) (c .before .before .before .before .before .before .before .before .not .ensures)) (and-append (and-append (and-append (c .before .before .before .before .before .before .before .before .before .before .before .before .before .before .before .before .before .before .append .ensures) (c .before .before .before .before .before .before .before .before .before .before .before .before .before .append-name .ensures)) (c .before .before .before .before .before .before .before .append-name2 .ensures)) (c .before .before .append2 .ensures)))
+returns-2 c =
+    let args = c .before .before .before .before .before .before .before .before .before .before .before .before .before .before .before .before .before .before .before .before .before .before .before .args in
+    let good = c .before .before .before .before .before .before .before .before .before .before .before .before .before .before .before .before .before .before .before .before .before .before .before .good in
+    let pre = c .before .before .before .before .before .before .before .before .before .before .before .before .before .before .before .before .before .before .before .before .before .before .before .pre in
+    let if1 = c .before .before .before .before .before .before .before .before .before .before .before .before .before .before .before .before .before .before .before .before .before .if1 in
+    let append = c .before .before .before .before .before .before .before .before .before .before .before .before .before .before .before .before .before .before .append in
+    let append-name = c .before .before .before .before .before .before .before .before .before .before .before .before .before .append-name in
+    let not = c .before .before .before .before .before .before .before .before .not in
+    let append-name2 = c .before .before .before .before .before .before .before .append-name2 in
+    from-start (as-text (inverter-some (args .mark) (not .result .a) (args .s .a) (if1 .left) (omega (arith, good)) (pre) (not .ensures)) (and-append (and-append (and-append (append .ensures) (append-name .ensures)) (append-name2 .ensures)) (c .before .before .append2 .ensures)))
 
 pub write-inverter-spec : {M : Type 1} → statement M
 write-inverter-spec =

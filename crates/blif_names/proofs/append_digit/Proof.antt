@@ -28,7 +28,9 @@ same-length : tie.Need-same-length
 same-length c = search needs
 
 returns-3 : tie.Need-returns-3
-returns-3 c = as-text (digit-some (c .before .before .before .before .before .before .before .args .n) (omega (arith, c .before .before .before .before .if2 .left))) (c .before .before .append-byte .ensures)
+returns-3 c =
+    let args = c .before .before .before .before .before .before .before .args in
+    as-text (digit-some (args .n) (omega (arith, c .before .before .before .before .if2 .left))) (c .before .before .append-byte .ensures)
 
 pub append-digit-spec : {M : Type 1} → statement M
 append-digit-spec =

@@ -20,7 +20,11 @@ same-length : tie.Need-same-length
 same-length c = search needs
 
 returns : tie.Need-returns
-returns c = and-append (and-append (and-append (c .before .before .before .before .before .before .before .before .before .before .before .before .before .before .append-digit .ensures) (c .before .before .before .before .before .before .before .before .before .before .append-digit2 .ensures)) (c .before .before .before .before .before .before .append-digit3 .ensures)) (c .before .before .append-digit4 .ensures)
+returns c =
+    let append-digit = c .before .before .before .before .before .before .before .before .before .before .before .before .before .before .append-digit in
+    let append-digit2 = c .before .before .before .before .before .before .before .before .before .before .append-digit2 in
+    let append-digit3 = c .before .before .before .before .before .before .append-digit3 in
+    and-append (and-append (and-append (append-digit .ensures) (append-digit2 .ensures)) (append-digit3 .ensures)) (c .before .before .append-digit4 .ensures)
 
 pub append-four-spec : {M : Type 1} → statement M
 append-four-spec =

@@ -13,7 +13,9 @@ same-length : tie.Need-same-length
 same-length c = search needs
 
 returns : tie.Need-returns
-returns c = as-text (zero-digit (c .before .before .before .before .before .before .args .n) (c .before .before .before .before .if1 .taken)) (c .before .before .append-byte .ensures)
+returns c =
+    let args = c .before .before .before .before .before .before .args in
+    as-text (zero-digit (args .n) (c .before .before .before .before .if1 .taken)) (c .before .before .append-byte .ensures)
 
 append-upper-requires : tie.Need-append-upper-requires
 append-upper-requires c κs = search needs
@@ -25,7 +27,11 @@ same-length-2 : tie.Need-same-length-2
 same-length-2 c = search needs
 
 returns-2 : tie.Need-returns-2
-returns-2 c = number-digits (c .before .before .before .before .before .before .before .before .before .before .args .n) (omega (arith, c .before .before .before .before .before .before .before .before .if1 .left)) (c .before .before .before .before .before .before .append-upper .ensures) (c .before .before .append-four .ensures)
+returns-2 c =
+    let args = c .before .before .before .before .before .before .before .before .before .before .args in
+    let if1 = c .before .before .before .before .before .before .before .before .if1 in
+    let append-upper = c .before .before .before .before .before .before .append-upper in
+    number-digits (args .n) (omega (arith, if1 .left)) (append-upper .ensures) (c .before .before .append-four .ensures)
 
 pub append-number-spec : {M : Type 1} → statement M
 append-number-spec =

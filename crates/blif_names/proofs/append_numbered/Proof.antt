@@ -21,13 +21,21 @@ same-length : tie.Need-same-length
 same-length c = search needs
 
 returns : tie.Need-returns
-returns c = as-text (turned-name (c .before .before .before .before .before .before .before .before .before .before .before .before .before .before .before .args .letter) (c .before .before .before .before .before .before .before .before .before .before .before .before .before .before .before .args .n) (c .before .before .before .before .before .before .before .before .before .before .before .before .before .before .before .args .inverted) (c .before .before .before .before .before .if1 .taken)) (and-append (and-append (c .before .before .before .before .before .before .before .before .before .before .before .before .append-byte .ensures) (c .before .before .before .before .before .before .before .before .append-number .ensures)) (c .before .before .append .ensures))
+returns c =
+    let args = c .before .before .before .before .before .before .before .before .before .before .before .before .before .before .before .args in
+    let append-byte = c .before .before .before .before .before .before .before .before .before .before .before .before .append-byte in
+    let append-number = c .before .before .before .before .before .before .before .before .append-number in
+    let if1 = c .before .before .before .before .before .if1 in
+    as-text (turned-name (args .letter) (args .n) (args .inverted) (if1 .taken)) (and-append (and-append (append-byte .ensures) (append-number .ensures)) (c .before .before .append .ensures))
 
 same-length-2 : tie.Need-same-length-2
 same-length-2 c = search needs
 
 returns-2 : tie.Need-returns-2
-returns-2 c = as-text (plain-name (c .before .before .before .before .before .before .before .before .before .before .args .letter) (c .before .before .before .before .before .before .before .before .before .before .args .n) (c .before .before .before .before .before .before .before .before .before .before .args .inverted) (c .if1 .left)) (and-append (c .before .before .before .before .before .before .before .append-byte .ensures) (c .before .before .before .append-number .ensures))
+returns-2 c =
+    let args = c .before .before .before .before .before .before .before .before .before .before .args in
+    let append-byte = c .before .before .before .before .before .before .before .append-byte in
+    as-text (plain-name (args .letter) (args .n) (args .inverted) (c .if1 .left)) (and-append (append-byte .ensures) (c .before .before .before .append-number .ensures))
 
 pub append-numbered-spec : {M : Type 1} → statement M
 append-numbered-spec =

@@ -27,7 +27,11 @@ same-length : tie.Need-same-length
 same-length c = search needs
 
 returns-3 : tie.Need-returns-3
-returns-3 c = let h = c .before .before .before .before .before .before .before .before .before .before .before .fits .n in upper-digits (c .before .before .before .before .before .before .before .before .before .before .before .args .n) (omega (arith, h)) (c .before .before .before .before .before .before .append-four .ensures) (c .before .before .append-four2 .ensures)
+returns-3 c =
+    let fits = c .before .before .before .before .before .before .before .before .before .before .before .fits in
+    let args = c .before .before .before .before .before .before .before .before .before .before .before .args in
+    let append-four = c .before .before .before .before .before .before .append-four in
+    let h = fits .n in upper-digits (args .n) (omega (arith, h)) (append-four .ensures) (c .before .before .append-four2 .ensures)
 
 pub append-upper-spec : {M : Type 1} → statement M
 append-upper-spec =

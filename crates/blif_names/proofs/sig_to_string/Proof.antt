@@ -18,7 +18,11 @@ same-length : tie.Need-same-length
 same-length c = search needs
 
 returns : tie.Need-returns
-returns c = as-text (const-name (c .before .before .before .before .before .before .before .before .args .s .a) (c .before .before .before .is-inverted .ensures) (c .before .before .before .before .before .before .is-constant .ensures) (c .before .before .before .before .before .if1 .taken)) (c .before .before .append-constant .ensures)
+returns c =
+    let args = c .before .before .before .before .before .before .before .before .args in
+    let is-constant = c .before .before .before .before .before .before .is-constant in
+    let if1 = c .before .before .before .before .before .if1 in
+    as-text (const-name (args .s .a) (c .before .before .before .is-inverted .ensures) (is-constant .ensures) (if1 .taken)) (c .before .before .append-constant .ensures)
 
 is-input-requires : tie.Need-is-input-requires
 is-input-requires c κs = search needs
@@ -36,7 +40,11 @@ same-length-2 : tie.Need-same-length-2
 same-length-2 c = search needs
 
 returns-2 : tie.Need-returns-2
-returns-2 c = as-text (input-name (c .before .before .before .before .before .before .before .before .before .before .before .args .s .a) (c .before .before .before .is-inverted2 .ensures) (c .before .before .before .before .before .before .before .is-input .ensures) (c .before .before .before .before .before .before .if2 .taken) (c .before .before .before .before .input .ensures)) (c .before .before .append-numbered .ensures)
+returns-2 c =
+    let args = c .before .before .before .before .before .before .before .before .before .before .before .args in
+    let is-input = c .before .before .before .before .before .before .before .is-input in
+    let if2 = c .before .before .before .before .before .before .if2 in
+    as-text (input-name (args .s .a) (c .before .before .before .is-inverted2 .ensures) (is-input .ensures) (if2 .taken) (c .before .before .before .before .input .ensures)) (c .before .before .append-numbered .ensures)
 
 var-requires : tie.Need-var-requires
 var-requires c κs = search needs
@@ -51,7 +59,13 @@ same-length-3 : tie.Need-same-length-3
 same-length-3 c = search needs
 
 returns-3 : tie.Need-returns-3
-returns-3 c = as-text (gate-name (c .before .before .before .before .before .before .before .before .before .before .before .args .s .a) (c .before .before .before .is-inverted3 .ensures) (c .before .before .before .before .before .before .before .before .before .is-constant .ensures) (c .before .before .before .before .before .before .before .before .if1 .left) (c .before .before .before .before .before .before .before .is-input .ensures) (c .before .before .before .before .before .before .if2 .left) (c .before .before .before .before .var .ensures)) (c .before .before .append-numbered2 .ensures)
+returns-3 c =
+    let args = c .before .before .before .before .before .before .before .before .before .before .before .args in
+    let is-constant = c .before .before .before .before .before .before .before .before .before .is-constant in
+    let if1 = c .before .before .before .before .before .before .before .before .if1 in
+    let is-input = c .before .before .before .before .before .before .before .is-input in
+    let if2 = c .before .before .before .before .before .before .if2 in
+    as-text (gate-name (args .s .a) (c .before .before .before .is-inverted3 .ensures) (is-constant .ensures) (if1 .left) (is-input .ensures) (if2 .left) (c .before .before .before .before .var .ensures)) (c .before .before .append-numbered2 .ensures)
 
 pub sig-to-string-spec : {M : Type 1} → statement M
 sig-to-string-spec =

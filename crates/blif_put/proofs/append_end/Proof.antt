@@ -23,7 +23,10 @@ same-length : tie.Need-same-length
 same-length c = search needs
 
 returns : tie.Need-returns
-returns c = as-text (end-text (gateName nameBytes (c .before .before .before .before .before .before .before .before .before .before .before .args .g))) (and-append (c .before .before .before .before .before .before .before .append-gate .ensures) (c .before .before .append .ensures))
+returns c =
+    let args = c .before .before .before .before .before .before .before .before .before .before .before .args in
+    let append-gate = c .before .before .before .before .before .before .before .append-gate in
+    as-text (end-text (gateName nameBytes (args .g))) (and-append (append-gate .ensures) (c .before .before .append .ensures))
 
 pub append-end-spec : {M : Type 1} → statement M
 append-end-spec =

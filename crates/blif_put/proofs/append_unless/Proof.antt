@@ -19,7 +19,11 @@ same-length : tie.Need-same-length
 same-length c = search needs
 
 returns : tie.Need-returns
-returns c = as-text (field-none (c .before .before .before .before .before .before .before .before .before .args .value) (c .before .before .before .before .before .before .before .before .before .args .before .now) (sigOf (c .before .before .before .before .before .before .before .before .before .args .s .a)) (c .before .before .before .before .before .before .is-value .ensures) (c .before .before .before .before .before .if1 .taken)) (c .before .before .append .ensures)
+returns c =
+    let args = c .before .before .before .before .before .before .before .before .before .args in
+    let is-value = c .before .before .before .before .before .before .is-value in
+    let if1 = c .before .before .before .before .before .if1 in
+    as-text (field-none (args .value) (args .before .now) (sigOf (args .s .a)) (is-value .ensures) (if1 .taken)) (c .before .before .append .ensures)
 
 append-name-requires : tie.Need-append-name-requires
 append-name-requires c κs = search needs
@@ -28,7 +32,10 @@ same-length-2 : tie.Need-same-length-2
 same-length-2 c = search needs
 
 returns-2 : tie.Need-returns-2
-returns-2 c = as-text (field-some (c .before .before .before .before .before .before .before .before .args .value) (c .before .before .before .before .before .before .before .before .args .before .now) (sigOf (c .before .before .before .before .before .before .before .before .args .s .a)) (c .before .before .before .before .before .is-value .ensures) (c .before .before .before .before .if1 .left)) (c .before .before .append-name .ensures)
+returns-2 c =
+    let args = c .before .before .before .before .before .before .before .before .args in
+    let is-value = c .before .before .before .before .before .is-value in
+    as-text (field-some (args .value) (args .before .now) (sigOf (args .s .a)) (is-value .ensures) (c .before .before .before .before .if1 .left)) (c .before .before .append-name .ensures)
 
 pub append-unless-spec : {M : Type 1} → statement M
 append-unless-spec =

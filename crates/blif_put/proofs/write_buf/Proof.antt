@@ -39,7 +39,16 @@ same-length : tie.Need-same-length
 same-length c = search needs
 
 returns : tie.Need-returns
-returns c = from-start (as-text (buf-text (sigOf (c .before .before .before .before .before .before .before .before .before .before .before .before .before .before .before .before .before .before .before .before .before .before .before .args .s .a)) (c .before .before .before .before .before .before .before .before .before .before .before .before .before .before .before .before .before .before .before .before .before .before .before .args .g) (bare-signal (c .before .before .before .before .before .before .before .before .before .before .before .before .before .before .without-inversion .result .a) (c .before .before .before .before .before .before .before .before .before .before .before .before .before .before .before .before .before .before .before .before .before .before .before .args .s .a) (omega (arith, c .before .before .before .before .before .before .before .before .before .before .before .before .before .before .before .before .before .before .before .before .before .before .before .good)) (c .before .before .before .before .before .before .before .before .before .before .before .before .before .before .without-inversion .ensures)) (buf-inverted (sigOf (c .before .before .before .before .before .before .before .before .before .before .before .before .before .before .before .before .before .before .before .before .before .before .before .args .s .a)) (sym (c .before .before .before .before .before .before .is-inverted .ensures) ∙ c .before .before .before .before .before .if1 .taken))) (and-append (and-append (and-append (c .before .before .before .before .before .before .before .before .before .before .before .before .before .before .before .before .before .before .before .append .ensures) (c .before .before .before .before .before .before .before .before .before .before .before .before .before .append-name .ensures)) (c .before .before .before .before .before .before .before .before .before .append-end .ensures)) (c .before .before .append2 .ensures)))
+returns c =
+    let args = c .before .before .before .before .before .before .before .before .before .before .before .before .before .before .before .before .before .before .before .before .before .before .before .args in
+    let good = c .before .before .before .before .before .before .before .before .before .before .before .before .before .before .before .before .before .before .before .before .before .before .before .good in
+    let append = c .before .before .before .before .before .before .before .before .before .before .before .before .before .before .before .before .before .before .before .append in
+    let without-inversion = c .before .before .before .before .before .before .before .before .before .before .before .before .before .before .without-inversion in
+    let append-name = c .before .before .before .before .before .before .before .before .before .before .before .before .before .append-name in
+    let append-end = c .before .before .before .before .before .before .before .before .before .append-end in
+    let is-inverted = c .before .before .before .before .before .before .is-inverted in
+    let if1 = c .before .before .before .before .before .if1 in
+    from-start (as-text (buf-text (sigOf (args .s .a)) (args .g) (bare-signal (without-inversion .result .a) (args .s .a) (omega (arith, good)) (without-inversion .ensures)) (buf-inverted (sigOf (args .s .a)) (sym (is-inverted .ensures) ∙ if1 .taken))) (and-append (and-append (and-append (append .ensures) (append-name .ensures)) (append-end .ensures)) (c .before .before .append2 .ensures)))
 
 slice-aggregate-append-3 : tie.Need-slice-aggregate-append-3
 slice-aggregate-append-3 c = search needs
@@ -51,7 +60,16 @@ same-length-2 : tie.Need-same-length-2
 same-length-2 c = search needs
 
 returns-2 : tie.Need-returns-2
-returns-2 c = from-start (as-text (buf-text (sigOf (c .before .before .before .before .before .before .before .before .before .before .before .before .before .before .before .before .before .before .before .before .before .before .before .args .s .a)) (c .before .before .before .before .before .before .before .before .before .before .before .before .before .before .before .before .before .before .before .before .before .before .before .args .g) (bare-signal (c .before .before .before .before .before .before .before .before .before .before .before .before .before .before .without-inversion .result .a) (c .before .before .before .before .before .before .before .before .before .before .before .before .before .before .before .before .before .before .before .before .before .before .before .args .s .a) (omega (arith, c .before .before .before .before .before .before .before .before .before .before .before .before .before .before .before .before .before .before .before .before .before .before .before .good)) (c .before .before .before .before .before .before .before .before .before .before .before .before .before .before .without-inversion .ensures)) (buf-plain (sigOf (c .before .before .before .before .before .before .before .before .before .before .before .before .before .before .before .before .before .before .before .before .before .before .before .args .s .a)) (sym (c .before .before .before .before .before .before .is-inverted .ensures) ∙ c .before .before .before .before .before .if1 .left))) (and-append (and-append (and-append (c .before .before .before .before .before .before .before .before .before .before .before .before .before .before .before .before .before .before .before .append .ensures) (c .before .before .before .before .before .before .before .before .before .before .before .before .before .append-name .ensures)) (c .before .before .before .before .before .before .before .before .before .append-end .ensures)) (c .before .before .append3 .ensures)))
+returns-2 c =
+    let args = c .before .before .before .before .before .before .before .before .before .before .before .before .before .before .before .before .before .before .before .before .before .before .before .args in
+    let good = c .before .before .before .before .before .before .before .before .before .before .before .before .before .before .before .before .before .before .before .before .before .before .before .good in
+    let append = c .before .before .before .before .before .before .before .before .before .before .before .before .before .before .before .before .before .before .before .append in
+    let without-inversion = c .before .before .before .before .before .before .before .before .before .before .before .before .before .before .without-inversion in
+    let append-name = c .before .before .before .before .before .before .before .before .before .before .before .before .before .append-name in
+    let append-end = c .before .before .before .before .before .before .before .before .before .append-end in
+    let is-inverted = c .before .before .before .before .before .before .is-inverted in
+    let if1 = c .before .before .before .before .before .if1 in
+    from-start (as-text (buf-text (sigOf (args .s .a)) (args .g) (bare-signal (without-inversion .result .a) (args .s .a) (omega (arith, good)) (without-inversion .ensures)) (buf-plain (sigOf (args .s .a)) (sym (is-inverted .ensures) ∙ if1 .left))) (and-append (and-append (and-append (append .ensures) (append-name .ensures)) (append-end .ensures)) (c .before .before .append3 .ensures)))
 
 pub write-buf-spec : {M : Type 1} → statement M
 write-buf-spec =

@@ -46,7 +46,14 @@ same-length : tie.Need-same-length
 same-length c = search needs
 
 returns : tie.Need-returns
-returns c = from-start (as-text (flop-text (sigOf (c .before .before .before .before .before .before .before .before .before .before .before .before .before .before .before .before .before .before .before .before .before .before .before .before .before .before .before .before .before .before .before .args .d .a)) (sigOf (c .before .before .before .before .before .before .before .before .before .before .before .before .before .before .before .before .before .before .before .before .before .before .before .before .before .before .before .before .before .before .before .args .e .a)) (sigOf (c .before .before .before .before .before .before .before .before .before .before .before .before .before .before .before .before .before .before .before .before .before .before .before .before .before .before .before .before .before .before .before .args .r .a)) (c .before .before .before .before .before .before .before .before .before .before .before .before .before .before .before .before .before .before .before .before .before .before .before .before .before .before .before .before .before .before .before .args .g)) (and-append (and-append (and-append (and-append (and-append (c .before .before .before .before .before .before .before .before .before .before .before .before .before .before .before .before .before .before .before .before .before .before .before .before .before .before .before .append-name .ensures) (c .before .before .before .before .before .before .before .before .before .before .before .before .before .before .before .before .before .before .before .before .before .before .append-gate .ensures)) (c .before .before .before .before .before .before .before .before .before .before .before .before .before .before .before .before .before .append .ensures)) (c .before .before .before .before .before .before .before .before .before .before .before .before .append-unless .ensures)) (c .before .before .before .before .before .before .before .append-unless2 .ensures)) (c .before .before .append2 .ensures)))
+returns c =
+    let args = c .before .before .before .before .before .before .before .before .before .before .before .before .before .before .before .before .before .before .before .before .before .before .before .before .before .before .before .before .before .before .before .args in
+    let append-name = c .before .before .before .before .before .before .before .before .before .before .before .before .before .before .before .before .before .before .before .before .before .before .before .before .before .before .before .append-name in
+    let append-gate = c .before .before .before .before .before .before .before .before .before .before .before .before .before .before .before .before .before .before .before .before .before .before .append-gate in
+    let append = c .before .before .before .before .before .before .before .before .before .before .before .before .before .before .before .before .before .append in
+    let append-unless = c .before .before .before .before .before .before .before .before .before .before .before .before .append-unless in
+    let append-unless2 = c .before .before .before .before .before .before .before .append-unless2 in
+    from-start (as-text (flop-text (sigOf (args .d .a)) (sigOf (args .e .a)) (sigOf (args .r .a)) (args .g)) (and-append (and-append (and-append (and-append (and-append (append-name .ensures) (append-gate .ensures)) (append .ensures)) (append-unless .ensures)) (append-unless2 .ensures)) (c .before .before .append2 .ensures)))
 
 pub write-flop-spec : {M : Type 1} → statement M
 write-flop-spec =

@@ -24,7 +24,12 @@ same-length : tie.Need-same-length
 same-length c = search needs
 
 returns : tie.Need-returns
-returns c = from-start (as-text (nary-text (c .before .before .before .before .before .before .before .before .before .before .before .before .before .before .before .before .before .before .before .args .t) (c .before .before .before .before .before .before .before .before .before .before .before .before .before .before .before .before .before .before .before .args .run .now) (c .before .before .before .before .before .before .before .before .before .before .before .before .before .before .before .before .before .before .before .args .g)) (and-append (and-append (and-append (c .before .before .before .before .before .before .before .before .before .before .before .before .before .before .append .ensures) (c .before .before .before .before .before .before .before .before .before .before .append-signals .ensures)) (c .before .before .before .before .before .before .append-end .ensures)) (c .before .before .append-nary-lines .ensures)))
+returns c =
+    let args = c .before .before .before .before .before .before .before .before .before .before .before .before .before .before .before .before .before .before .before .args in
+    let append = c .before .before .before .before .before .before .before .before .before .before .before .before .before .before .append in
+    let append-signals = c .before .before .before .before .before .before .before .before .before .before .append-signals in
+    let append-end = c .before .before .before .before .before .before .append-end in
+    from-start (as-text (nary-text (args .t) (args .run .now) (args .g)) (and-append (and-append (and-append (append .ensures) (append-signals .ensures)) (append-end .ensures)) (c .before .before .append-nary-lines .ensures)))
 
 pub write-nary-spec : {M : Type 1} → statement M
 write-nary-spec =

@@ -36,7 +36,12 @@ same-length : tie.Need-same-length
 same-length c = search needs
 
 returns : tie.Need-returns
-returns c = from-start (as-text (plain-text (nameBytes (sigOf (c .before .before .before .before .before .before .before .before .before .before .before .before .before .before .before .before .before .before .before .before .before .args .d .a))) (gateName nameBytes (c .before .before .before .before .before .before .before .before .before .before .before .before .before .before .before .before .before .before .before .before .before .args .g))) (and-append (and-append (and-append (c .before .before .before .before .before .before .before .before .before .before .before .before .before .before .before .before .before .append .ensures) (c .before .before .before .before .before .before .before .before .before .before .before .before .append-name .ensures)) (c .before .before .before .before .before .before .before .append-gate .ensures)) (c .before .before .append2 .ensures)))
+returns c =
+    let args = c .before .before .before .before .before .before .before .before .before .before .before .before .before .before .before .before .before .before .before .before .before .args in
+    let append = c .before .before .before .before .before .before .before .before .before .before .before .before .before .before .before .before .before .append in
+    let append-name = c .before .before .before .before .before .before .before .before .before .before .before .before .append-name in
+    let append-gate = c .before .before .before .before .before .before .before .append-gate in
+    from-start (as-text (plain-text (nameBytes (sigOf (args .d .a))) (gateName nameBytes (args .g))) (and-append (and-append (and-append (append .ensures) (append-name .ensures)) (append-gate .ensures)) (c .before .before .append2 .ensures)))
 
 pub write-plain-spec : {M : Type 1} → statement M
 write-plain-spec =

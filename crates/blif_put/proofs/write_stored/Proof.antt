@@ -18,7 +18,10 @@ same-length : tie.Need-same-length
 same-length c = search needs
 
 returns : tie.Need-returns
-returns c = as-wrote (stored-enabled (sigOf (c .before .before .before .before .before .before .before .args .d .a)) (sigOf (c .before .before .before .before .before .before .before .args .e .a)) (sigOf (c .before .before .before .before .before .before .before .args .r .a)) (c .before .before .before .before .before .before .before .args .g) (sym (c .before .before .before .before .before .is-value .ensures) ∙ not-true _ (c .before .before .before .before .if1 .taken))) (c .before .before .write-flop .ensures)
+returns c =
+    let args = c .before .before .before .before .before .before .before .args in
+    let is-value = c .before .before .before .before .before .is-value in
+    as-wrote (stored-enabled (sigOf (args .d .a)) (sigOf (args .e .a)) (sigOf (args .r .a)) (args .g) (sym (is-value .ensures) ∙ not-true _ (c .before .before .before .before .if1 .taken))) (c .before .before .write-flop .ensures)
 
 is-value-requires-2 : tie.Need-is-value-requires-2
 is-value-requires-2 c κs = search needs
@@ -30,7 +33,10 @@ same-length-2 : tie.Need-same-length-2
 same-length-2 c = search needs
 
 returns-2 : tie.Need-returns-2
-returns-2 c = as-wrote (stored-reset (sigOf (c .before .before .before .before .before .before .before .before .before .args .d .a)) (sigOf (c .before .before .before .before .before .before .before .before .before .args .e .a)) (sigOf (c .before .before .before .before .before .before .before .before .before .args .r .a)) (c .before .before .before .before .before .before .before .before .before .args .g) (sym (c .before .before .before .before .before .is-value2 .ensures) ∙ not-true _ (c .before .before .before .before .if2 .taken))) (c .before .before .write-flop2 .ensures)
+returns-2 c =
+    let args = c .before .before .before .before .before .before .before .before .before .args in
+    let is-value2 = c .before .before .before .before .before .is-value2 in
+    as-wrote (stored-reset (sigOf (args .d .a)) (sigOf (args .e .a)) (sigOf (args .r .a)) (args .g) (sym (is-value2 .ensures) ∙ not-true _ (c .before .before .before .before .if2 .taken))) (c .before .before .write-flop2 .ensures)
 
 write-plain-requires : tie.Need-write-plain-requires
 write-plain-requires c κs = search needs
@@ -39,7 +45,12 @@ same-length-3 : tie.Need-same-length-3
 same-length-3 c = search needs
 
 returns-3 : tie.Need-returns-3
-returns-3 c = as-wrote (stored-plain (sigOf (c .before .before .before .before .before .before .before .before .before .args .d .a)) (sigOf (c .before .before .before .before .before .before .before .before .before .args .e .a)) (sigOf (c .before .before .before .before .before .before .before .before .before .args .r .a)) (c .before .before .before .before .before .before .before .before .before .args .g) (sym (c .before .before .before .before .before .before .before .is-value .ensures) ∙ not-false _ (c .before .before .before .before .before .before .if1 .left)) (sym (c .before .before .before .before .before .is-value2 .ensures) ∙ not-false _ (c .before .before .before .before .if2 .left))) (c .before .before .write-plain .ensures)
+returns-3 c =
+    let args = c .before .before .before .before .before .before .before .before .before .args in
+    let is-value = c .before .before .before .before .before .before .before .is-value in
+    let if1 = c .before .before .before .before .before .before .if1 in
+    let is-value2 = c .before .before .before .before .before .is-value2 in
+    as-wrote (stored-plain (sigOf (args .d .a)) (sigOf (args .e .a)) (sigOf (args .r .a)) (args .g) (sym (is-value .ensures) ∙ not-false _ (if1 .left)) (sym (is-value2 .ensures) ∙ not-false _ (c .before .before .before .before .if2 .left))) (c .before .before .write-plain .ensures)
 
 pub write-stored-spec : {M : Type 1} → statement M
 write-stored-spec =

@@ -45,7 +45,14 @@ same-length : tie.Need-same-length
 same-length c = search needs
 
 returns : tie.Need-returns
-returns c = from-start (as-text (names-then (nameBytes (sigOf (c .before .before .before .before .before .before .before .before .before .before .before .before .before .before .before .before .before .before .before .before .before .before .before .before .before .before .before .before .before .args .a .a)) ∷ nameBytes (sigOf (c .before .before .before .before .before .before .before .before .before .before .before .before .before .before .before .before .before .before .before .before .before .before .before .before .before .before .before .before .before .args .b .a)) ∷ nameBytes (sigOf (c .before .before .before .before .before .before .before .before .before .before .before .before .before .before .before .before .before .before .before .before .before .before .before .before .before .before .before .before .before .args .c .a)) ∷ []) (gateName nameBytes (c .before .before .before .before .before .before .before .before .before .before .before .before .before .before .before .before .before .before .before .before .before .before .before .before .before .before .before .before .before .args .g)) (linesOf (ternaryForm (c .before .before .before .before .before .before .before .before .before .before .before .before .before .before .before .before .before .before .before .before .before .before .before .before .before .before .before .before .before .args .t)) 3) (three-names (nameBytes (sigOf (c .before .before .before .before .before .before .before .before .before .before .before .before .before .before .before .before .before .before .before .before .before .before .before .before .before .before .before .before .before .args .a .a))) (nameBytes (sigOf (c .before .before .before .before .before .before .before .before .before .before .before .before .before .before .before .before .before .before .before .before .before .before .before .before .before .before .before .before .before .args .b .a))) (nameBytes (sigOf (c .before .before .before .before .before .before .before .before .before .before .before .before .before .before .before .before .before .before .before .before .before .before .before .before .before .before .before .before .before .args .c .a))))) (and-append (and-append (and-append (and-append (and-append (c .before .before .before .before .before .before .before .before .before .before .before .before .before .before .before .before .before .before .before .before .before .before .before .before .before .append .ensures) (c .before .before .before .before .before .before .before .before .before .before .before .before .before .before .before .before .before .before .before .before .append-name .ensures)) (c .before .before .before .before .before .before .before .before .before .before .before .before .before .before .before .append-name2 .ensures)) (c .before .before .before .before .before .before .before .before .before .before .append-name3 .ensures)) (c .before .before .before .before .before .before .append-end .ensures)) (c .before .before .append-ternary-lines .ensures)))
+returns c =
+    let args = c .before .before .before .before .before .before .before .before .before .before .before .before .before .before .before .before .before .before .before .before .before .before .before .before .before .before .before .before .before .args in
+    let append = c .before .before .before .before .before .before .before .before .before .before .before .before .before .before .before .before .before .before .before .before .before .before .before .before .before .append in
+    let append-name = c .before .before .before .before .before .before .before .before .before .before .before .before .before .before .before .before .before .before .before .before .append-name in
+    let append-name2 = c .before .before .before .before .before .before .before .before .before .before .before .before .before .before .before .append-name2 in
+    let append-name3 = c .before .before .before .before .before .before .before .before .before .before .append-name3 in
+    let append-end = c .before .before .before .before .before .before .append-end in
+    from-start (as-text (names-then (nameBytes (sigOf (args .a .a)) ∷ nameBytes (sigOf (args .b .a)) ∷ nameBytes (sigOf (args .c .a)) ∷ []) (gateName nameBytes (args .g)) (linesOf (ternaryForm (args .t)) 3) (three-names (nameBytes (sigOf (args .a .a))) (nameBytes (sigOf (args .b .a))) (nameBytes (sigOf (args .c .a))))) (and-append (and-append (and-append (and-append (and-append (append .ensures) (append-name .ensures)) (append-name2 .ensures)) (append-name3 .ensures)) (append-end .ensures)) (c .before .before .append-ternary-lines .ensures)))
 
 pub write-ternary-spec : {M : Type 1} → statement M
 write-ternary-spec =

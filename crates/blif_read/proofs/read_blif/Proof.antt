@@ -21,7 +21,9 @@ counts-of-requires c κs = search needs
 
 mul-clear-from : tie.Need-mul-clear-from
 mul-clear-from c =
-    let z = counts-fit _ _ (c .before .before .before .before .before .before .before .before .before .before .before .before .before .read-cells .result) (c .before .before .counts-of .result) (c .before .before .before .before .before .before .before .before .before .before .before .before .before .read-cells .last .1 .0) (c .before .before .before .before .before .before .before .before .before .before .before .before .before .read-cells .last .1 .1 .0) (c .before .before .before .before .before .before .before .before .before .before .before .before .before .read-cells .last .1 .1 .1 .0) _ (c .before .before .before .before .before .before .before .before .before .before .before .before .before .read-cells .ensures) (c .before .before .counts-of .ensures) (c .before .before .before .before .before .before .before .before .before .before .before .before .before .read-cells .kept .1 .0) (c .before .before .before .before .before .before .before .before .before .before .before .before .before .before .before .before .before .before .before .before .before .before .before .before .before .good .1 .0 .0) in
+    let good = c .before .before .before .before .before .before .before .before .before .before .before .before .before .before .before .before .before .before .before .before .before .before .before .before .before .good in
+    let read-cells = c .before .before .before .before .before .before .before .before .before .before .before .before .before .read-cells in
+    let z = counts-fit _ _ (read-cells .result) (c .before .before .counts-of .result) (read-cells .last .1 .0) (read-cells .last .1 .1 .0) (read-cells .last .1 .1 .1 .0) _ (read-cells .ensures) (c .before .before .counts-of .ensures) (read-cells .kept .1 .0) (good .1 .0 .0) in
     omega (arith, z)
 
 clear-from-requires : tie.Need-clear-from-requires
@@ -56,9 +58,15 @@ same-length-5 c = search needs
 
 returns : tie.Need-returns
 returns c =
-    all-cleared _ _ _ _ _ _ _ _ _ _ _ _ (c .before .before .before .before .before .before .before .before .before .before .before .before .before .before .before .before .before .before .before .before .before .before .before .before .before .before .before .before .before .before .before .before .read-cells .ensures) (c .before .before .before .before .before .before .before .before .before .before .before .before .before .before .before .before .before .before .before .before .before .counts-of .ensures) (c .before .before .before .before .before .before .before .before .before .before .before .before .before .before .before .before .before .before .before .before .before .before .before .before .before .before .before .before .before .before .before .before .read-cells .kept .1 .0) (c .before .before .before .before .before .before .before .before .before .before .before .before .before .before .before .before .before .before .before .before .before .before .before .before .before .before .before .before .before .before .before .before .read-cells .kept .1 .1 .0) (c .before .before .before .before .before .before .before .before .before .before .before .before .before .before .before .before .before .before .before .before .before .before .before .before .before .before .before .before .before .before .before .before .read-cells .kept .1 .1 .1 .0)
-    (c .before .before .before .before .before .before .before .before .before .before .before .before .before .before .before .before .before .before .clear-from .ensures) (c .before .before .before .before .before .before .before .before .before .before .before .before .before .before .clear-from2 .ensures) (c .before .before .before .before .before .before .before .before .before .before .clear-from3 .ensures) (c .before .before .before .before .before .before .fill-zero .ensures ∙ ap zeros (c .before .before .before .before .before .before .before .before .before .before .before .before .before .before .before .before .before .before .before .before .before .before .before .before .before .before .before .before .before .before .before .before .read-cells .kept .1 .1 .1 .1 .0))
-    (c .before .before .fill-zero2 .ensures ∙ ap zeros (c .before .before .before .before .before .before .before .before .before .before .before .before .before .before .before .before .before .before .before .before .before .before .before .before .before .before .before .before .before .before .before .before .read-cells .kept .1 .1 .1 .1 .1 .0))
+    let read-cells = c .before .before .before .before .before .before .before .before .before .before .before .before .before .before .before .before .before .before .before .before .before .before .before .before .before .before .before .before .before .before .before .before .read-cells in
+    let counts-of = c .before .before .before .before .before .before .before .before .before .before .before .before .before .before .before .before .before .before .before .before .before .counts-of in
+    let clear-from = c .before .before .before .before .before .before .before .before .before .before .before .before .before .before .before .before .before .before .clear-from in
+    let clear-from2 = c .before .before .before .before .before .before .before .before .before .before .before .before .before .before .clear-from2 in
+    let clear-from3 = c .before .before .before .before .before .before .before .before .before .before .clear-from3 in
+    let fill-zero = c .before .before .before .before .before .before .fill-zero in
+    all-cleared _ _ _ _ _ _ _ _ _ _ _ _ (read-cells .ensures) (counts-of .ensures) (read-cells .kept .1 .0) (read-cells .kept .1 .1 .0) (read-cells .kept .1 .1 .1 .0)
+    (clear-from .ensures) (clear-from2 .ensures) (clear-from3 .ensures) (fill-zero .ensures ∙ ap zeros (read-cells .kept .1 .1 .1 .1 .0))
+    (c .before .before .fill-zero2 .ensures ∙ ap zeros (read-cells .kept .1 .1 .1 .1 .1 .0))
 
 pub read-blif-spec : {M : Type 1} → statement M
 read-blif-spec =

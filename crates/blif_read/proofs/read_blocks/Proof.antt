@@ -17,7 +17,9 @@ add-place-gates : tie.Need-add-place-gates
 add-place-gates c = search needs
 
 place-gates-requires : tie.Need-place-gates-requires
-place-gates-requires c κs = ((c .before .before .before .before .before .before .before .before .before .before .before .before .pre .1 .tables .index-is, c .before .before .before .before .before .before .before .before .before .before .before .before .pre .1 .tables .blocks-in), (record { gateRoom = c .before .before .before .before .before .before .before .before .before .before .before .before .pre .0 .workGates; pinRoom = c .before .before .before .before .before .before .before .before .before .before .before .before .pre .0 .workPins }, few-gates (c .before .before .before .before .before .before .before .before .before .before .before .before .pre .1), few-placed (c .before .before .before .before .before .before .before .before .before .before .before .before .pre .1)))
+place-gates-requires c κs =
+    let pre = c .before .before .before .before .before .before .before .before .before .before .before .before .pre in
+    ((pre .1 .tables .index-is, pre .1 .tables .blocks-in), (record { gateRoom = pre .0 .workGates; pinRoom = pre .0 .workPins }, few-gates (pre .1), few-placed (pre .1)))
 
 same-length : tie.Need-same-length
 same-length c = search needs
@@ -32,7 +34,10 @@ same-length-4 : tie.Need-same-length-4
 same-length-4 c = search needs
 
 returns : tie.Need-returns
-returns c = holds-refused _ _ _ _ _ (use-refused (c .before .before .before .before .before .before .before .before .before .before .before .before .before .before .before .before .before .before .before .pre .1) (c .before .before .before .before .before .before .place-gates .ensures) (not-true _ (c .if1 .taken)))
+returns c =
+    let pre = c .before .before .before .before .before .before .before .before .before .before .before .before .before .before .before .before .before .before .before .pre in
+    let place-gates = c .before .before .before .before .before .before .place-gates in
+    holds-refused _ _ _ _ _ (use-refused (pre .1) (place-gates .ensures) (not-true _ (c .if1 .taken)))
 
 check-covers-requires : tie.Need-check-covers-requires
 check-covers-requires c κs = search needs
@@ -50,10 +55,19 @@ same-length-8 : tie.Need-same-length-8
 same-length-8 c = search needs
 
 returns-2 : tie.Need-returns-2
-returns-2 c = holds-refused _ _ _ _ _ (cover-refused (c .before .before .before .before .before .before .before .before .before .before .before .before .before .before .before .before .before .before .before .before .before .before .before .pre .1) (c .before .before .before .before .before .before .before .before .before .before .place-gates .ensures) (not-false _ (c .before .before .before .before .if1 .left)) (c .before .check-covers .ensures) (c .if2 .taken))
+returns-2 c =
+    let pre = c .before .before .before .before .before .before .before .before .before .before .before .before .before .before .before .before .before .before .before .before .before .before .before .pre in
+    let place-gates = c .before .before .before .before .before .before .before .before .before .before .place-gates in
+    holds-refused _ _ _ _ _ (cover-refused (pre .1) (place-gates .ensures) (not-false _ (c .before .before .before .before .if1 .left)) (c .before .check-covers .ensures) (c .if2 .taken))
 
 read-built-requires : tie.Need-read-built-requires
-read-built-requires c κs = (enough-same (c .before .before .before .before .before .before .before .before .before .before .before .before .before .before .before .before .before .before .before .before .before .before .before .before .before .before .before .before .pre .0) refl refl refl (c .before .before .before .before .before .before .before .before .before .before .before .before .before .before .before .place-gates .kept .1 .1 .1 .1 .1 .1 .1 .0) (c .before .before .before .before .before .before .before .before .before .before .before .before .before .before .before .place-gates .kept .1 .1 .1 .1 .1 .1 .1 .1 .0), gates-placed (c .before .before .before .before .before .before .before .before .before .before .before .before .before .before .before .before .before .before .before .before .before .before .before .before .before .before .before .before .pre .1) (c .before .before .before .before .before .before .before .before .before .before .before .before .before .before .before .place-gates .ensures) (not-false _ (c .before .before .before .before .before .before .before .before .before .if1 .left)) (c .before .before .before .before .before .before .check-covers .ensures) (c .before .before .before .before .before .if2 .left))
+read-built-requires c κs =
+    let pre = c .before .before .before .before .before .before .before .before .before .before .before .before .before .before .before .before .before .before .before .before .before .before .before .before .before .before .before .before .pre in
+    let place-gates = c .before .before .before .before .before .before .before .before .before .before .before .before .before .before .before .place-gates in
+    let if1 = c .before .before .before .before .before .before .before .before .before .if1 in
+    let check-covers = c .before .before .before .before .before .before .check-covers in
+    let if2 = c .before .before .before .before .before .if2 in
+    (enough-same (pre .0) refl refl refl (place-gates .kept .1 .1 .1 .1 .1 .1 .1 .0) (place-gates .kept .1 .1 .1 .1 .1 .1 .1 .1 .0), gates-placed (pre .1) (place-gates .ensures) (not-false _ (if1 .left)) (check-covers .ensures) (if2 .left))
 
 same-length-9 : tie.Need-same-length-9
 same-length-9 c = search needs

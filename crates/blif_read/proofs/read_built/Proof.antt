@@ -11,10 +11,15 @@ use Rattle.blif_gates.proofs.build_covers.Reads as build-covers-reads
 use Rattle.sort.proofs.topo_sort.Reads as topo-sort-reads
 
 build-covers-requires : tie.Need-build-covers-requires
-build-covers-requires c κs = (c .before .before .before .before .before .before .before .before .before .before .pre .1 .blocks-in, buildable (c .before .before .before .before .before .before .before .before .before .before .pre .1) (record { gateRoom = c .before .before .before .before .before .before .before .before .before .before .pre .0 .workGates; pinRoom = c .before .before .before .before .before .before .before .before .before .before .pre .0 .workPins }))
+build-covers-requires c κs =
+    let pre = c .before .before .before .before .before .before .before .before .before .before .pre in
+    (pre .1 .blocks-in, buildable (pre .1) (record { gateRoom = pre .0 .workGates; pinRoom = pre .0 .workPins }))
 
 topo-sort-requires : tie.Need-topo-sort-requires
-topo-sort-requires c κs = sortable (c .before .before .before .before .before .before .before .before .before .before .before .before .before .before .before .before .before .before .before .before .pre .1) (c .before .before .before .before .before .before .before .before .before .build-covers .ensures) (omega (arith, c .before .before .before .before .before .before .before .before .before .before .before .before .before .before .before .before .before .before .before .before .pre .0 .workGates, c .before .before .before .before .before .before .before .before .before .build-covers .kept .1 .1 .1 .1 .1 .0)) (omega (arith, c .before .before .before .before .before .before .before .before .before .before .before .before .before .before .before .before .before .before .before .before .pre .0 .workPins, c .before .before .before .before .before .before .before .before .before .build-covers .kept .1 .1 .1 .1 .1 .1 .0)) (c .before .before .before .before .before .before .before .before .before .before .before .before .before .before .before .before .before .before .before .before .pre .0 .outputs) _ _ (c .before .before .before .before .before .before .before .before .before .before .before .before .before .before .before .before .before .before .before .before .pre .0 .gates) (c .before .before .before .before .before .before .before .before .before .before .before .before .before .before .before .before .before .before .before .before .pre .0 .pins)
+topo-sort-requires c κs =
+    let pre = c .before .before .before .before .before .before .before .before .before .before .before .before .before .before .before .before .before .before .before .before .pre in
+    let build-covers = c .before .before .before .before .before .before .before .before .before .build-covers in
+    sortable (pre .1) (build-covers .ensures) (omega (arith, pre .0 .workGates, build-covers .kept .1 .1 .1 .1 .1 .0)) (omega (arith, pre .0 .workPins, build-covers .kept .1 .1 .1 .1 .1 .1 .0)) (pre .0 .outputs) _ _ (pre .0 .gates) (pre .0 .pins)
 
 enum-told : tie.Need-enum-told
 enum-told c = search needs
@@ -38,7 +43,11 @@ same-length-5 : tie.Need-same-length-5
 same-length-5 c = search needs
 
 returns : tie.Need-returns
-returns c = holds-refused _ _ _ _ _ (loop-refused (c .before .before .before .before .before .before .before .before .before .before .before .before .before .before .before .before .before .before .before .before .before .before .before .before .before .before .before .before .before .pre .1) (c .before .before .before .before .before .before .before .before .before .before .before .before .before .before .before .before .before .before .build-covers .ensures) (omega (arith, c .before .before .before .before .before .before .before .before .before .before .before .before .before .before .before .before .before .before .before .before .before .before .before .before .before .before .before .before .before .pre .0 .workGates, c .before .before .before .before .before .before .before .before .before .before .before .before .before .before .before .before .before .before .build-covers .kept .1 .1 .1 .1 .1 .0)) (omega (arith, c .before .before .before .before .before .before .before .before .before .before .before .before .before .before .before .before .before .before .before .before .before .before .before .before .before .before .before .before .before .pre .0 .workPins, c .before .before .before .before .before .before .before .before .before .before .before .before .before .before .before .before .before .before .build-covers .kept .1 .1 .1 .1 .1 .1 .0)) (c .before .before .before .before .before .before .before .before .before .before .before .before .before .before .before .before .before .before .before .before .before .before .before .before .before .before .before .before .before .pre .0 .outputs) _ _ (c .before .before .before .before .before .before .before .before .before .before .before .before .before .before .before .before .before .before .before .before .before .before .before .before .before .before .before .before .before .pre .0 .gates) (c .before .before .before .before .before .before .before .before .before .before .before .before .before .before .before .before .before .before .before .before .before .before .before .before .before .before .before .before .before .pre .0 .pins) (c .before .before .before .before .before .before .before .before .topo-sort .ensures) (c .enum-told .given .1))
+returns c =
+    let pre = c .before .before .before .before .before .before .before .before .before .before .before .before .before .before .before .before .before .before .before .before .before .before .before .before .before .before .before .before .before .pre in
+    let build-covers = c .before .before .before .before .before .before .before .before .before .before .before .before .before .before .before .before .before .before .build-covers in
+    let topo-sort = c .before .before .before .before .before .before .before .before .topo-sort in
+    holds-refused _ _ _ _ _ (loop-refused (pre .1) (build-covers .ensures) (omega (arith, pre .0 .workGates, build-covers .kept .1 .1 .1 .1 .1 .0)) (omega (arith, pre .0 .workPins, build-covers .kept .1 .1 .1 .1 .1 .1 .0)) (pre .0 .outputs) _ _ (pre .0 .gates) (pre .0 .pins) (topo-sort .ensures) (c .enum-told .given .1))
 
 same-length-6 : tie.Need-same-length-6
 same-length-6 c = search needs
@@ -56,7 +65,11 @@ same-length-10 : tie.Need-same-length-10
 same-length-10 c = search needs
 
 returns-2 : tie.Need-returns-2
-returns-2 c = order-read (c .before .before .before .before .before .before .before .before .before .before .before .before .before .before .before .before .before .before .before .before .before .before .before .before .before .before .before .before .before .before .pre .1) (c .before .before .before .before .before .before .before .before .before .before .before .before .before .before .before .before .before .before .before .build-covers .ensures) (omega (arith, c .before .before .before .before .before .before .before .before .before .before .before .before .before .before .before .before .before .before .before .before .before .before .before .before .before .before .before .before .before .before .pre .0 .workGates, c .before .before .before .before .before .before .before .before .before .before .before .before .before .before .before .before .before .before .before .build-covers .kept .1 .1 .1 .1 .1 .0)) (omega (arith, c .before .before .before .before .before .before .before .before .before .before .before .before .before .before .before .before .before .before .before .before .before .before .before .before .before .before .before .before .before .before .pre .0 .workPins, c .before .before .before .before .before .before .before .before .before .before .before .before .before .before .before .before .before .before .before .build-covers .kept .1 .1 .1 .1 .1 .1 .0)) (c .before .before .before .before .before .before .before .before .before .before .before .before .before .before .before .before .before .before .before .before .before .before .before .before .before .before .before .before .before .before .pre .0 .outputs) _ _ (c .before .before .before .before .before .before .before .before .before .before .before .before .before .before .before .before .before .before .before .before .before .before .before .before .before .before .before .before .before .before .pre .0 .gates) (c .before .before .before .before .before .before .before .before .before .before .before .before .before .before .before .before .before .before .before .before .before .before .before .before .before .before .before .before .before .before .pre .0 .pins) (c .before .before .before .before .before .before .before .before .before .topo-sort .ensures) _ (c .before .used-pins .given .1)
+returns-2 c =
+    let pre = c .before .before .before .before .before .before .before .before .before .before .before .before .before .before .before .before .before .before .before .before .before .before .before .before .before .before .before .before .before .before .pre in
+    let build-covers = c .before .before .before .before .before .before .before .before .before .before .before .before .before .before .before .before .before .before .before .build-covers in
+    let topo-sort = c .before .before .before .before .before .before .before .before .before .topo-sort in
+    order-read (pre .1) (build-covers .ensures) (omega (arith, pre .0 .workGates, build-covers .kept .1 .1 .1 .1 .1 .0)) (omega (arith, pre .0 .workPins, build-covers .kept .1 .1 .1 .1 .1 .1 .0)) (pre .0 .outputs) _ _ (pre .0 .gates) (pre .0 .pins) (topo-sort .ensures) _ (c .before .used-pins .given .1)
 
 pub read-built-spec : {M : Type 1} → statement M
 read-built-spec =

@@ -18,7 +18,10 @@ returns : tie.Need-returns
 returns c = few-refused _ _ _ _ _ (sym (c .before .enough-cells .ensures) ∙ not-true _ (c .if1 .taken))
 
 read-text-requires : tie.Need-read-text-requires
-read-text-requires c κs = enough-cells _ _ _ _ _ (sym (c .before .before .before .before .before .before .enough-cells .ensures) ∙ not-false _ (c .before .before .before .before .before .if1 .left))
+read-text-requires c κs =
+    let the-enough-cells = c .before .before .before .before .before .before .enough-cells in
+    let if1 = c .before .before .before .before .before .if1 in
+    enough-cells _ _ _ _ _ (sym (the-enough-cells .ensures) ∙ not-false _ (if1 .left))
 
 same-length : tie.Need-same-length
 same-length c = search needs
@@ -36,7 +39,11 @@ same-length-5 : tie.Need-same-length-5
 same-length-5 c = search needs
 
 returns-2 : tie.Need-returns-2
-returns-2 c = enough-answered _ _ _ _ _ _ (sym (c .before .before .before .before .before .before .before .before .before .before .before .before .before .before .before .before .before .enough-cells .ensures) ∙ not-false _ (c .before .before .before .before .before .before .before .before .before .before .before .before .before .before .before .before .if1 .left)) (c .before .before .before .before .before .before .before .before .before .before .read-text .ensures)
+returns-2 c =
+    let the-enough-cells = c .before .before .before .before .before .before .before .before .before .before .before .before .before .before .before .before .before .enough-cells in
+    let if1 = c .before .before .before .before .before .before .before .before .before .before .before .before .before .before .before .before .if1 in
+    let read-text = c .before .before .before .before .before .before .before .before .before .before .read-text in
+    enough-answered _ _ _ _ _ _ (sym (the-enough-cells .ensures) ∙ not-false _ (if1 .left)) (read-text .ensures)
 
 pub read-cells-spec : {M : Type 1} → statement M
 read-cells-spec =

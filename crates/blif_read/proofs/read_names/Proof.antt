@@ -19,7 +19,9 @@ slice-aggregate-build-name-to-sig : tie.Need-slice-aggregate-build-name-to-sig
 slice-aggregate-build-name-to-sig c = search needs
 
 build-name-to-sig-requires : tie.Need-build-name-to-sig-requires
-build-name-to-sig-requires c κs = ((c .before .before .before .before .before .before .before .before .before .before .pre .1 .stands, c .before .before .before .before .before .before .before .before .before .before .pre .1 .few), (sized-again (c .before .before .before .before .before .before .before .before .before .before .pre .1), (refl, omega (arith, c .before .before .before .before .before .before .before .before .before .before .pre .0 .workPins), c .before .before .before .before .before .before .before .before .before .before .pre .0 .gates)))
+build-name-to-sig-requires c κs =
+    let pre = c .before .before .before .before .before .before .before .before .before .before .pre in
+    ((pre .1 .stands, pre .1 .few), (sized-again (pre .1), (refl, omega (arith, pre .0 .workPins), pre .0 .gates)))
 
 same-length : tie.Need-same-length
 same-length c = search needs
@@ -31,24 +33,38 @@ same-length-3 : tie.Need-same-length-3
 same-length-3 c = search needs
 
 returns : tie.Need-returns
-returns c = holds-refused _ _ _ _ _ (name-refused (c .before .before .before .before .before .before .before .before .before .before .before .before .before .before .before .before .before .before .pre .1) (c .before .before .before .before .before .before .before .build-name-to-sig .ensures) (c .if1 .taken))
+returns c =
+    let pre = c .before .before .before .before .before .before .before .before .before .before .before .before .before .before .before .before .before .before .pre in
+    let build-name-to-sig = c .before .before .before .before .before .before .before .build-name-to-sig in
+    holds-refused _ _ _ _ _ (name-refused (pre .1) (build-name-to-sig .ensures) (c .if1 .taken))
 
 slice-aggregate-resolve-names : tie.Need-slice-aggregate-resolve-names
 slice-aggregate-resolve-names c = search needs
 
 add-resolve-names : tie.Need-add-resolve-names
-add-resolve-names c = omega (arith, names-entered (c .before .before .before .before .before .before .before .before .before .before .before .before .before .before .before .before .before .before .before .before .pre .1) (c .before .before .before .before .before .before .before .before .before .build-name-to-sig .ensures) (c .before .before .if1 .left) .tables .named .index-is .few)
+add-resolve-names c =
+    let pre = c .before .before .before .before .before .before .before .before .before .before .before .before .before .before .before .before .before .before .before .before .pre in
+    let build-name-to-sig = c .before .before .before .before .before .before .before .before .before .build-name-to-sig in
+    omega (arith, names-entered (pre .1) (build-name-to-sig .ensures) (c .before .before .if1 .left) .tables .named .index-is .few)
 
 slice-reshare-prefix-resolve-names : tie.Need-slice-reshare-prefix-resolve-names
-slice-reshare-prefix-resolve-names c = names-entered (c .before .before .before .before .before .before .before .before .before .before .before .before .before .before .before .before .before .before .before .before .pre .1) (c .before .before .before .before .before .before .before .before .before .build-name-to-sig .ensures) (c .before .before .if1 .left) .tables .outputs-in .room
+slice-reshare-prefix-resolve-names c =
+    let pre = c .before .before .before .before .before .before .before .before .before .before .before .before .before .before .before .before .before .before .before .before .pre in
+    let build-name-to-sig = c .before .before .before .before .before .before .before .before .before .build-name-to-sig in
+    names-entered (pre .1) (build-name-to-sig .ensures) (c .before .before .if1 .left) .tables .outputs-in .room
 
 slice-aggregate-resolve-names-2 : tie.Need-slice-aggregate-resolve-names-2
-slice-aggregate-resolve-names-2 c = sym (length-take-le _ _ (names-entered (c .before .before .before .before .before .before .before .before .before .before .before .before .before .before .before .before .before .before .before .before .before .pre .1) (c .before .before .before .before .before .before .before .before .before .before .build-name-to-sig .ensures) (c .before .before .before .if1 .left) .tables .outputs-in .room))
+slice-aggregate-resolve-names-2 c =
+    let pre = c .before .before .before .before .before .before .before .before .before .before .before .before .before .before .before .before .before .before .before .before .before .pre in
+    let build-name-to-sig = c .before .before .before .before .before .before .before .before .before .before .build-name-to-sig in
+    sym (length-take-le _ _ (names-entered (pre .1) (build-name-to-sig .ensures) (c .before .before .before .if1 .left) .tables .outputs-in .room))
 
 resolve-names-requires : tie.Need-resolve-names-requires
 resolve-names-requires c κs =
-    let v = names-entered (c .before .before .before .before .before .before .before .before .before .before .before .before .before .before .before .before .before .before .before .before .before .before .pre .1) (c .before .before .before .before .before .before .before .before .before .before .before .build-name-to-sig .ensures) (c .before .before .before .before .if1 .left) in
-    (v .tables .named .index-is, (inside-first _ (v .tables .outputs-in), outs-fit v _ (c .before .before .before .before .before .before .before .before .before .before .before .before .before .before .before .before .before .before .before .before .before .before .pre .0 .outputs)))
+    let pre = c .before .before .before .before .before .before .before .before .before .before .before .before .before .before .before .before .before .before .before .before .before .before .pre in
+    let build-name-to-sig = c .before .before .before .before .before .before .before .before .before .before .before .build-name-to-sig in
+    let v = names-entered (pre .1) (build-name-to-sig .ensures) (c .before .before .before .before .if1 .left) in
+    (v .tables .named .index-is, (inside-first _ (v .tables .outputs-in), outs-fit v _ (pre .0 .outputs)))
 
 same-length-4 : tie.Need-same-length-4
 same-length-4 c = search needs
@@ -63,13 +79,23 @@ same-length-7 : tie.Need-same-length-7
 same-length-7 c = search needs
 
 returns-2 : tie.Need-returns-2
-returns-2 c = holds-refused _ _ _ _ _ (output-refused (names-entered (c .before .before .before .before .before .before .before .before .before .before .before .before .before .before .before .before .before .before .before .before .before .before .before .before .before .before .pre .1) (c .before .before .before .before .before .before .before .before .before .before .before .before .before .before .before .build-name-to-sig .ensures) (c .before .before .before .before .before .before .before .before .if1 .left)) (c .before .before .before .resolve-names .ensures) (not-true _ (c .if2 .taken)))
+returns-2 c =
+    let pre = c .before .before .before .before .before .before .before .before .before .before .before .before .before .before .before .before .before .before .before .before .before .before .before .before .before .before .pre in
+    let build-name-to-sig = c .before .before .before .before .before .before .before .before .before .before .before .before .before .before .before .build-name-to-sig in
+    let if1 = c .before .before .before .before .before .before .before .before .if1 in
+    holds-refused _ _ _ _ _ (output-refused (names-entered (pre .1) (build-name-to-sig .ensures) (if1 .left)) (c .before .before .before .resolve-names .ensures) (not-true _ (c .if2 .taken)))
 
 slice-aggregate-read-blocks : tie.Need-slice-aggregate-read-blocks
 slice-aggregate-read-blocks c = search needs
 
 read-blocks-requires : tie.Need-read-blocks-requires
-read-blocks-requires c κs = (enough-same (c .before .before .before .before .before .before .before .before .before .before .before .before .before .before .before .before .before .before .before .before .before .before .before .before .before .before .before .before .before .before .before .before .pre .0) (c .before .before .before .before .before .before .before .before .before .before .before .before .before .before .before .before .before .before .before .before .before .build-name-to-sig .kept .1 .1 .1 .1 .1 .0) refl (c .before .before .before .before .before .before .before .before .before .resolve-names .kept .1 .1 .1 .1 .0) refl (c .before .before .before .before .before .before .before .before .before .before .before .before .before .before .before .before .before .before .before .before .before .build-name-to-sig .kept .1 .1 .1 .1 .0), outputs-found (names-entered (c .before .before .before .before .before .before .before .before .before .before .before .before .before .before .before .before .before .before .before .before .before .before .before .before .before .before .before .before .before .before .before .before .pre .1) (c .before .before .before .before .before .before .before .before .before .before .before .before .before .before .before .before .before .before .before .before .before .build-name-to-sig .ensures) (c .before .before .before .before .before .before .before .before .before .before .before .before .before .before .if1 .left)) (c .before .before .before .before .before .before .before .before .before .resolve-names .ensures) (not-false _ (c .before .before .before .before .before .before .if2 .left)) (c .before .before .before .before .before .before .before .before .before .before .before .before .before .before .before .before .before .before .before .before .before .before .before .before .before .before .before .before .before .before .before .before .pre .0 .outputs))
+read-blocks-requires c κs =
+    let pre = c .before .before .before .before .before .before .before .before .before .before .before .before .before .before .before .before .before .before .before .before .before .before .before .before .before .before .before .before .before .before .before .before .pre in
+    let build-name-to-sig = c .before .before .before .before .before .before .before .before .before .before .before .before .before .before .before .before .before .before .before .before .before .build-name-to-sig in
+    let if1 = c .before .before .before .before .before .before .before .before .before .before .before .before .before .before .if1 in
+    let resolve-names = c .before .before .before .before .before .before .before .before .before .resolve-names in
+    let if2 = c .before .before .before .before .before .before .if2 in
+    (enough-same (pre .0) (build-name-to-sig .kept .1 .1 .1 .1 .1 .0) refl (resolve-names .kept .1 .1 .1 .1 .0) refl (build-name-to-sig .kept .1 .1 .1 .1 .0), outputs-found (names-entered (pre .1) (build-name-to-sig .ensures) (if1 .left)) (resolve-names .ensures) (not-false _ (if2 .left)) (pre .0 .outputs))
 
 same-length-8 : tie.Need-same-length-8
 same-length-8 c = search needs

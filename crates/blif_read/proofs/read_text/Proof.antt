@@ -21,7 +21,12 @@ returns-2 : tie.Need-returns-2
 returns-2 c = holds-refused _ _ _ _ _ (high-byte _ (le-ltb maxText _ (c .before .before .if1 .left)) (sym (c .before .has-high-byte .ensures) ∙ c .if2 .taken))
 
 read-tokens-requires : tie.Need-read-tokens-requires
-read-tokens-requires c κs = (c .before .before .before .before .before .before .before .before .before .before .before .before .before .before .pre, readable _ (le-ltb maxText _ (c .before .before .before .before .before .before .before .if1 .left)) (c .before .before .before .before .before .before .before .if1 .left) (sym (c .before .before .before .before .before .before .has-high-byte .ensures) ∙ c .before .before .before .before .before .if2 .left))
+read-tokens-requires c κs =
+    let pre = c .before .before .before .before .before .before .before .before .before .before .before .before .before .before .pre in
+    let if1 = c .before .before .before .before .before .before .before .if1 in
+    let has-high-byte = c .before .before .before .before .before .before .has-high-byte in
+    let if2 = c .before .before .before .before .before .if2 in
+    (pre, readable _ (le-ltb maxText _ (if1 .left)) (if1 .left) (sym (has-high-byte .ensures) ∙ if2 .left))
 
 same-length : tie.Need-same-length
 same-length c = search needs

@@ -15,28 +15,47 @@ use Rattle.blif_text.proofs.first_bad.Reads as first-bad-reads
 use Rattle.blif_text.proofs.mark_tokens.Reads as mark-tokens-reads
 
 mark-tokens-requires : tie.Need-mark-tokens-requires
-mark-tokens-requires c κs = (c .before .before .before .before .before .before .before .pre .1 .small, c .before .before .before .before .before .before .before .pre .0 .pins)
+mark-tokens-requires c κs =
+    let pre = c .before .before .before .before .before .before .before .pre in
+    (pre .1 .small, pre .0 .pins)
 
 first-bad-requires : tie.Need-first-bad-requires
-first-bad-requires c κs = (c .before .before .before .mark-tokens .ensures, omega (arith, c .before .before .before .mark-tokens .ensures .few, c .before .before .before .mark-tokens .kept .1 .0, c .before .before .before .before .before .before .before .before .before .before .before .pre .0 .pins))
+first-bad-requires c κs =
+    let pre = c .before .before .before .before .before .before .before .before .before .before .before .pre in
+    (c .before .before .before .mark-tokens .ensures, omega (arith, c .before .before .before .mark-tokens .ensures .few, c .before .before .before .mark-tokens .kept .1 .0, pre .0 .pins))
 
 same-length : tie.Need-same-length
 same-length c = search needs
 
 returns : tie.Need-returns
-returns c = holds-refused _ _ _ _ _ (bad-statement (c .before .before .before .before .before .before .before .before .before .before .before .before .before .pre .1) _ (c .before .first-bad .ensures) (c .if1 .taken))
+returns c =
+    let pre = c .before .before .before .before .before .before .before .before .before .before .before .before .before .pre in
+    holds-refused _ _ _ _ _ (bad-statement (pre .1) _ (c .before .first-bad .ensures) (c .if1 .taken))
 
 too-large-requires : tie.Need-too-large-requires
-too-large-requires c κs = (stmts-start (c .before .before .before .before .before .before .mark-tokens .ensures) (omega (arith, c .before .before .before .before .before .before .mark-tokens .ensures .few, c .before .before .before .before .before .before .mark-tokens .kept .1 .0, c .before .before .before .before .before .before .before .before .before .before .before .before .before .before .pre .0 .pins)) (sym (c .before .before .first-bad .ensures) ∙ c .before .if1 .left), c .before .before .before .before .before .before .mark-tokens .ensures .few)
+too-large-requires c κs =
+    let pre = c .before .before .before .before .before .before .before .before .before .before .before .before .before .before .pre in
+    let mark-tokens = c .before .before .before .before .before .before .mark-tokens in
+    (stmts-start (mark-tokens .ensures) (omega (arith, mark-tokens .ensures .few, mark-tokens .kept .1 .0, pre .0 .pins)) (sym (c .before .before .first-bad .ensures) ∙ c .before .if1 .left), mark-tokens .ensures .few)
 
 same-length-2 : tie.Need-same-length-2
 same-length-2 c = search needs
 
 returns-2 : tie.Need-returns-2
-returns-2 c = holds-refused _ _ _ _ _ (passed-size (c .before .before .before .before .before .before .before .before .before .before .before .before .before .before .before .before .pre .1) (c .before .before .before .before .before .before .before .before .mark-tokens .ensures) (omega (arith, c .before .before .before .before .before .before .before .before .mark-tokens .ensures .few, c .before .before .before .before .before .before .before .before .mark-tokens .kept .1 .0, c .before .before .before .before .before .before .before .before .before .before .before .before .before .before .before .before .pre .0 .pins)) (sym (c .before .before .before .before .first-bad .ensures) ∙ c .before .before .before .if1 .left) (sym (c .before .too-large .ensures) ∙ c .if2 .taken))
+returns-2 c =
+    let pre = c .before .before .before .before .before .before .before .before .before .before .before .before .before .before .before .before .pre in
+    let mark-tokens = c .before .before .before .before .before .before .before .before .mark-tokens in
+    holds-refused _ _ _ _ _ (passed-size (pre .1) (mark-tokens .ensures) (omega (arith, mark-tokens .ensures .few, mark-tokens .kept .1 .0, pre .0 .pins)) (sym (c .before .before .before .before .first-bad .ensures) ∙ c .before .before .before .if1 .left) (sym (c .before .too-large .ensures) ∙ c .if2 .taken))
 
 read-names-requires : tie.Need-read-names-requires
-read-names-requires c κs = (enough-same (c .before .before .before .before .before .before .before .before .before .before .before .before .before .before .before .before .before .before .before .before .before .pre .0) refl (c .before .before .before .before .before .before .before .before .before .before .before .before .before .mark-tokens .kept .1 .0) refl refl refl, sized (c .before .before .before .before .before .before .before .before .before .before .before .before .before .before .before .before .before .before .before .before .before .pre .1) (c .before .before .before .before .before .before .before .before .before .before .before .before .before .mark-tokens .ensures) (omega (arith, c .before .before .before .before .before .before .before .before .before .before .before .before .before .mark-tokens .ensures .few, c .before .before .before .before .before .before .before .before .before .before .before .before .before .mark-tokens .kept .1 .0, c .before .before .before .before .before .before .before .before .before .before .before .before .before .before .before .before .before .before .before .before .before .pre .0 .pins)) (sym (c .before .before .before .before .before .before .before .before .before .first-bad .ensures) ∙ c .before .before .before .before .before .before .before .before .if1 .left) (sym (c .before .before .before .before .before .before .too-large .ensures) ∙ c .before .before .before .before .before .if2 .left))
+read-names-requires c κs =
+    let pre = c .before .before .before .before .before .before .before .before .before .before .before .before .before .before .before .before .before .before .before .before .before .pre in
+    let mark-tokens = c .before .before .before .before .before .before .before .before .before .before .before .before .before .mark-tokens in
+    let first-bad = c .before .before .before .before .before .before .before .before .before .first-bad in
+    let if1 = c .before .before .before .before .before .before .before .before .if1 in
+    let too-large = c .before .before .before .before .before .before .too-large in
+    let if2 = c .before .before .before .before .before .if2 in
+    (enough-same (pre .0) refl (mark-tokens .kept .1 .0) refl refl refl, sized (pre .1) (mark-tokens .ensures) (omega (arith, mark-tokens .ensures .few, mark-tokens .kept .1 .0, pre .0 .pins)) (sym (first-bad .ensures) ∙ if1 .left) (sym (too-large .ensures) ∙ if2 .left))
 
 same-length-3 : tie.Need-same-length-3
 same-length-3 c = search needs

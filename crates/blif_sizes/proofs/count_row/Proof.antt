@@ -46,16 +46,20 @@ cover-gates-requires : tie.Need-cover-gates-requires
 cover-gates-requires c κs = search needs
 
 add-sizes-5 : tie.Need-add-sizes-5
-add-sizes-5 c = omega (arith, added-few (c .before .before .cover-lines .result .count), c .before .cover-gates .ensures, c .before .before .cover-lines .ensures .low, c .before .before .cover-lines .ensures .rest .rows .high, c .before .before .before .before .before .before .before .before .pre)
+add-sizes-5 c =
+    let pre = c .before .before .before .before .before .before .before .before .pre in
+    omega (arith, added-few (c .before .before .cover-lines .result .count), c .before .cover-gates .ensures, c .before .before .cover-lines .ensures .low, c .before .before .cover-lines .ensures .rest .rows .high, pre)
 
 cover-pins-requires : tie.Need-cover-pins-requires
 cover-pins-requires c κs = search needs
 
 add-sizes-6 : tie.Need-add-sizes-6
 add-sizes-6 c =
+    let before = c .before .before .before .before .before .before .before .before .before .before in
+    let row-at = c .before .before .before .before .before .before .before .row-at in
     let l = c .before .before .before .before .cover-lines .ensures in
-    let w = c .before .before .before .before .before .before .before .row-at .ensures in
-    let s = c .before .before .before .before .before .before .before .before .before .before in
+    let w = row-at .ensures in
+    let s = before in
     omega (arith, pins-few (c .before .cover-pins .ensures) (omega (arith, l .low, l .rest .rows .high, s .pre)) (omega (arith, w .rest .rows .high, s .pre)), s .pre)
 
 enum-told-5 : tie.Need-enum-told-5
@@ -74,17 +78,26 @@ enum-told-9 : tie.Need-enum-told-9
 enum-told-9 c = search needs
 
 returns : tie.Need-returns
-returns c = count-inputs (c .before .before .before .before .before .before .args .w) (row-as (c .before .before .before .row-at .ensures) (c .before .enum-told .given .1))
+returns c =
+    let args = c .before .before .before .before .before .before .args in
+    count-inputs (args .w) (row-as (c .before .before .before .row-at .ensures) (c .before .enum-told .given .1))
 
 returns-2 : tie.Need-returns-2
-returns-2 c = count-outputs (c .before .before .before .before .before .before .args .w) (row-as (c .before .before .before .row-at .ensures) (c .before .enum-told2 .given .1))
+returns-2 c =
+    let args = c .before .before .before .before .before .before .args in
+    count-outputs (args .w) (row-as (c .before .before .before .row-at .ensures) (c .before .enum-told2 .given .1))
 
 returns-3 : tie.Need-returns-3
-returns-3 c = count-latch (c .before .before .before .before .before .before .before .args .w) (row-as (c .before .before .before .before .row-at .ensures) (c .before .before .enum-told3 .given .1))
+returns-3 c =
+    let args = c .before .before .before .before .before .before .before .args in
+    count-latch (args .w) (row-as (c .before .before .before .before .row-at .ensures) (c .before .before .enum-told3 .given .1))
 
 returns-4 : tie.Need-returns-4
 returns-4 c =
-    count-names (c .before .before .before .before .before .before .before .before .before .before .args .w) (row-as (c .before .before .before .before .before .before .before .row-at .ensures) (c .before .before .before .before .before .enum-told4 .given .1)) (c .before .before .before .before .cover-lines .ensures) (c .before .before .before .cover-gates .ensures) (c .before .cover-pins .ensures)
+    let args = c .before .before .before .before .before .before .before .before .before .before .args in
+    let row-at = c .before .before .before .before .before .before .before .row-at in
+    let enum-told4 = c .before .before .before .before .before .enum-told4 in
+    count-names (args .w) (row-as (row-at .ensures) (enum-told4 .given .1)) (c .before .before .before .before .cover-lines .ensures) (c .before .before .before .cover-gates .ensures) (c .before .cover-pins .ensures)
 
 returns-5 : tie.Need-returns-5
 returns-5 c = count-exdc (c .before .before .before .before .before .args .w) (row-as (c .before .before .row-at .ensures) (c .enum-told5 .given .1))

@@ -25,14 +25,16 @@ is-past-requires c κs = tt
 
 returns : tie.Need-returns Inv-loop μ-loop
 returns c =
-    counting-past (c .before .before .before .before .before .loop .inv) (c .before .before .count-row .ensures) (sym (c .before .is-past .ensures) ∙ c .if2 .taken)
+    let loop = c .before .before .before .before .before .loop in
+    counting-past (loop .inv) (c .before .before .count-row .ensures) (sym (c .before .is-past .ensures) ∙ c .if2 .taken)
 
 loop-less : tie.Need-loop-less Inv-loop μ-loop
 loop-less c = omega (arith, c .before .before .count-row .ensures .low, c .before .before .count-row .ensures .rest .rows .high, c .before .before .before .if1 .taken)
 
 loop-again : tie.Need-loop-again Inv-loop μ-loop
 loop-again c =
-    counting-next (c .before .before .before .before .before .loop .inv) (c .before .before .count-row .ensures) (sym (c .before .is-past .ensures) ∙ c .if2 .left)
+    let loop = c .before .before .before .before .before .loop in
+    counting-next (loop .inv) (c .before .before .count-row .ensures) (sym (c .before .is-past .ensures) ∙ c .if2 .left)
 
 returns-2 : tie.Need-returns-2 Inv-loop μ-loop
 returns-2 c = counting-done (c .before .before .loop .inv) (c .if1 .left)

@@ -80,7 +80,9 @@ returns-9 : tie.Need-returns-9
 returns-9 c = is-name 6 (omega arith) (search tried depth 9) (c .before .equal7 .ensures) (c .if9 .taken)
 
 returns-10 : tie.Need-returns-10
-returns-10 c = dot-first (search tried depth 9) (c .before .equal7 .ensures) (c .if9 .left) (c .before .before .before .before .before .before .before .before .before .before .before .before .before .before .before .before .before .before .before .before .before .if2 .left)
+returns-10 c =
+    let if2 = c .before .before .before .before .before .before .before .before .before .before .before .before .before .before .before .before .before .before .before .before .before .if2 in
+    dot-first (search tried depth 9) (c .before .equal7 .ensures) (c .if9 .left) (if2 .left)
 
 pub keyword-of-spec : {M : Type 1} → statement M
 keyword-of-spec =

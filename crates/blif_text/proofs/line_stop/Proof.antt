@@ -32,7 +32,9 @@ shared-slice-read-if5 : tie.Need-shared-slice-read-if5
 shared-slice-read-if5 c = search needs
 
 returns-5 : tie.Need-returns-5
-returns-5 c = none-stops (c .before .before .before .before .before .before .if1 .left) (c .before .before .before .before .if2 .left) (λ l e d. c .if5 .taken d)
+returns-5 c =
+    let if1 = c .before .before .before .before .before .before .if1 in
+    none-stops (if1 .left) (c .before .before .before .before .if2 .left) (λ l e d. c .if5 .taken d)
 
 add-result-2 : tie.Need-add-result-2
 add-result-2 c = search needs

@@ -3,7 +3,8 @@ use mathlib.Core.Path.{sym, _∙_}
 use native.Mathlib.Omega.{arith}
 use borrow.Author.Needs.{needs}
 use borrow.Author.Tests.{not-true, not-false}
-use Rattle.blif_text.proofs.ScanLaws.{scan-lf, scan-comment, comment-moves, scan-blank, scan-spaces}
+use Rattle.blif_text.proofs.ScanEnds.{scan-lf, scan-comment, comment-moves}
+use Rattle.blif_text.proofs.ScanWords.{scan-blank, scan-spaces}
 use Rattle.blif_text.proofs.mark_step.Statement.{statement}
 use Rattle.blif_text.proofs.mark_step.Tie as tie
 
@@ -15,7 +16,8 @@ ends-word-requires c κs = search needs
 
 mark-word-requires : tie.Need-mark-word-requires
 mark-word-requires c κs =
-    let s = c .before .before .before .before .before .before in (s .pre .0, s .pre .1, sym (c .before .before .ends-word .ensures) ∙ not-true _ (c .before .if1 .taken))
+    let before = c .before .before .before .before .before .before in
+    let s = before in (s .pre .0, s .pre .1, sym (c .before .before .ends-word .ensures) ∙ not-true _ (c .before .if1 .taken))
 
 same-length : tie.Need-same-length
 same-length c = search needs
@@ -47,7 +49,8 @@ skip-spaces-requires c κs = search needs
 
 returns-4 : tie.Need-returns-4
 returns-4 c =
-    let s = c .before .before .before .before .before .before .before .before in
+    let before = c .before .before .before .before .before .before .before .before in
+    let s = before in
     let b = scan-blank (s .pre .0) (s .pre .1) (sym (c .before .before .before .before .ends-word .ensures) ∙ not-false _ (c .before .before .before .if1 .left)) (c .before .before .if2 .left) (c .before .if3 .left) in
     (scan-spaces b (c .skip-spaces .ensures), omega (arith, c .skip-spaces .ensures .low))
 

@@ -5,7 +5,7 @@ use native.Mathlib.Omega.{arith}
 use lib.ListN.{length}
 use Rattle.blif_text.specs.Scan.{Scanned}
 use Rattle.blif_text.proofs.RowLaws.{scan-start}
-use Rattle.blif_text.proofs.ScanLaws.{scan-done}
+use Rattle.blif_text.proofs.ScanEnds.{scan-done}
 use Rattle.blif_text.proofs.mark_tokens.Statement.{statement}
 use Rattle.blif_text.proofs.mark_tokens.Tie as tie
 
@@ -25,7 +25,9 @@ loop-less : tie.Need-loop-less Inv-loop μ-loop
 loop-less c = omega (arith, c .before .before .mark-step .ensures .1, c .before .before .mark-step .ensures .0 .high)
 
 loop-again : tie.Need-loop-again Inv-loop μ-loop
-loop-again c = (c .before .before .mark-step .ensures .0, c .before .before .mark-step .kept .1 .0 ∙ c .before .before .before .before .before .before .loop .inv .1)
+loop-again c =
+    let loop = c .before .before .before .before .before .before .loop in
+    (c .before .before .mark-step .ensures .0, c .before .before .mark-step .kept .1 .0 ∙ loop .inv .1)
 
 same-length : tie.Need-same-length Inv-loop μ-loop
 same-length c = c .before .before .loop .inv .1

@@ -1,7 +1,8 @@
 -- `mark_word` finds the word's end, and looks behind a backslash for the line's. Assumes nothing.
 use native.Mathlib.Omega.{arith}
 use borrow.Author.Needs.{needs}
-use Rattle.blif_text.proofs.ScanLaws.{word-room, word-place, scan-word, scan-alone, scan-goes, goes-moves, scan-put}
+use Rattle.blif_text.proofs.ScanWords.{word-room, word-place, scan-word, scan-put}
+use Rattle.blif_text.proofs.ScanGoesOn.{scan-alone, scan-goes, goes-moves}
 use Rattle.blif_text.proofs.mark_word.Statement.{statement}
 use Rattle.blif_text.proofs.mark_word.Tie as tie
 
@@ -29,8 +30,10 @@ same-length c = search needs
 
 returns : tie.Need-returns
 returns c =
-    let s = c .before .before .before .before .before .before .before .before .before in
-    let w = c .before .before .before .before .before .before .word-end .ensures in (
+    let before = c .before .before .before .before .before .before .before .before .before in
+    let word-end = c .before .before .before .before .before .before .word-end in
+    let s = before in
+    let w = word-end .ensures in (
       scan-put (c .before .before .put-word .ensures) (scan-word (s .pre .0) (s .pre .1) (s .pre .2) w (λ e. absurd (c .before .before .before .before .if1 .taken e))),
       omega (arith, c .before .before .put-word .ensures .place, w .passed .low),
     )
@@ -50,9 +53,12 @@ same-length-2 c = search needs
 
 returns-2 : tie.Need-returns-2
 returns-2 c =
-    let s = c .before .before .before .before .before .before .before .before .before .before .before in
-    let w = c .before .before .before .before .before .before .before .before .word-end .ensures in (
-      scan-put (c .before .before .put-word2 .ensures) (scan-word (s .pre .0) (s .pre .1) (s .pre .2) w (λ e. c .before .before .before .before .before .line-stop .ensures .none (c .before .before .before .before .if2 .taken))),
+    let before = c .before .before .before .before .before .before .before .before .before .before .before in
+    let word-end = c .before .before .before .before .before .before .before .before .word-end in
+    let line-stop = c .before .before .before .before .before .line-stop in
+    let s = before in
+    let w = word-end .ensures in (
+      scan-put (c .before .before .put-word2 .ensures) (scan-word (s .pre .0) (s .pre .1) (s .pre .2) w (λ e. line-stop .ensures .none (c .before .before .before .before .if2 .taken))),
       omega (arith, c .before .before .put-word2 .ensures .place, w .passed .low),
     )
 
@@ -84,10 +90,14 @@ same-length-3 c = search needs
 
 returns-4 : tie.Need-returns-4
 returns-4 c =
-    let s = c .before .before .before .before .before .before .before .before .before .before .before .before in
-    let w = c .before .before .before .before .before .before .before .before .before .word-end .ensures in
-    let t = c .before .before .before .before .before .before .line-stop .ensures .some (omega arith) in
-    let e = c .before .before .before .before .before .before .before .if1 .left in (
+    let before = c .before .before .before .before .before .before .before .before .before .before .before .before in
+    let word-end = c .before .before .before .before .before .before .before .before .before .word-end in
+    let if1 = c .before .before .before .before .before .before .before .if1 in
+    let line-stop = c .before .before .before .before .before .before .line-stop in
+    let s = before in
+    let w = word-end .ensures in
+    let t = line-stop .ensures .some (omega arith) in
+    let e = if1 .left in (
       scan-put (c .before .before .put-word3 .ensures) (scan-goes (s .pre .0) (s .pre .1) (s .pre .2) w e t (c .before .before .before .before .if3 .left)),
       omega (arith, c .before .before .put-word3 .ensures .place, goes-moves (s .pre .0) (s .pre .1) (s .pre .2) w e t),
     )

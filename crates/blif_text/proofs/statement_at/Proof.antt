@@ -22,7 +22,8 @@ statement-of-requires c κs = search needs
 
 returns : tie.Need-returns
 returns c =
-    let s = c .before .before .before .before .before .before in
+    let before = c .before .before .before .before .before .before in
+    let s = before in
     c .statement-of .ensures (s .args .text .now) (s .args .cells .now) (s .pre .0 .1) (c .before .keyword-of .ensures ∙ ap keywordOf (c .before .before .token .ensures))
 
 pub statement-at-spec : {M : Type 1} → statement M

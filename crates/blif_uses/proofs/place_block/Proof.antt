@@ -22,9 +22,12 @@ same-length-2 c = search needs
 
 returns : tie.Need-returns
 returns c =
-    let s = c .before .before .before .before .before .before .before .before .before .before .before .before .before .before .before .before in
-    let b = c .before .before .before .before .before .before .before .before .before .block-at .ensures in
-    latch-def (s .args .j) (s .pre .0 .1) (b .0) (b .1) (c .before .before .before .before .before .before .before .if1 .taken) (c .before .before .before .before .place-latch .ensures)
+    let before = c .before .before .before .before .before .before .before .before .before .before .before .before .before .before .before .before in
+    let block-at = c .before .before .before .before .before .before .before .before .before .block-at in
+    let if1 = c .before .before .before .before .before .before .before .if1 in
+    let s = before in
+    let b = block-at .ensures in
+    latch-def (s .args .j) (s .pre .0 .1) (b .0) (b .1) (if1 .taken) (c .before .before .before .before .place-latch .ensures)
 
 sub-place-cover : tie.Need-sub-place-cover
 sub-place-cover c = search needs
@@ -44,9 +47,12 @@ same-length-4 c = search needs
 
 returns-2 : tie.Need-returns-2
 returns-2 c =
-    let s = c .before .before .before .before .before .before .before .before .before .before .before .before .before .before .before .before .before in
-    let b = c .before .before .before .before .before .before .before .before .before .before .block-at .ensures in
-    cover-def (s .args .j) (s .pre .0 .1) (b .0) (b .1) (c .before .before .before .before .before .before .before .before .if1 .left) (c .before .before .before .before .place-cover .ensures)
+    let before = c .before .before .before .before .before .before .before .before .before .before .before .before .before .before .before .before .before in
+    let block-at = c .before .before .before .before .before .before .before .before .before .before .block-at in
+    let if1 = c .before .before .before .before .before .before .before .before .if1 in
+    let s = before in
+    let b = block-at .ensures in
+    cover-def (s .args .j) (s .pre .0 .1) (b .0) (b .1) (if1 .left) (c .before .before .before .before .place-cover .ensures)
 
 pub place-block-spec : {M : Type 1} → statement M
 place-block-spec =

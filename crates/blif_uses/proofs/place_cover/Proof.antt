@@ -42,7 +42,9 @@ same-length : tie.Need-same-length
 same-length c = search needs
 
 returns : tie.Need-returns
-returns c = not-placed (c .before .before .before .resolve-names .ensures) (names-are (c .before .before .before .before .before .before .before .before .before .before .before .pre .0 .1)) (not-true _ (c .if1 .taken))
+returns c =
+    let pre = c .before .before .before .before .before .before .before .before .before .before .before .pre in
+    not-placed (c .before .before .before .resolve-names .ensures) (names-are (pre .0 .1)) (not-true _ (c .if1 .taken))
 
 put-record-requires : tie.Need-put-record-requires
 put-record-requires c κs = search needs
@@ -58,8 +60,10 @@ same-length-3 c = search needs
 
 returns-2 : tie.Need-returns-2
 returns-2 c =
-    let s = c .before .before .before .before .before .before .before .before .before .before .before .before .before .before .before .pre in
-    cover-placed (c .before .before .before .before .before .before .before .resolve-names .ensures) (names-are (s .0 .1)) (names-length (s .0 .1)) (not-false _ (c .before .before .before .before .if1 .left)) (s .1) (c .before .before .put-record .ensures)
+    let pre = c .before .before .before .before .before .before .before .before .before .before .before .before .before .before .before .pre in
+    let resolve-names = c .before .before .before .before .before .before .before .resolve-names in
+    let s = pre in
+    cover-placed (resolve-names .ensures) (names-are (s .0 .1)) (names-length (s .0 .1)) (not-false _ (c .before .before .before .before .if1 .left)) (s .1) (c .before .before .put-record .ensures)
 
 pub place-cover-spec : {M : Type 1} → statement M
 place-cover-spec =

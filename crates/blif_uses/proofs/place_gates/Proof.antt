@@ -28,13 +28,23 @@ place-block-requires c κs =
     ((s .0, blocks-to (c .before .before .before .loop .j) h (s .1)), placing-room (c .before .before .before .loop .inv) h)
 
 same-length : tie.Need-same-length Inv-loop μ-loop
-same-length c = c .before .before .before .before .before .before .place-block .kept .1 .1 .1 .1 .1 .1 .1 .0 ∙ c .before .before .before .before .before .before .before .before .before .before .loop .inv .same-gates
+same-length c =
+    let loop = c .before .before .before .before .before .before .before .before .before .before .loop in
+    let place-block = c .before .before .before .before .before .before .place-block in
+    place-block .kept .1 .1 .1 .1 .1 .1 .1 .0 ∙ loop .inv .same-gates
 
 same-length-2 : tie.Need-same-length-2 Inv-loop μ-loop
-same-length-2 c = c .before .before .before .before .before .before .place-block .kept .1 .1 .1 .1 .1 .1 .1 .1 .0 ∙ c .before .before .before .before .before .before .before .before .before .before .loop .inv .same-pins
+same-length-2 c =
+    let loop = c .before .before .before .before .before .before .before .before .before .before .loop in
+    let place-block = c .before .before .before .before .before .before .place-block in
+    place-block .kept .1 .1 .1 .1 .1 .1 .1 .1 .0 ∙ loop .inv .same-pins
 
 returns : tie.Need-returns Inv-loop μ-loop
-returns c = placing-stops (c .before .before .before .before .before .before .before .before .before .before .loop .inv) (c .before .before .before .before .before .before .before .before .before .loop-test .taken) (c .before .before .before .before .before .before .place-block .ensures) (not-true _ (c .if1 .taken))
+returns c =
+    let loop = c .before .before .before .before .before .before .before .before .before .before .loop in
+    let loop-test = c .before .before .before .before .before .before .before .before .before .loop-test in
+    let place-block = c .before .before .before .before .before .before .place-block in
+    placing-stops (loop .inv) (loop-test .taken) (place-block .ensures) (not-true _ (c .if1 .taken))
 
 add-j : tie.Need-add-j Inv-loop μ-loop
 add-j c = omega arith
@@ -43,7 +53,11 @@ loop-less : tie.Need-loop-less Inv-loop μ-loop
 loop-less c = omega arith
 
 loop-again : tie.Need-loop-again Inv-loop μ-loop
-loop-again c = placing-next (c .before .before .before .before .before .before .before .before .before .before .loop .inv) (c .before .before .before .before .before .before .before .before .before .loop-test .taken) (c .before .before .before .before .before .before .place-block .ensures) (not-false _ (c .if1 .left))
+loop-again c =
+    let loop = c .before .before .before .before .before .before .before .before .before .before .loop in
+    let loop-test = c .before .before .before .before .before .before .before .before .before .loop-test in
+    let place-block = c .before .before .before .before .before .before .place-block in
+    placing-next (loop .inv) (loop-test .taken) (place-block .ensures) (not-false _ (c .if1 .left))
 
 same-length-3 : tie.Need-same-length-3 Inv-loop μ-loop
 same-length-3 c = c .before .loop .inv .same-gates

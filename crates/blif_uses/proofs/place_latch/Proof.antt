@@ -43,7 +43,9 @@ same-length : tie.Need-same-length
 same-length c = search needs
 
 returns : tie.Need-returns
-returns c = not-placed (c .before .before .before .resolve-names .ensures) (one-name (c .before .before .before .before .before .before .before .before .before .before .before .pre .0 .1)) (not-true _ (c .if1 .taken))
+returns c =
+    let pre = c .before .before .before .before .before .before .before .before .before .before .before .pre in
+    not-placed (c .before .before .before .resolve-names .ensures) (one-name (pre .0 .1)) (not-true _ (c .if1 .taken))
 
 add-pins : tie.Need-add-pins
 add-pins c = search needs
@@ -77,8 +79,10 @@ same-length-3 c = search needs
 
 returns-2 : tie.Need-returns-2
 returns-2 c =
-    let s = c .before .before .before .before .before .before .before .before .before .before .before .before .before .before .before .pre in
-    latch-placed (c .before .before .before .before .before .before .before .resolve-names .ensures) (one-name (s .0 .1)) (not-false _ (c .before .before .before .before .if1 .left)) (s .1) (c .before .before .put-record .ensures)
+    let pre = c .before .before .before .before .before .before .before .before .before .before .before .before .before .before .before .pre in
+    let resolve-names = c .before .before .before .before .before .before .before .resolve-names in
+    let s = pre in
+    latch-placed (resolve-names .ensures) (one-name (s .0 .1)) (not-false _ (c .before .before .before .before .if1 .left)) (s .1) (c .before .before .put-record .ensures)
 
 pub place-latch-spec : {M : Type 1} → statement M
 place-latch-spec =

@@ -30,7 +30,7 @@ find-signal-requires : tie.Need-find-signal-requires Inv-loop μ-loop
 find-signal-requires c κs = c .before .before .before .before .before .before .before .before .pre .0
 
 same-length : tie.Need-same-length Inv-loop μ-loop
-same-length c = c .before .before .before .before .before .loop .inv .same
+same-length c = c .before .before .before .before .before .loop .inv .laying .kept
 
 returns : tie.Need-returns Inv-loop μ-loop
 returns c =
@@ -42,8 +42,10 @@ mul-signals c = omega (arith, c .before .before .before .before .before .before 
 
 slice-write-signals : tie.Need-slice-write-signals Inv-loop μ-loop
 slice-write-signals c =
-    let v = c .before .before .before .before .before .loop .inv in
-    omega (arith, v .same, c .before .before .before .before .loop-test .taken, c .before .before .before .before .before .before .before .before .before .before .pre .1 .1)
+    let pre = c .before .before .before .before .before .before .before .before .before .before .pre in
+    let loop = c .before .before .before .before .before .loop in
+    let v = loop .inv in
+    omega (arith, v .laying .kept, c .before .before .before .before .loop-test .taken, pre .1 .1)
 
 add-i : tie.Need-add-i Inv-loop μ-loop
 add-i c = omega arith
@@ -57,7 +59,7 @@ loop-again c =
     (c .before .find-signal .ensures) (c .before .before .token .ensures) (c .if1 .left)
 
 same-length-2 : tie.Need-same-length-2 Inv-loop μ-loop
-same-length-2 c = c .before .loop .inv .same
+same-length-2 c = c .before .loop .inv .laying .kept
 
 returns-2 : tie.Need-returns-2 Inv-loop μ-loop
 returns-2 c = resolving-done (c .before .loop .inv) (c .loop-test .left)

@@ -1,14 +1,22 @@
 -- `append_inputs` writes one name after the other. Assumes nothing.
 use native.Mathlib.Omega.{arith}
 use borrow.Author.Needs.{needs}
-use Prim.Native.Nat.{_-_}
-use Rattle.blif_names.proofs.Laws.{append-past, going-kept, going-full}
-use Rattle.blif_write.proofs.Heads.{Inputs, inputs-start, inputs-next, inputs-done}
+use Prim.Native.Nat.{ℕ, _-_}
+use mathlib.Core.Path.{ap}
+use mathlib.Core.List.{_∷_}
+use Rattle.signal.specs.Signal.{Signal}
+use Rattle.blif_model.specs.Names.{nameBytes}
+use Rattle.blif_model.specs.Render.{spaced}
+use Rattle.blif_model.specs.Write.{inputNames}
+use Rattle.blif_names.proofs.Laws.{append-past, as-text}
+use Rattle.blif_names.proofs.Parts.{going-kept, going-full, Before, before-start, before-next, before-done}
+use Rattle.blif_put.proofs.Texts.{input-signal}
+use Rattle.blif_write.proofs.Heads.{input-parts}
 use Rattle.blif_write.proofs.append_inputs.Statement.{statement}
 use Rattle.blif_write.proofs.append_inputs.Tie as tie
 
 abbrev Inv-loop : tie.InvT-loop
-Inv-loop out₀ at n end₀ i₀ t6 out end i = Inputs n out₀ at out end i
+Inv-loop out₀ at n end₀ i₀ t6 out end i = Before (λ (j k : ℕ). spaced (inputNames nameBytes j k)) n out₀ at out end i
 
 abbrev μ-loop : tie.MeasureT-loop
 μ-loop out₀ at n end₀ i₀ t6 out end i = n - i
@@ -20,7 +28,7 @@ returns : tie.Need-returns Inv-loop μ-loop
 returns c = append-past (c .if1 .taken)
 
 loop-holds : tie.Need-loop-holds Inv-loop μ-loop
-loop-holds c = inputs-start (c .before .before .pre) (c .if1 .left)
+loop-holds c = before-start (c .if1 .left)
 
 same-length : tie.Need-same-length Inv-loop μ-loop
 same-length c = going-kept (c .before .before .loop .inv .going)
@@ -47,13 +55,17 @@ loop-less : tie.Need-loop-less Inv-loop μ-loop
 loop-less c = omega (arith, c .before .before .before .before .before .before .before .loop-test .taken)
 
 loop-again : tie.Need-loop-again Inv-loop μ-loop
-loop-again c = inputs-next (c .before .before .before .before .before .before .before .before .loop .inv) (c .before .before .before .before .before .before .before .loop-test .taken) (c .before .before .before .from-input .ensures) (c .before .before .append-name .ensures)
+loop-again c =
+    let pre = c .before .before .before .before .before .before .before .before .before .before .before .pre in
+    let loop = c .before .before .before .before .before .before .before .before .loop in
+    let loop-test = c .before .before .before .before .before .before .before .loop-test in
+    before-next (input-parts _) (loop .inv) (loop-test .taken) (as-text (ap (λ (x : Signal). 32 ∷ nameBytes x) (input-signal _ _ (omega (arith, loop-test .taken, pre)) (c .before .before .before .from-input .ensures))) (c .before .before .append-name .ensures))
 
 same-length-2 : tie.Need-same-length-2 Inv-loop μ-loop
 same-length-2 c = going-kept (c .before .loop .inv .going)
 
 returns-3 : tie.Need-returns-3 Inv-loop μ-loop
-returns-3 c = inputs-done (c .before .loop .inv) (c .loop-test .left)
+returns-3 c = before-done (input-parts _) (c .before .loop .inv) (c .loop-test .left)
 
 pub append-inputs-spec : {M : Type 1} → statement M
 append-inputs-spec =

@@ -33,7 +33,12 @@ same-length : tie.Need-same-length
 same-length c = search needs
 
 returns : tie.Need-returns
-returns c = as-text (inverters-written (cellNet (c .before .before .before .before .before .before .before .before .before .before .before .before .before .before .before .before .before .before .before .args .inputs) (c .before .before .before .before .before .before .before .before .before .before .before .before .before .before .before .before .before .before .before .args .gates .now) (c .before .before .before .before .before .before .before .before .before .before .before .before .before .before .before .before .before .before .before .args .pins .now) (c .before .before .before .before .before .before .before .before .before .before .before .before .before .before .before .before .before .before .before .args .n) (c .before .before .before .before .before .before .before .before .before .before .before .before .before .before .before .before .before .before .before .args .outputs .now)) (sym (cell-count (c .before .before .before .before .before .before .before .before .before .before .before .before .before .before .before .before .before .before .before .args .gates .now) (c .before .before .before .before .before .before .before .before .before .before .before .before .before .before .before .before .before .before .before .args .pins .now) (c .before .before .before .before .before .before .before .before .before .before .before .before .before .before .before .before .before .before .before .args .n))) (c .before .before .before .before .before .before .before .before .before .before .before .before .before .before .before .before .before .before .before .pre .0 .few) (c .before .before .before .before .before .before .before .before .before .before .before .before .before .before .before .before .before .before .before .pre .1) (c .before .before .before .before .before .before .before .before .before .before .before .before .get-inverted-signals .ensures .gated) (c .before .before .before .before .before .before .before .before .before .before .before .before .get-inverted-signals .ensures .input)) (and-append (c .before .before .before .before .before .before .before .append-gate-inverters .ensures) (c .before .before .append-input-inverters .ensures))
+returns c =
+    let args = c .before .before .before .before .before .before .before .before .before .before .before .before .before .before .before .before .before .before .before .args in
+    let pre = c .before .before .before .before .before .before .before .before .before .before .before .before .before .before .before .before .before .before .before .pre in
+    let get-inverted-signals = c .before .before .before .before .before .before .before .before .before .before .before .before .get-inverted-signals in
+    let append-gate-inverters = c .before .before .before .before .before .before .before .append-gate-inverters in
+    as-text (inverters-written (cellNet (args .inputs) (args .gates .now) (args .pins .now) (args .n) (args .outputs .now)) (sym (cell-count (args .gates .now) (args .pins .now) (args .n))) (pre .0 .few) (pre .1) (get-inverted-signals .ensures .gated) (get-inverted-signals .ensures .input)) (and-append (append-gate-inverters .ensures) (c .before .before .append-input-inverters .ensures))
 
 pub append-inverters-spec : {M : Type 1} → statement M
 append-inverters-spec =

@@ -1,61 +1,71 @@
 -- `append_latches` passes one gate after the other. Assumes nothing.
 use native.Mathlib.Omega.{arith}
-use Prim.Native.Nat.{_-_}
-use Rattle.blif_write.specs.Parts.{latchText, latchesText}
-use Rattle.blif_write.proofs.Walks.{Walking, walking-high, walking-done, walks}
+use Prim.Native.Nat.{ℕ, _-_}
+use borrow.Author.Needs.{needs}
+use Rattle.network.specs.Cells.{cellGates}
+use Rattle.blif_names.proofs.Laws.{append-past}
+use Rattle.blif_names.proofs.Parts.{going-kept, going-high, going-full, Before, before-start, before-part, before-done}
+use Rattle.blif_write.specs.Parts.{latchesText}
+use Rattle.blif_write.proofs.Walks.{latch-parts}
 use Rattle.blif_write.proofs.append_latches.Statement.{statement}
 use Rattle.blif_write.proofs.append_latches.Tie as tie
 
 abbrev Inv-loop : tie.InvT-loop
-Inv-loop out₀ at gates pins n end₀ g₀ out end g = Walking latchesText latchText gates pins n out₀ at out end g
+Inv-loop out₀ at gates pins n end₀ g₀ out end g = Before (λ (h k : ℕ). latchesText h (cellGates gates pins h k)) n out₀ at out end g
 
 abbrev μ-loop : tie.MeasureT-loop
 μ-loop out₀ at gates pins n end₀ g₀ out end g = n - g
 
 add-result : tie.Need-add-result Inv-loop μ-loop
-add-result c = search walks
+add-result c = search needs
 
 returns : tie.Need-returns Inv-loop μ-loop
-returns c = search walks
+returns c = append-past (c .if1 .taken)
 
 loop-holds : tie.Need-loop-holds Inv-loop μ-loop
-loop-holds c = search walks
+loop-holds c = before-start (c .if1 .left)
 
 same-length : tie.Need-same-length Inv-loop μ-loop
-same-length c = search walks
+same-length c = going-kept (c .before .before .loop .inv .going)
 
 returns-2 : tie.Need-returns-2 Inv-loop μ-loop
-returns-2 c = search walks
+returns-2 c = going-full (c .before .before .loop .inv .going) (c .if2 .taken)
 
 sub-latch-at : tie.Need-sub-latch-at Inv-loop μ-loop
-sub-latch-at c = search walks
+sub-latch-at c = search needs
 
 part-latch-at-start : tie.Need-part-latch-at-start Inv-loop μ-loop
-part-latch-at-start c = search walks
+part-latch-at-start c = search needs
 
 part-latch-at-end : tie.Need-part-latch-at-end Inv-loop μ-loop
-part-latch-at-end c = search walks
+part-latch-at-end c = search needs
 
 latch-at-requires : tie.Need-latch-at-requires Inv-loop μ-loop
-latch-at-requires c κs = search walks
+latch-at-requires c κs = c .before .before .before .before .before .before .before .before .pre .read _ (c .before .before .loop-test .taken)
 
 add-end : tie.Need-add-end Inv-loop μ-loop
-add-end c = let z = walking-high (c .before .before .before .before .before .before .loop .inv) (c .before .before .before .before .if2 .left) (c .before .before .latch-at .ensures) in omega (arith, z, c .before .before .before .before .before .before .before .before .before .before .before .good .0 .1)
+add-end c =
+    let good = c .before .before .before .before .before .before .before .before .before .before .before .good in
+    let loop = c .before .before .before .before .before .before .loop in
+    let z = going-high (loop .inv .going) (c .before .before .before .before .if2 .left) (c .before .before .latch-at .ensures) in omega (arith, z, good .0 .1)
 
 add-g : tie.Need-add-g Inv-loop μ-loop
-add-g c = search walks
+add-g c = search needs
 
 loop-less : tie.Need-loop-less Inv-loop μ-loop
-loop-less c = search walks
+loop-less c = search needs
 
 loop-again : tie.Need-loop-again Inv-loop μ-loop
-loop-again c = search walks
+loop-again c =
+    let loop = c .before .before .before .before .before .before .loop in
+    let loop-test = c .before .before .before .before .before .loop-test in
+    before-part (latch-parts _ _ _) (loop .inv) (loop-test .taken) (c .before .before .before .before .if2 .left) (c .before .before .latch-at .ensures)
 
 same-length-2 : tie.Need-same-length-2 Inv-loop μ-loop
-same-length-2 c = search walks
+same-length-2 c = going-kept (c .before .loop .inv .going)
 
 returns-3 : tie.Need-returns-3 Inv-loop μ-loop
-returns-3 c = walking-done (c .before .loop .inv) (c .loop-test .left)
+returns-3 c = before-done (latch-parts _ _ _) (c .before .loop .inv) (c .loop-test .left)
 
 pub append-latches-spec : {M : Type 1} → statement M
 append-latches-spec =

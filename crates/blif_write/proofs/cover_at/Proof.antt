@@ -25,16 +25,25 @@ enum-told : tie.Need-enum-told
 enum-told c = search needs
 
 returns-2 : tie.Need-returns-2
-returns-2 c = absurd (read-bad (c .before .before .before .before .before .before .before .before .pre .0) (c .before .before .gate-at .ensures) (c .enum-told .given .1))
+returns-2 c =
+    let pre = c .before .before .before .before .before .before .before .before .pre in
+    absurd (read-bad (pre .0) (c .before .before .gate-at .ensures) (c .enum-told .given .1))
 
 write-cover-requires : tie.Need-write-cover-requires
-write-cover-requires c κs = (c .before .before .before .before .before .before .before .before .before .before .pre .0 .low, ap wide (read-good (c .before .before .before .before .before .before .before .before .before .before .args .gates .now) (c .before .before .before .before .before .before .before .before .before .before .args .pins .now) (c .before .before .before .before .before .before .before .before .before .before .args .g) (c .before .before .before .before .gate-at .ensures) (c .before .before .gate .given .1)) ∙ c .before .before .before .before .before .before .before .before .before .before .pre .1)
+write-cover-requires c κs =
+    let pre = c .before .before .before .before .before .before .before .before .before .before .pre in
+    let args = c .before .before .before .before .before .before .before .before .before .before .args in
+    (pre .0 .low, ap wide (read-good (args .gates .now) (args .pins .now) (args .g) (c .before .before .before .before .gate-at .ensures) (c .before .before .gate .given .1)) ∙ pre .1)
 
 same-length : tie.Need-same-length
 same-length c = search needs
 
 returns-3 : tie.Need-returns-3
-returns-3 c = as-wrote (ap (coverText (c .before .before .before .before .before .before .before .before .before .before .before .before .before .args .g)) (read-good (c .before .before .before .before .before .before .before .before .before .before .before .before .before .args .gates .now) (c .before .before .before .before .before .before .before .before .before .before .before .before .before .args .pins .now) (c .before .before .before .before .before .before .before .before .before .before .before .before .before .args .g) (c .before .before .before .before .before .before .before .gate-at .ensures) (c .before .before .before .before .before .gate .given .1))) (c .before .before .write-cover .ensures)
+returns-3 c =
+    let args = c .before .before .before .before .before .before .before .before .before .before .before .before .before .args in
+    let gate-at = c .before .before .before .before .before .before .before .gate-at in
+    let the-gate = c .before .before .before .before .before .gate in
+    as-wrote (ap (coverText (args .g)) (read-good (args .gates .now) (args .pins .now) (args .g) (gate-at .ensures) (the-gate .given .1))) (c .before .before .write-cover .ensures)
 
 pub cover-at-spec : {M : Type 1} → statement M
 cover-at-spec =

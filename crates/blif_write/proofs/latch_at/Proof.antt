@@ -24,7 +24,9 @@ enum-told : tie.Need-enum-told
 enum-told c = search needs
 
 returns-2 : tie.Need-returns-2
-returns-2 c = absurd (read-bad (c .before .before .before .before .before .before .before .before .pre) (c .before .before .gate-at .ensures) (c .enum-told .given .1))
+returns-2 c =
+    let pre = c .before .before .before .before .before .before .before .before .pre in
+    absurd (read-bad (pre) (c .before .before .gate-at .ensures) (c .enum-told .given .1))
 
 write-latch-requires : tie.Need-write-latch-requires
 write-latch-requires c κs = c .before .before .before .before .before .before .before .before .before .before .pre .low
@@ -33,7 +35,11 @@ same-length : tie.Need-same-length
 same-length c = search needs
 
 returns-3 : tie.Need-returns-3
-returns-3 c = as-wrote (latch-any (c .before .before .before .before .before .before .before .before .before .before .before .before .before .args .g) (c .before .before .before .before .before .gate .given .0 .0) (c .before .before .before .before .before .before .before .before .before .before .before .before .before .args .pins .now) ∙ ap (latchText (c .before .before .before .before .before .before .before .before .before .before .before .before .before .args .g)) (read-good (c .before .before .before .before .before .before .before .before .before .before .before .before .before .args .gates .now) (c .before .before .before .before .before .before .before .before .before .before .before .before .before .args .pins .now) (c .before .before .before .before .before .before .before .before .before .before .before .before .before .args .g) (c .before .before .before .before .before .before .before .gate-at .ensures) (c .before .before .before .before .before .gate .given .1))) (c .before .before .write-latch .ensures)
+returns-3 c =
+    let args = c .before .before .before .before .before .before .before .before .before .before .before .before .before .args in
+    let gate-at = c .before .before .before .before .before .before .before .gate-at in
+    let the-gate = c .before .before .before .before .before .gate in
+    as-wrote (latch-any (args .g) (the-gate .given .0 .0) (args .pins .now) ∙ ap (latchText (args .g)) (read-good (args .gates .now) (args .pins .now) (args .g) (gate-at .ensures) (the-gate .given .1))) (c .before .before .write-latch .ensures)
 
 pub latch-at-spec : {M : Type 1} → statement M
 latch-at-spec =

@@ -31,7 +31,9 @@ part-mark-signals-start : tie.Need-part-mark-signals-start
 part-mark-signals-start c = search needs
 
 part-mark-signals-end : tie.Need-part-mark-signals-end
-part-mark-signals-end c = omega (arith, held-run (c .before .before .before .before .before .before .before .before .before .before .pre) .within, c .before .before .before .first-at .ensures .cell, c .before .before .count-at .ensures .cell)
+part-mark-signals-end c =
+    let pre = c .before .before .before .before .before .before .before .before .before .before .pre in
+    omega (arith, held-run (pre) .within, c .before .before .before .first-at .ensures .cell, c .before .before .count-at .ensures .cell)
 
 mark-signals-requires : tie.Need-mark-signals-requires
 mark-signals-requires c κs = search needs
@@ -43,7 +45,13 @@ same-length-2 : tie.Need-same-length-2
 same-length-2 c = search needs
 
 returns-2 : tie.Need-returns-2
-returns-2 c = run-marked (c .before .before .before .before .before .before .before .before .before .before .before .before .before .before .before .before .pre) (c .before .before .before .before .before .before .before .before .before .before .before .form-at .ensures) (c .before .before .before .before .before .before .before .before .before .before .if1 .left) (c .before .before .before .before .before .before .before .before .before .first-at .ensures) (c .before .before .before .before .before .before .before .before .count-at .ensures) (c .before .before .before .before .mark-signals .ensures)
+returns-2 c =
+    let pre = c .before .before .before .before .before .before .before .before .before .before .before .before .before .before .before .before .pre in
+    let form-at = c .before .before .before .before .before .before .before .before .before .before .before .form-at in
+    let if1 = c .before .before .before .before .before .before .before .before .before .before .if1 in
+    let first-at = c .before .before .before .before .before .before .before .before .before .first-at in
+    let count-at = c .before .before .before .before .before .before .before .before .count-at in
+    run-marked (pre) (form-at .ensures) (if1 .left) (first-at .ensures) (count-at .ensures) (c .before .before .before .before .mark-signals .ensures)
 
 pub mark-gate-spec : {M : Type 1} → statement M
 mark-gate-spec =

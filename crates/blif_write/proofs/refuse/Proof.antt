@@ -14,7 +14,9 @@ same-length : tie.Need-same-length
 same-length c = search needs
 
 returns : tie.Need-returns
-returns c = ap (λ (o : Bytes). writeOutcome (Refused (c .before .before .before .before .before .args .number)) o) (c .before .before .fill-zero-bytes .ensures)
+returns c =
+    let args = c .before .before .before .before .before .args in
+    ap (λ (o : Bytes). writeOutcome (Refused (args .number)) o) (c .before .before .fill-zero-bytes .ensures)
 
 pub refuse-spec : {M : Type 1} → statement M
 refuse-spec = tie.close (tie.spec fill-zero-bytes-requires same-length returns)

@@ -39,7 +39,11 @@ part-write-nary-end : tie.Need-part-write-nary-end
 part-write-nary-end c = search needs
 
 write-nary-requires : tie.Need-write-nary-requires
-write-nary-requires c κs = (c .before .before .before .before .before .before .before .before .before .pre .0, narrow-run (c .before .before .before .before .before .before .before .before .before .args .pins .now) _ (c .before .before .before .before .before .gate3 .given .1) (run-slice _ (c .before .before .before .before .before .before .before .before .before .args .pins .now) (c .before .before .before .run-start .ensures) (c .before .before .run-end .ensures)) (c .before .before .before .before .before .before .before .before .before .pre .1))
+write-nary-requires c κs =
+    let pre = c .before .before .before .before .before .before .before .before .before .pre in
+    let args = c .before .before .before .before .before .before .before .before .before .args in
+    let gate3 = c .before .before .before .before .before .gate3 in
+    (pre .0, narrow-run (args .pins .now) _ (gate3 .given .1) (run-slice _ (args .pins .now) (c .before .before .before .run-start .ensures) (c .before .before .run-end .ensures)) (pre .1))
 
 enum-known-gate-4 : tie.Need-enum-known-gate-4
 enum-known-gate-4 c = search needs
@@ -54,25 +58,39 @@ same-length : tie.Need-same-length
 same-length c = search needs
 
 returns : tie.Need-returns
-returns c = as-wrote (cover-binary (c .before .before .before .before .before .before .before .before .before .args .g) (c .before .before .before .before .before .before .before .before .before .args .pins .now) (c .before .before .before .before .before .gate .given .1)) (c .before .before .write-binary .ensures)
+returns c =
+    let args = c .before .before .before .before .before .before .before .before .before .args in
+    let gate = c .before .before .before .before .before .gate in
+    as-wrote (cover-binary (args .g) (args .pins .now) (gate .given .1)) (c .before .before .write-binary .ensures)
 
 same-length-2 : tie.Need-same-length-2
 same-length-2 c = search needs
 
 returns-2 : tie.Need-returns-2
-returns-2 c = as-wrote (cover-ternary (c .before .before .before .before .before .before .before .before .before .args .g) (c .before .before .before .before .before .before .before .before .before .args .pins .now) (c .before .before .before .before .before .gate2 .given .1)) (c .before .before .write-ternary .ensures)
+returns-2 c =
+    let args = c .before .before .before .before .before .before .before .before .before .args in
+    let gate2 = c .before .before .before .before .before .gate2 in
+    as-wrote (cover-ternary (args .g) (args .pins .now) (gate2 .given .1)) (c .before .before .write-ternary .ensures)
 
 same-length-3 : tie.Need-same-length-3
 same-length-3 c = search needs
 
 returns-3 : tie.Need-returns-3
-returns-3 c = as-wrote (cover-nary (c .before .before .before .before .before .before .before .before .before .before .before .before .args .g) (c .before .before .before .before .before .before .before .before .before .before .before .before .args .pins .now) _ (c .before .before .before .before .before .before .before .before .gate3 .given .1) (run-slice _ (c .before .before .before .before .before .before .before .before .before .before .before .before .args .pins .now) (c .before .before .before .before .before .before .run-start .ensures) (c .before .before .before .before .before .run-end .ensures))) (c .before .before .write-nary .ensures)
+returns-3 c =
+    let args = c .before .before .before .before .before .before .before .before .before .before .before .before .args in
+    let gate3 = c .before .before .before .before .before .before .before .before .gate3 in
+    let run-start = c .before .before .before .before .before .before .run-start in
+    let run-end = c .before .before .before .before .before .run-end in
+    as-wrote (cover-nary (args .g) (args .pins .now) _ (gate3 .given .1) (run-slice _ (args .pins .now) (run-start .ensures) (run-end .ensures))) (c .before .before .write-nary .ensures)
 
 same-length-4 : tie.Need-same-length-4
 same-length-4 c = search needs
 
 returns-4 : tie.Need-returns-4
-returns-4 c = as-wrote (cover-buf (c .before .before .before .before .before .before .before .before .before .args .g) (c .before .before .before .before .before .before .before .before .before .args .pins .now) (c .before .before .before .before .before .gate4 .given .1)) (c .before .before .write-buf .ensures)
+returns-4 c =
+    let args = c .before .before .before .before .before .before .before .before .before .args in
+    let gate4 = c .before .before .before .before .before .gate4 in
+    as-wrote (cover-buf (args .g) (args .pins .now) (gate4 .given .1)) (c .before .before .write-buf .ensures)
 
 returns-5 : tie.Need-returns-5
 returns-5 c = as-wrote (cover-dff (c .before .before .before .before .args .g) (c .before .before .before .before .args .pins .now) (c .enum-told .given .1)) wrote-nothing

@@ -50,10 +50,27 @@ append-requires-6 : tie.Need-append-requires-6
 append-requires-6 c κs = search needs
 
 same-length : tie.Need-same-length
-same-length c = append-kept (and-append (and-append (and-append (and-append (and-append (and-append (and-append (c .before .before .before .before .before .before .before .before .before .before .before .before .before .before .before .before .before .before .before .before .before .before .before .before .before .before .before .before .before .before .before .before .before .before .before .append .ensures) (c .before .before .before .before .before .before .before .before .before .before .before .before .before .before .before .before .before .before .before .before .before .before .before .before .before .before .before .before .before .before .append2 .ensures)) (c .before .before .before .before .before .before .before .before .before .before .before .before .before .before .before .before .before .before .before .before .before .before .before .before .before .append3 .ensures)) (c .before .before .before .before .before .before .before .before .before .before .before .before .before .before .before .before .before .before .before .before .append4 .ensures)) (c .before .before .before .before .before .before .before .before .before .before .before .before .before .before .before .before .append-inputs .ensures)) (c .before .before .before .before .before .before .before .before .before .before .before .append5 .ensures)) (c .before .before .before .before .before .before .before .append-signals .ensures)) (c .before .before .append6 .ensures))
+same-length c =
+    let append = c .before .before .before .before .before .before .before .before .before .before .before .before .before .before .before .before .before .before .before .before .before .before .before .before .before .before .before .before .before .before .before .before .before .before .before .append in
+    let append2 = c .before .before .before .before .before .before .before .before .before .before .before .before .before .before .before .before .before .before .before .before .before .before .before .before .before .before .before .before .before .before .append2 in
+    let append3 = c .before .before .before .before .before .before .before .before .before .before .before .before .before .before .before .before .before .before .before .before .before .before .before .before .before .append3 in
+    let append4 = c .before .before .before .before .before .before .before .before .before .before .before .before .before .before .before .before .before .before .before .before .append4 in
+    let append-inputs = c .before .before .before .before .before .before .before .before .before .before .before .before .before .before .before .before .append-inputs in
+    let append5 = c .before .before .before .before .before .before .before .before .before .before .before .append5 in
+    let append-signals = c .before .before .before .before .before .before .before .append-signals in
+    append-kept (and-append (and-append (and-append (and-append (and-append (and-append (and-append (append .ensures) (append2 .ensures)) (append3 .ensures)) (append4 .ensures)) (append-inputs .ensures)) (append5 .ensures)) (append-signals .ensures)) (c .before .before .append6 .ensures))
 
 returns : tie.Need-returns
-returns c = from-start (as-text (head-text (c .before .before .before .before .before .before .before .before .before .before .before .before .before .before .before .before .before .before .before .before .before .before .before .before .before .before .before .before .before .before .before .before .before .before .before .before .before .before .before .before .args .inputs) (map sigOf (c .before .before .before .before .before .before .before .before .before .before .before .before .before .before .before .before .before .before .before .before .before .before .before .before .before .before .before .before .before .before .before .before .before .before .before .before .before .before .before .before .args .outputs .now))) (and-append (and-append (and-append (and-append (and-append (and-append (and-append (c .before .before .before .before .before .before .before .before .before .before .before .before .before .before .before .before .before .before .before .before .before .before .before .before .before .before .before .before .before .before .before .before .before .before .before .append .ensures) (c .before .before .before .before .before .before .before .before .before .before .before .before .before .before .before .before .before .before .before .before .before .before .before .before .before .before .before .before .before .before .append2 .ensures)) (c .before .before .before .before .before .before .before .before .before .before .before .before .before .before .before .before .before .before .before .before .before .before .before .before .before .append3 .ensures)) (c .before .before .before .before .before .before .before .before .before .before .before .before .before .before .before .before .before .before .before .before .append4 .ensures)) (c .before .before .before .before .before .before .before .before .before .before .before .before .before .before .before .before .append-inputs .ensures)) (c .before .before .before .before .before .before .before .before .before .before .before .append5 .ensures)) (c .before .before .before .before .before .before .before .append-signals .ensures)) (c .before .before .append6 .ensures)))
+returns c =
+    let args = c .before .before .before .before .before .before .before .before .before .before .before .before .before .before .before .before .before .before .before .before .before .before .before .before .before .before .before .before .before .before .before .before .before .before .before .before .before .before .before .before .args in
+    let append = c .before .before .before .before .before .before .before .before .before .before .before .before .before .before .before .before .before .before .before .before .before .before .before .before .before .before .before .before .before .before .before .before .before .before .before .append in
+    let append2 = c .before .before .before .before .before .before .before .before .before .before .before .before .before .before .before .before .before .before .before .before .before .before .before .before .before .before .before .before .before .before .append2 in
+    let append3 = c .before .before .before .before .before .before .before .before .before .before .before .before .before .before .before .before .before .before .before .before .before .before .before .before .before .append3 in
+    let append4 = c .before .before .before .before .before .before .before .before .before .before .before .before .before .before .before .before .before .before .before .before .append4 in
+    let append-inputs = c .before .before .before .before .before .before .before .before .before .before .before .before .before .before .before .before .append-inputs in
+    let append5 = c .before .before .before .before .before .before .before .before .before .before .before .append5 in
+    let append-signals = c .before .before .before .before .before .before .before .append-signals in
+    from-start (as-text (head-text (args .inputs) (map sigOf (args .outputs .now))) (and-append (and-append (and-append (and-append (and-append (and-append (and-append (append .ensures) (append2 .ensures)) (append3 .ensures)) (append4 .ensures)) (append-inputs .ensures)) (append5 .ensures)) (append-signals .ensures)) (c .before .before .append6 .ensures)))
 
 pub write-head-spec : {M : Type 1} → statement M
 write-head-spec =

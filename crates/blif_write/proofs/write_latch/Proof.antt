@@ -46,7 +46,10 @@ same-length : tie.Need-same-length
 same-length c = search needs
 
 returns-5 : tie.Need-returns-5
-returns-5 c = as-wrote (latch-of (c .before .before .before .before .before .before .before .before .args .g) (c .before .before .before .before .before .gate .given .1)) (c .before .before .write-stored .ensures)
+returns-5 c =
+    let args = c .before .before .before .before .before .before .before .before .args in
+    let gate = c .before .before .before .before .before .gate in
+    as-wrote (latch-of (args .g) (gate .given .1)) (c .before .before .write-stored .ensures)
 
 pub write-latch-spec : {M : Type 1} → statement M
 write-latch-spec =

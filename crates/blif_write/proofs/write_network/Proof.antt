@@ -16,14 +16,21 @@ slice-relend-prefix-write-text : tie.Need-slice-relend-prefix-write-text
 slice-relend-prefix-write-text c = search needs
 
 slice-aggregate-write-text : tie.Need-slice-aggregate-write-text
-slice-aggregate-write-text c = sym (length-take-le _ (c .before .before .before .before .before .before .args .out .now) (omega (arith, c .before .room-in .ensures)))
+slice-aggregate-write-text c =
+    let args = c .before .before .before .before .before .before .args in
+    sym (length-take-le _ (args .out .now) (omega (arith, c .before .room-in .ensures)))
 
 slice-aggregate-write-text-2 : tie.Need-slice-aggregate-write-text-2
-slice-aggregate-write-text-2 c = sym (length-take-le _ (c .before .before .before .before .before .before .before .args .outputs .now) (network-sizes _ (c .before .before .before .before .before .before .before .pre .network) .outs-lent))
+slice-aggregate-write-text-2 c =
+    let args = c .before .before .before .before .before .before .before .args in
+    let pre = c .before .before .before .before .before .before .before .pre in
+    sym (length-take-le _ (args .outputs .now) (network-sizes _ (pre .network) .outs-lent))
 
 write-text-requires : tie.Need-write-text-requires
 unfolding netOf
-write-text-requires c κs = (c .before .before .before .before .before .before .before .pre .readable, network-sizes _ (c .before .before .before .before .before .before .before .pre .network) .few .inputs, c .before .before .before .before .before .before .before .pre .narrow)
+write-text-requires c κs =
+    let pre = c .before .before .before .before .before .before .before .pre in
+    (pre .readable, network-sizes _ (pre .network) .few .inputs, pre .narrow)
 
 refuse-requires : tie.Need-refuse-requires
 refuse-requires c κs = search needs
@@ -33,7 +40,12 @@ same-length c = search needs
 
 returns : tie.Need-returns
 unfolding netOf
-returns c = c .before .before .refuse .ensures ∙ ends-long _ (c .before .before .before .before .before .before .before .before .before .before .before .before .before .before .before .args .out .now) (c .before .before .before .before .before .before .before .before .before .before .before .before .before .before .before .pre) (c .before .before .before .before .before .before .before .before .before .before .room-in .ensures) (c .before .before .before .before .before .before .before .write-text .ensures) (c .before .before .before .before .if1 .taken)
+returns c =
+    let args = c .before .before .before .before .before .before .before .before .before .before .before .before .before .before .before .args in
+    let pre = c .before .before .before .before .before .before .before .before .before .before .before .before .before .before .before .pre in
+    let room-in = c .before .before .before .before .before .before .before .before .before .before .room-in in
+    let write-text = c .before .before .before .before .before .before .before .write-text in
+    c .before .before .refuse .ensures ∙ ends-long _ (args .out .now) (pre) (room-in .ensures) (write-text .ensures) (c .before .before .before .before .if1 .taken)
 
 sub-fill-zero-bytes : tie.Need-sub-fill-zero-bytes
 sub-fill-zero-bytes c = search needs
@@ -52,7 +64,12 @@ same-length-2 c = search needs
 
 returns-2 : tie.Need-returns-2
 unfolding netOf
-returns-2 c = ends-written _ (c .before .before .before .before .before .before .before .before .before .before .before .before .before .before .before .args .out .now) (c .before .before .before .before .before .before .before .before .before .before .before .before .before .before .before .pre) (c .before .before .before .before .before .before .before .before .before .before .room-in .ensures) (c .before .before .before .before .before .before .before .write-text .ensures) (c .before .before .before .before .if1 .left) (c .before .before .fill-zero-bytes .ensures)
+returns-2 c =
+    let args = c .before .before .before .before .before .before .before .before .before .before .before .before .before .before .before .args in
+    let pre = c .before .before .before .before .before .before .before .before .before .before .before .before .before .before .before .pre in
+    let room-in = c .before .before .before .before .before .before .before .before .before .before .room-in in
+    let write-text = c .before .before .before .before .before .before .before .write-text in
+    ends-written _ (args .out .now) (pre) (room-in .ensures) (write-text .ensures) (c .before .before .before .before .if1 .left) (c .before .before .fill-zero-bytes .ensures)
 
 pub write-network-spec : {M : Type 1} → statement M
 write-network-spec =

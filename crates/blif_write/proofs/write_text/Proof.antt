@@ -34,7 +34,14 @@ same-length : tie.Need-same-length
 same-length c = search needs
 
 returns : tie.Need-returns
-returns c = from-start (as-text (whole-text (cellNet (c .before .before .before .before .before .before .before .before .before .before .before .before .before .before .before .before .before .before .before .before .before .before .before .before .before .before .before .before .before .before .args .inputs) (c .before .before .before .before .before .before .before .before .before .before .before .before .before .before .before .before .before .before .before .before .before .before .before .before .before .before .before .before .before .before .args .gates .now) (c .before .before .before .before .before .before .before .before .before .before .before .before .before .before .before .before .before .before .before .before .before .before .before .before .before .before .before .before .before .before .args .pins .now) (c .before .before .before .before .before .before .before .before .before .before .before .before .before .before .before .before .before .before .before .before .before .before .before .before .before .before .before .before .before .before .args .n) (c .before .before .before .before .before .before .before .before .before .before .before .before .before .before .before .before .before .before .before .before .before .before .before .before .before .before .before .before .before .before .args .outputs .now))) (and-append (and-append (and-append (and-append (and-append (to-start (c .before .before .before .before .before .before .before .before .before .before .before .before .before .before .before .before .before .before .before .before .before .before .before .before .write-head .ensures)) (c .before .before .before .before .before .before .before .before .before .before .before .before .before .before .before .before .before .before .before .before .append-latches .ensures)) (c .before .before .before .before .before .before .before .before .before .before .before .before .before .before .before .append .ensures)) (c .before .before .before .before .before .before .before .before .before .before .before .append-covers .ensures)) (c .before .before .before .before .before .before .before .append-inverters .ensures)) (c .before .before .append2 .ensures)))
+returns c =
+    let args = c .before .before .before .before .before .before .before .before .before .before .before .before .before .before .before .before .before .before .before .before .before .before .before .before .before .before .before .before .before .before .args in
+    let write-head = c .before .before .before .before .before .before .before .before .before .before .before .before .before .before .before .before .before .before .before .before .before .before .before .before .write-head in
+    let append-latches = c .before .before .before .before .before .before .before .before .before .before .before .before .before .before .before .before .before .before .before .before .append-latches in
+    let append = c .before .before .before .before .before .before .before .before .before .before .before .before .before .before .before .append in
+    let append-covers = c .before .before .before .before .before .before .before .before .before .before .before .append-covers in
+    let append-inverters = c .before .before .before .before .before .before .before .append-inverters in
+    from-start (as-text (whole-text (cellNet (args .inputs) (args .gates .now) (args .pins .now) (args .n) (args .outputs .now))) (and-append (and-append (and-append (and-append (and-append (to-start (write-head .ensures)) (append-latches .ensures)) (append .ensures)) (append-covers .ensures)) (append-inverters .ensures)) (c .before .before .append2 .ensures)))
 
 pub write-text-spec : {M : Type 1} → statement M
 write-text-spec =

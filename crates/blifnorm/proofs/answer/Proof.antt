@@ -35,7 +35,9 @@ same-length-6 : tie.Need-same-length-6
 same-length-6 c = search needs
 
 returns : tie.Need-returns
-returns c = prints-text _ _ _ (c .before .before .before .before .before .before .before .before .before .before .before .before .before .before .before .normalise .ensures) (c .before .n .given .1)
+returns c =
+    let normalise = c .before .before .before .before .before .before .before .before .before .before .before .before .before .before .before .normalise in
+    prints-text _ _ _ (normalise .ensures) (c .before .n .given .1)
 
 same-length-7 : tie.Need-same-length-7
 same-length-7 c = search needs
@@ -56,7 +58,10 @@ same-length-12 : tie.Need-same-length-12
 same-length-12 c = search needs
 
 returns-2 : tie.Need-returns-2
-returns-2 c = prints-line _ _ _ (c .before .before .before .before .before .before .before .before .before .before .before .before .before .before .before .before .before .before .before .normalise .ensures) (c .before .before .before .before .before .number .given .1) (c .before .before .put-refusal .ensures)
+returns-2 c =
+    let normalise = c .before .before .before .before .before .before .before .before .before .before .before .before .before .before .before .before .before .before .before .normalise in
+    let number = c .before .before .before .before .before .number in
+    prints-line _ _ _ (normalise .ensures) (number .given .1) (c .before .before .put-refusal .ensures)
 
 pub answer-spec : {M : Type 1} → statement M
 answer-spec =

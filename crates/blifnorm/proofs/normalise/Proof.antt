@@ -38,7 +38,10 @@ same-length-6 : tie.Need-same-length-6
 same-length-6 c = search needs
 
 returns : tie.Need-returns
-returns c = norm-read _ _ _ (c .before .before .before .before .before .before .before .before .before .before .before .before .before .before .before .before .before .before .before .before .read-blif .ensures) (c .before .before .before .before .before .before .before .before .counts .given .1) (c .before .before .write-blif .ensures)
+returns c =
+    let read-blif = c .before .before .before .before .before .before .before .before .before .before .before .before .before .before .before .before .before .before .before .before .read-blif in
+    let counts = c .before .before .before .before .before .before .before .before .counts in
+    norm-read _ _ _ (read-blif .ensures) (counts .given .1) (c .before .before .write-blif .ensures)
 
 same-length-7 : tie.Need-same-length-7
 same-length-7 c = search needs
@@ -59,7 +62,10 @@ same-length-12 : tie.Need-same-length-12
 same-length-12 c = search needs
 
 returns-2 : tie.Need-returns-2
-returns-2 c = norm-refused _ _ _ (c .before .before .before .before .before .before .before .before .before .before .before .before .before .before .before .before .before .read-blif .ensures) (c .before .before .before .before .before .number .given .1) (c .before .before .fill-zero-bytes .ensures)
+returns-2 c =
+    let read-blif = c .before .before .before .before .before .before .before .before .before .before .before .before .before .before .before .before .before .read-blif in
+    let number = c .before .before .before .before .before .number in
+    norm-refused _ _ _ (read-blif .ensures) (number .given .1) (c .before .before .fill-zero-bytes .ensures)
 
 pub normalise-spec : {M : Type 1} → statement M
 normalise-spec =

@@ -24,7 +24,11 @@ same-length : tie.Need-same-length
 same-length c = search needs
 
 returns : tie.Need-returns
-returns c = from-start (as-text (line-is (c .before .before .before .before .before .before .before .before .before .before .before .before .before .before .before .args .number)) (and-append (and-append (c .before .before .before .before .before .before .before .before .before .before .before .append .ensures) (c .before .before .before .before .before .before .before .append-number .ensures)) (c .before .before .append2 .ensures)))
+returns c =
+    let args = c .before .before .before .before .before .before .before .before .before .before .before .before .before .before .before .args in
+    let append = c .before .before .before .before .before .before .before .before .before .before .before .append in
+    let append-number = c .before .before .before .before .before .before .before .append-number in
+    from-start (as-text (line-is (args .number)) (and-append (and-append (append .ensures) (append-number .ensures)) (c .before .before .append2 .ensures)))
 
 pub put-refusal-spec : {M : Type 1} → statement M
 put-refusal-spec =

@@ -30,31 +30,48 @@ read-some-requires : tie.Need-read-some-requires Inv-loop μ-loop
 read-some-requires c κs = search needs
 
 sub-if1 : tie.Need-sub-if1 Inv-loop μ-loop
-sub-if1 c = omega (arith, still-long (c .before .before .read-some .last .0) (c .before .before .before .before .before .loop .inv) (c .before .before .read-some .kept .0), c .before .before .before .before .before .loop .inv .inside, c .before .before .before .before .before .loop .inv .kept)
+sub-if1 c =
+    let the-loop = c .before .before .before .before .before .loop in
+    omega (arith, still-long (c .before .before .read-some .last .0) (the-loop .inv) (c .before .before .read-some .kept .0), the-loop .inv .inside, the-loop .inv .kept)
 
 add-result : tie.Need-add-result Inv-loop μ-loop
-add-result c = omega (arith, still-long (c .before .before .before .read-some .last .0) (c .before .before .before .before .before .before .loop .inv) (c .before .before .before .read-some .kept .0), c .before .before .before .before .before .before .before .before .good .0 .1)
+add-result c =
+    let good = c .before .before .before .before .before .before .before .before .good in
+    let the-loop = c .before .before .before .before .before .before .loop in
+    omega (arith, still-long (c .before .before .before .read-some .last .0) (the-loop .inv) (c .before .before .before .read-some .kept .0), good .0 .1)
 
 same-length : tie.Need-same-length Inv-loop μ-loop
-same-length c = still-long (c .before .before .before .read-some .last .0) (c .before .before .before .before .before .before .loop .inv) (c .before .before .before .read-some .kept .0)
+same-length c =
+    let the-loop = c .before .before .before .before .before .before .loop in
+    still-long (c .before .before .before .read-some .last .0) (the-loop .inv) (c .before .before .before .read-some .kept .0)
 
 returns : tie.Need-returns Inv-loop μ-loop
 returns c = tt
 
 same-length-2 : tie.Need-same-length-2 Inv-loop μ-loop
-same-length-2 c = still-long (c .before .before .before .before .read-some .last .0) (c .before .before .before .before .before .before .before .loop .inv) (c .before .before .before .before .read-some .kept .0)
+same-length-2 c =
+    let the-loop = c .before .before .before .before .before .before .before .loop in
+    still-long (c .before .before .before .before .read-some .last .0) (the-loop .inv) (c .before .before .before .before .read-some .kept .0)
 
 returns-2 : tie.Need-returns-2 Inv-loop μ-loop
 returns-2 c = tt
 
 add-done : tie.Need-add-done Inv-loop μ-loop
-add-done c = omega (arith, filled-next (c .before .before .before .before .read-some .last .0) (c .before .before .before .before .before .before .before .loop .inv) (c .before .before .before .before .read-some .kept .0) (c .before .if1 .left) .inside, still-long (c .before .before .before .before .read-some .last .0) (c .before .before .before .before .before .before .before .loop .inv) (c .before .before .before .before .read-some .kept .0), c .before .before .before .before .before .before .before .before .before .good .0 .1)
+add-done c =
+    let good = c .before .before .before .before .before .before .before .before .before .good in
+    let the-loop = c .before .before .before .before .before .before .before .loop in
+    omega (arith, filled-next (c .before .before .before .before .read-some .last .0) (the-loop .inv) (c .before .before .before .before .read-some .kept .0) (c .before .if1 .left) .inside, still-long (c .before .before .before .before .read-some .last .0) (the-loop .inv) (c .before .before .before .before .read-some .kept .0), good .0 .1)
 
 loop-less : tie.Need-loop-less Inv-loop μ-loop
-loop-less c = omega (arith, c .before .before .before .before .before .before .loop-test .taken, c .before .before .before .before .before .before .before .loop .inv .kept, c .if2 .left)
+loop-less c =
+    let the-loop = c .before .before .before .before .before .before .before .loop in
+    let loop-test = c .before .before .before .before .before .before .loop-test in
+    omega (arith, loop-test .taken, the-loop .inv .kept, c .if2 .left)
 
 loop-again : tie.Need-loop-again Inv-loop μ-loop
-loop-again c = filled-next (c .before .before .before .before .read-some .last .0) (c .before .before .before .before .before .before .before .loop .inv) (c .before .before .before .before .read-some .kept .0) (c .before .if1 .left)
+loop-again c =
+    let the-loop = c .before .before .before .before .before .before .before .loop in
+    filled-next (c .before .before .before .before .read-some .last .0) (the-loop .inv) (c .before .before .before .before .read-some .kept .0) (c .before .if1 .left)
 
 same-length-3 : tie.Need-same-length-3 Inv-loop μ-loop
 same-length-3 c = c .before .loop .inv .kept

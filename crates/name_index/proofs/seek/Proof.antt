@@ -56,14 +56,22 @@ equal-requires c κs = search needs
 
 returns : tie.Need-returns Inv-loop μ-loop
 returns c =
-    seeking-found (c .before .before .before .before .before .before .before .loop .inv) (c .before .before .before .before .before .if1 .taken) (c .before .before .token .ensures)
+    let loop = c .before .before .before .before .before .before .before .loop in
+    let if1 = c .before .before .before .before .before .if1 in
+    seeking-found (loop .inv) (if1 .taken) (c .before .before .token .ensures)
     (c .before .equal .ensures) (c .if2 .taken)
 
 add-at : tie.Need-add-at Inv-loop μ-loop
-add-at c = omega (arith, seeking-room (c .before .before .before .before .before .before .before .loop .inv) (c .before .before .before .before .before .if1 .taken))
+add-at c =
+    let loop = c .before .before .before .before .before .before .before .loop in
+    let if1 = c .before .before .before .before .before .if1 in
+    omega (arith, seeking-room (loop .inv) (if1 .taken))
 
 add-at-2 : tie.Need-add-at-2 Inv-loop μ-loop
-add-at-2 c = omega (arith, seeking-room (c .before .before .before .before .before .before .before .loop .inv) (c .before .before .before .before .before .if1 .taken))
+add-at-2 c =
+    let loop = c .before .before .before .before .before .before .before .loop in
+    let if1 = c .before .before .before .before .before .if1 in
+    omega (arith, seeking-room (loop .inv) (if1 .taken))
 
 loop-less : tie.Need-loop-less Inv-loop μ-loop
 loop-less c = search (seeking-less, needs)

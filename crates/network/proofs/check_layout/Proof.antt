@@ -39,7 +39,9 @@ returns-3 c = no-pins _ _ _ _ (sym (not-true _ (c .if3 .taken)) ∙ c .before .a
 
 slice-aggregate-all-valid-2 : tie.Need-slice-aggregate-all-valid-2
 slice-aggregate-all-valid-2 c =
-    let s = sizes-give (sym (c .before .before .before .before .before .before .before .sizes-fit .ensures) ∙ not-false _ (c .before .before .before .before .before .before .if1 .left)) in
+    let sizes-fit = c .before .before .before .before .before .before .before .sizes-fit in
+    let if1 = c .before .before .before .before .before .before .if1 in
+    let s = sizes-give (sym (sizes-fit .ensures) ∙ not-false _ (if1 .left)) in
     sym (length-take-le _ _ (s .outs-lent))
 
 all-valid-requires-2 : tie.Need-all-valid-requires-2
@@ -47,7 +49,11 @@ all-valid-requires-2 c κs = search needs
 
 returns-4 : tie.Need-returns-4
 returns-4 c =
-    network-is _ _ _ _ (sym (not-false _ (c .before .before .before .before .before .before .before .if1 .left)) ∙ c .before .before .before .before .before .before .before .before .sizes-fit .ensures) (sym (not-false _ (c .before .before .before .before .before .if2 .left)) ∙ c .before .before .before .before .before .before .records-fit .ensures)
+    let sizes-fit = c .before .before .before .before .before .before .before .before .sizes-fit in
+    let if1 = c .before .before .before .before .before .before .before .if1 in
+    let records-fit = c .before .before .before .before .before .before .records-fit in
+    let if2 = c .before .before .before .before .before .if2 in
+    network-is _ _ _ _ (sym (not-false _ (if1 .left)) ∙ sizes-fit .ensures) (sym (not-false _ (if2 .left)) ∙ records-fit .ensures)
     (sym (not-false _ (c .before .before .if3 .left)) ∙ c .before .before .before .all-valid .ensures) (c .all-valid2 .ensures)
 
 pub check-layout-spec : {M : Type 1} → statement M

@@ -27,7 +27,8 @@ takes-requires c κs = search needs
 
 returns : tie.Need-returns
 returns c =
-    let a = c .before .before .before .before .before .before .args in
+    let args = c .before .before .before .before .before .before .args in
+    let a = args in
     form-refused (a .gates .now) (a .g)
     (sym
     (takes-is (a .gates .now) (a .g) (c .before .before .before .before .form-at .ensures) (c .before .before .before .kind-of .ensures) (c .before .before .count-at .ensures)
@@ -39,12 +40,15 @@ first-at-requires c κs = search needs
 
 returns-2 : tie.Need-returns-2
 returns-2 c =
-    let a = c .before .before .before .before .before .before .before .args in
+    let args = c .before .before .before .before .before .before .before .args in
+    let pre = c .before .before .before .before .before .before .before .pre in
+    let form-at = c .before .before .before .before .before .form-at in
+    let a = args in
     form-taken (a .gates .now) (a .g)
     (sym
-    (takes-is (a .gates .now) (a .g) (c .before .before .before .before .before .form-at .ensures) (c .before .before .before .before .kind-of .ensures)
+    (takes-is (a .gates .now) (a .g) (form-at .ensures) (c .before .before .before .before .kind-of .ensures)
     (c .before .before .before .count-at .ensures) (c .before .before .takes .ensures))
-    ∙ not-false _ (c .before .if1 .left)) (c .first-at .ensures) (c .before .before .before .before .before .before .before .pre .1)
+    ∙ not-false _ (c .before .if1 .left)) (c .first-at .ensures) (pre .1)
 
 pub record-fits-spec : {M : Type 1} → statement M
 record-fits-spec =

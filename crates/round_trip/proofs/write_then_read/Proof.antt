@@ -49,9 +49,14 @@ same-length-6 c = search needs
 
 returns : tie.Need-returns
 returns c =
+    let shared-slice-known2 = c .before .before .before .before .before .before .before .before .before .before .before .before .before .before .before .before .before .before .before .before .before .before .before .before .before .before .before .before .before .before .shared-slice-known2 in
+    let shared-slice-known3 = c .before .before .before .before .before .before .before .before .before .before .before .before .before .before .before .before .before .before .before .before .before .before .before .before .before .before .before .before .before .shared-slice-known3 in
+    let write-blif = c .before .before .before .before .before .before .before .before .before .before .before .before .before .before .before .before .before .before .before .before .before .write-blif in
+    let written-length = c .before .before .before .before .before .before .before .before .before .before .before .before .before .before .before .before .before .before .written-length in
+    let read-blif = c .before .before .before .before .before .before .before .before .before .before .before .read-blif in
     trip-holds _ _ _ _ _ _ _ _ _ _ _ _ _
-    (record { pinWords = λ i. omega (arith, c .before .before .before .before .before .before .before .before .before .before .before .before .before .before .before .before .before .before .before .before .before .before .before .before .before .before .before .before .before .before .shared-slice-known2 .given i); outWords = λ i. omega (arith, c .before .before .before .before .before .before .before .before .before .before .before .before .before .before .before .before .before .before .before .before .before .before .before .before .before .before .before .before .before .shared-slice-known3 .given i) })
-    (c .before .before .before .before .before .before .before .before .before .before .before .before .before .before .before .before .before .before .before .before .before .write-blif .ensures) (c .before .before .before .before .before .before .before .before .before .before .before .before .before .before .before .before .before .before .written-length .ensures) (c .before .before .before .before .before .before .before .before .before .before .before .read-blif .ensures) (c .trip-answer .ensures)
+    (record { pinWords = λ i. omega (arith, shared-slice-known2 .given i); outWords = λ i. omega (arith, shared-slice-known3 .given i) })
+    (write-blif .ensures) (written-length .ensures) (read-blif .ensures) (c .trip-answer .ensures)
 
 pub write-then-read-spec : {M : Type 1} → statement M
 write-then-read-spec =

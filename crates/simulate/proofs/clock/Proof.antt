@@ -30,10 +30,13 @@ same-length-2 c = search needs
 
 returns : tie.Need-returns
 returns c =
-    let a = c .before .before .before .before .before .before .before .before .before .before .before .before .before .before .before .before .before .before .before .before .args in
-    let s = c .before .before .before .before .before .before .before .show in
+    let args = c .before .before .before .before .before .before .before .before .before .before .before .before .before .before .before .before .before .before .before .before .args in
+    let settle = c .before .before .before .before .before .before .before .before .before .before .before .settle in
+    let show = c .before .before .before .before .before .before .before .show in
+    let a = args in
+    let s = show in
     let t = c .before .before .step in
-    let b = c .before .before .before .before .before .before .before .before .before .before .before .settle in
+    let b = settle in
     clocks (a .counts) (a .gates .now) (a .pins .now) (a .outputs .now) (b .ensures) (s .ensures) (s .kept .1 .1 .1 .1 .0) (t .ensures)
 
 pub clock-spec : {M : Type 1} → statement M

@@ -20,7 +20,8 @@ add-end c = search needs
 
 returns-2 : tie.Need-returns-2
 returns-2 c =
-    let a = c .before .before .before .before .before .before .before .before .args in
+    let args = c .before .before .before .before .before .before .before .before .args in
+    let a = args in
     bit-no-run (a .row .now) (a .bits .now) (a .gates .now) (a .pins .now) (a .g) (a .held) (c .before .before .first-at .ensures) (c .before .count-at .ensures) (c .if2 .taken)
 
 form-at-requires : tie.Need-form-at-requires
@@ -46,8 +47,12 @@ kind-bit-requires c κs = search needs
 
 returns-3 : tie.Need-returns-3
 returns-3 c =
-    let a = c .before .before .before .before .before .before .before .before .before .before .before .before .args in
-    bit-read (a .row .now) (a .bits .now) (a .gates .now) (a .pins .now) (a .g) (a .held) (c .before .before .before .before .before .before .first-at .ensures) (c .before .before .before .before .before .count-at .ensures) (c .before .before .before .before .before .before .before .if1 .left) (c .before .before .before .before .if2 .left) (c .before .before .before .form-at .ensures)
+    let args = c .before .before .before .before .before .before .before .before .before .before .before .before .args in
+    let if1 = c .before .before .before .before .before .before .before .if1 in
+    let first-at = c .before .before .before .before .before .before .first-at in
+    let count-at = c .before .before .before .before .before .count-at in
+    let a = args in
+    bit-read (a .row .now) (a .bits .now) (a .gates .now) (a .pins .now) (a .g) (a .held) (first-at .ensures) (count-at .ensures) (if1 .left) (c .before .before .before .before .if2 .left) (c .before .before .before .form-at .ensures)
     (c .before .before .kind-of .ensures) (c .kind-bit .ensures)
 
 pub gate-bit-spec : {M : Type 1} → statement M

@@ -13,7 +13,8 @@ pin-bit-requires-2 c κs = search needs
 
 returns : tie.Need-returns
 returns c =
-    let a = c .before .before .before .before .before .before .args in
+    let args = c .before .before .before .before .before .before .args in
+    let a = args in
     mux-second (pinBits (a .row .now) (a .bits .now) (a .run .now)) (c .before .before .pin-bit .ensures) (c .before .if1 .taken) (c .pin-bit2 .ensures)
 
 pin-bit-requires-3 : tie.Need-pin-bit-requires-3

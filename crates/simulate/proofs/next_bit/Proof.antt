@@ -18,12 +18,14 @@ enum-told c = search needs
 
 returns : tie.Need-returns
 returns c =
-    let a = c .before .before .before .before .before .before .before .before .before .args in
+    let args = c .before .before .before .before .before .before .before .before .before .args in
+    let a = args in
     next-good (a .row .now) (a .bits .now) (a .gates .now) (a .pins .now) (a .g) (a .held) (c .before .before .before .before .gate-at .ensures) (c .before .before .gate .given .1) (c .next-of .ensures)
 
 returns-2 : tie.Need-returns-2
 returns-2 c =
-    let a = c .before .before .before .before .before .before .before .args in
+    let args = c .before .before .before .before .before .before .before .args in
+    let a = args in
     next-bad (a .row .now) (a .bits .now) (a .gates .now) (a .pins .now) (a .g) (a .held) (c .before .before .gate-at .ensures) (c .enum-told .given .1)
 
 pub next-bit-spec : {M : Type 1} → statement M

@@ -53,8 +53,10 @@ returns-4 c =
 
 returns-5 : tie.Need-returns-5
 returns-5 c =
-    let a = c .before .before .before .before .before .before .before .before .before .args in
-    next-dff (a .row .now) (a .bits .now) (a .held) (c .before .before .before .before .before .gate .given .1) (c .before .before .before .sig-bit .ensures) (c .before .before .sig-bit2 .ensures) (c .before .sig-bit3 .ensures) (c .step-bit .ensures)
+    let args = c .before .before .before .before .before .before .before .before .before .args in
+    let gate = c .before .before .before .before .before .gate in
+    let a = args in
+    next-dff (a .row .now) (a .bits .now) (a .held) (gate .given .1) (c .before .before .before .sig-bit .ensures) (c .before .before .sig-bit2 .ensures) (c .before .sig-bit3 .ensures) (c .step-bit .ensures)
 
 pub next-of-spec : {M : Type 1} → statement M
 next-of-spec =

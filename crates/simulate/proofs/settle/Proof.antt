@@ -34,8 +34,9 @@ loop-less c = omega arith
 
 loop-again : tie.Need-loop-again Inv-loop μ-loop
 loop-again c =
+    let the-loop = c .before .before .before .before .before .before .loop in
     let sweep = c .before .before .before .sweep in
-    settling-next (sweep .ensures) (c .before .before .before .before .before .before .loop .inv) (sweep .kept .1 .1 .1 .1 .1 .0) (not-false _ (c .if1 .left))
+    settling-next (sweep .ensures) (the-loop .inv) (sweep .kept .1 .1 .1 .1 .1 .0) (not-false _ (c .if1 .left))
 
 same-length-2 : tie.Need-same-length-2 Inv-loop μ-loop
 same-length-2 c = c .before .loop .inv .same

@@ -38,10 +38,13 @@ loop-less c = omega arith
 
 loop-again : tie.Need-loop-again Inv-loop μ-loop
 loop-again c =
-    let a = c .before .before .before .before .before .before .before .before .before .before .before .before .before .args in
-    let l = c .before .before .before .before .before .before .before .before .loop in (
+    let args = c .before .before .before .before .before .before .before .before .before .before .before .before .before .args in
+    let loop = c .before .before .before .before .before .before .before .before .loop in
+    let cell-at = c .before .before .before .before .before .before .cell-at in
+    let a = args in
+    let l = loop in (
       search needs,
-      shown-next (a .outputs .now) (a .row .now) (a .bits .now) (l .line) _ (l .inv .1) (c .before .before .before .before .before .before .cell-at .ensures) (c .before .before .before .before .sig-bit .ensures) (c .before .before .before .digit .ensures)
+      shown-next (a .outputs .now) (a .row .now) (a .bits .now) (l .line) _ (l .inv .1) (cell-at .ensures) (c .before .before .before .before .sig-bit .ensures) (c .before .before .before .digit .ensures)
           (c .before .before .put-byte .ensures),
     )
 

@@ -31,7 +31,10 @@ loop-less : tie.Need-loop-less Inv-loop μ-loop
 loop-less c = omega arith
 
 loop-again : tie.Need-loop-again Inv-loop μ-loop
-loop-again c = stepping-next (c .before .before .before .before .before .before .before .before .loop .inv) (c .before .before .before .before .before .bit-at .ensures) (c .before .before .before .before .next-bit .ensures) (c .before .before .put-bit .ensures)
+loop-again c =
+    let loop = c .before .before .before .before .before .before .before .before .loop in
+    let bit-at = c .before .before .before .before .before .bit-at in
+    stepping-next (loop .inv) (bit-at .ensures) (c .before .before .before .before .next-bit .ensures) (c .before .before .put-bit .ensures)
 
 same-length : tie.Need-same-length Inv-loop μ-loop
 same-length c = c .before .loop .inv .same

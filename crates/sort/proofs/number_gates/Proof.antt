@@ -17,7 +17,9 @@ abbrev μ-loop : tie.MeasureT-loop
 
 -- the gate's number is an index
 fits : (c : tie.After-shared-slice-known2 Inv-loop μ-loop) → getD (c .before .before .before .before .before .args .order .now) (c .before .before .loop .i) 0 < maxGates
-fits c = c .before .before .before .before .before .pre .1 .below _ (c .before .loop-test .taken)
+fits c =
+    let pre = c .before .before .before .before .before .pre in
+    pre .1 .below _ (c .before .loop-test .taken)
 
 loop-holds : tie.Need-loop-holds Inv-loop μ-loop
 loop-holds c = tabling-start (c .before .before .pre .0 .1)

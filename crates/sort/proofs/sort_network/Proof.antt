@@ -34,10 +34,15 @@ returns-3 c = no-pin-room _ _ _ (c .if3 .taken)
 
 topo-sort-requires : tie.Need-topo-sort-requires
 topo-sort-requires c κs =
+    let shared-slice-known2 = c .before .before .before .before .before .before .before .before .before .before .before .before .before .shared-slice-known2 in
+    let slice-known = c .before .before .before .before .before .before .before .before .before .before .before .before .slice-known in
+    let check-layout = c .before .before .before .before .before .before .before .before .check-layout in
+    let if1 = c .before .before .before .before .before .before .before .if1 in
+    let if2 = c .before .before .before .before .before .if2 in
     network-sortable _ _ _
-    (record { pinWords = λ i. omega (arith, c .before .before .before .before .before .before .before .before .before .before .before .before .before .shared-slice-known2 .given i); outWords = λ i. omega (arith, c .before .before .before .before .before .before .before .before .before .before .before .before .slice-known .given i) })
-    (sym (c .before .before .before .before .before .before .before .before .check-layout .ensures) ∙ not-false _ (c .before .before .before .before .before .before .before .if1 .left))
-    (c .before .before .before .before .before .if2 .left) (c .before .before .before .if3 .left)
+    (record { pinWords = λ i. omega (arith, shared-slice-known2 .given i); outWords = λ i. omega (arith, slice-known .given i) })
+    (sym (check-layout .ensures) ∙ not-false _ (if1 .left))
+    (if2 .left) (c .before .before .before .if3 .left)
 
 same-length-4 : tie.Need-same-length-4
 same-length-4 c = search needs
@@ -50,8 +55,13 @@ same-length-6 c = search needs
 
 returns-4 : tie.Need-returns-4
 returns-4 c =
-    sorts _ _ _ (sym (c .before .before .before .before .before .before .before .before .before .before .before .before .before .before .before .check-layout .ensures) ∙ not-false _ (c .before .before .before .before .before .before .before .before .before .before .before .before .before .before .if1 .left))
-    (c .before .before .before .before .before .before .before .before .before .before .before .before .if2 .left) (c .before .before .before .before .before .before .before .before .before .before .if3 .left) _ _ _ _ (c .before .before .before .before .before .before .topo-sort .ensures)
+    let check-layout = c .before .before .before .before .before .before .before .before .before .before .before .before .before .before .before .check-layout in
+    let if1 = c .before .before .before .before .before .before .before .before .before .before .before .before .before .before .if1 in
+    let if2 = c .before .before .before .before .before .before .before .before .before .before .before .before .if2 in
+    let if3 = c .before .before .before .before .before .before .before .before .before .before .if3 in
+    let topo-sort = c .before .before .before .before .before .before .topo-sort in
+    sorts _ _ _ (sym (check-layout .ensures) ∙ not-false _ (if1 .left))
+    (if2 .left) (if3 .left) _ _ _ _ (topo-sort .ensures)
 
 pub sort-network-spec : {M : Type 1} → statement M
 sort-network-spec =

@@ -51,7 +51,8 @@ same-length c = c .before .loop .inv .long ∙ sym (c .before .before .before .b
 
 returns : tie.Need-returns Inv-loop μ-loop
 returns c =
-    let e : c .before .loop .g ≡ c .before .before .before .before .before .args .n = omega (arith, c .before .loop .inv .within, c .loop-test .left) in
+    let args = c .before .before .before .before .before .args in
+    let e : c .before .loop .g ≡ args .n = omega (arith, c .before .loop .inv .within, c .loop-test .left) in
     rw e at (c .before .loop .inv .started)
 
 pub start-stack-spec : {M : Type 1} → statement M

@@ -22,8 +22,9 @@ find-order-requires c κs =
 
 returns : tie.Need-returns
 returns c =
+    let pre = c .before .before .before .before .before .before .before .before .before .pre in
     let f = c .before .before .find-order in
-    ends-loop _ _ _ _ _ _ (found-none (f .result) _ (not-true _ (c .if1 .taken)) (f .ensures)) (c .before .before .before .before .before .before .before .before .before .pre)
+    ends-loop _ _ _ _ _ _ (found-none (f .result) _ (not-true _ (c .if1 .taken)) (f .ensures)) (pre)
 
 array-share-prefix-order : tie.Need-array-share-prefix-order
 array-share-prefix-order c = search needs
@@ -52,10 +53,16 @@ same-length-3 c = search needs
 
 returns-2 : tie.Need-returns-2
 returns-2 c =
-    let s = c .before .before .before .before .before .before .before .before .before .before .before .before .before .before .before .before .before .before .before .before in
-    let f = c .before .before .before .before .before .before .before .before .before .before .before .before .before .find-order in
-    let o = found-some (f .result) (not-false _ (c .before .before .before .before .before .before .before .before .before .before .before .if1 .left)) (f .ensures) in
-    ends-sorted _ _ _ _ (s .pre) _ o (λ i. omega (arith, c .before .before .before .before .before .before .before .before .before .before .before .before .before .before .before .before .before .before .shared-slice-known2 .given i)) (λ i. omega (arith, c .before .before .before .before .before .before .before .before .before .before .before .before .before .before .before .before .before .slice-known .given i)) (c .before .before .before .before .before .before .renumber .ensures)
+    let before = c .before .before .before .before .before .before .before .before .before .before .before .before .before .before .before .before .before .before .before .before in
+    let shared-slice-known2 = c .before .before .before .before .before .before .before .before .before .before .before .before .before .before .before .before .before .before .shared-slice-known2 in
+    let slice-known = c .before .before .before .before .before .before .before .before .before .before .before .before .before .before .before .before .before .slice-known in
+    let find-order = c .before .before .before .before .before .before .before .before .before .before .before .before .before .find-order in
+    let if1 = c .before .before .before .before .before .before .before .before .before .before .before .if1 in
+    let renumber = c .before .before .before .before .before .before .renumber in
+    let s = before in
+    let f = find-order in
+    let o = found-some (f .result) (not-false _ (if1 .left)) (f .ensures) in
+    ends-sorted _ _ _ _ (s .pre) _ o (λ i. omega (arith, shared-slice-known2 .given i)) (λ i. omega (arith, slice-known .given i)) (renumber .ensures)
 
 pub topo-sort-spec : {M : Type 1} → statement M
 topo-sort-spec =

@@ -48,7 +48,9 @@ sub-at c =
     at-pos _ (s .pre .0 .valid) (s .pre .0 .few) _ _ _ _ _ _ (s .pre .1 .0) (s .pre .1 .1) (c .before .if1 .left)
 
 slice-write-marks : tie.Need-slice-write-marks
-slice-write-marks c = let s = c .before .before .before .before .before .before .before .before .before .before .before in omega (arith, known s, s .pre .1 .1 .long)
+slice-write-marks c =
+    let before = c .before .before .before .before .before .before .before .before .before .before .before in
+    let s = before in omega (arith, known s, s .pre .1 .1 .long)
 
 cast-order : tie.Need-cast-order
 cast-order c = omega (arith, known (c .before .before .before .before .before .before .before .before .before .before .before))
@@ -68,7 +70,8 @@ gate-pins-requires c κs =
 
 lower-uses-requires : tie.Need-lower-uses-requires
 lower-uses-requires c κs =
-    let s = c .before .before .before .before .before .before .before .before .before .before .before .before .before .before in
+    let before = c .before .before .before .before .before .before .before .before .before .before .before .before .before .before in
+    let s = before in
     let l = s .pre .1 .1 .long in
     let G = cellGraph (s .args .gates .now) (s .args .pins .now) (s .args .n) in (
       (l .counts, l .stack),

@@ -26,7 +26,8 @@ visit-requires c κs =
 
 loop-less : tie.Need-loop-less Inv-loop μ-loop
 loop-less c =
-    let a = c .before .before .before .before .before .before .before .before in
+    let before = c .before .before .before .before .before .before .before .before in
+    let a = before in
     let t = a .before .before .before .before .before in
     let s = t .before .before .before .before .before .before .before .before .before in
     let G = cellGraph (s .args .gates .now) (s .args .pins .now) (s .args .n) in
@@ -37,7 +38,8 @@ loop-less c =
 
 loop-again : tie.Need-loop-again Inv-loop μ-loop
 loop-again c =
-    let a = c .before .before .before .before .before .before .before .before in
+    let before = c .before .before .before .before .before .before .before .before in
+    let a = before in
     let t = a .before .before .before .before .before in
     let s = t .before .before .before .before .before .before .before .before .before in
     let G = cellGraph (s .args .gates .now) (s .args .pins .now) (s .args .n) in
@@ -46,13 +48,19 @@ loop-again c =
     (k .0) (k .1 .0) (k .1 .1 .0) (k .1 .1 .1 .0)
 
 same-length : tie.Need-same-length Inv-loop μ-loop
-same-length c = c .before .before .loop .inv .ready .long .counts ∙ sym (c .before .before .before .before .before .before .before .before .before .pre .1 .long .counts)
+same-length c =
+    let pre = c .before .before .before .before .before .before .before .before .before .pre in
+    c .before .before .loop .inv .ready .long .counts ∙ sym (pre .1 .long .counts)
 
 same-length-2 : tie.Need-same-length-2 Inv-loop μ-loop
-same-length-2 c = c .before .before .loop .inv .ready .long .marks ∙ sym (c .before .before .before .before .before .before .before .before .before .pre .1 .long .marks)
+same-length-2 c =
+    let pre = c .before .before .before .before .before .before .before .before .before .pre in
+    c .before .before .loop .inv .ready .long .marks ∙ sym (pre .1 .long .marks)
 
 same-length-3 : tie.Need-same-length-3 Inv-loop μ-loop
-same-length-3 c = c .before .before .loop .inv .ready .long .stack ∙ sym (c .before .before .before .before .before .before .before .before .before .pre .1 .long .stack)
+same-length-3 c =
+    let pre = c .before .before .before .before .before .before .before .before .before .pre in
+    c .before .before .loop .inv .ready .long .stack ∙ sym (pre .1 .long .stack)
 
 same-length-4 : tie.Need-same-length-4 Inv-loop μ-loop
 same-length-4 c = c .before .before .loop .inv .same

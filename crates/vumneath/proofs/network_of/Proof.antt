@@ -13,13 +13,20 @@ cast-t5 : tie.Need-cast-t5
 cast-t5 c = let z = c .before .before .before .before .pre .fits _ (c .before .before .answer .given .1) in omega (arith, z .inputs, c .struct-known .given)
 
 cast-t6 : tie.Need-cast-t6
-cast-t6 c = let z = c .before .before .before .before .before .pre .fits _ (c .before .before .before .answer .given .1) in omega (arith, z .gates, c .struct-known2 .given)
+cast-t6 c =
+    let pre = c .before .before .before .before .before .pre in
+    let z = pre .fits _ (c .before .before .before .answer .given .1) in omega (arith, z .gates, c .struct-known2 .given)
 
 cast-t7 : tie.Need-cast-t7
-cast-t7 c = let z = c .before .before .before .before .before .before .pre .fits _ (c .before .before .before .before .answer .given .1) in omega (arith, z .pins, c .struct-known3 .given)
+cast-t7 c =
+    let pre = c .before .before .before .before .before .before .pre in
+    let z = pre .fits _ (c .before .before .before .before .answer .given .1) in omega (arith, z .pins, c .struct-known3 .given)
 
 cast-t8 : tie.Need-cast-t8
-cast-t8 c = let z = c .before .before .before .before .before .before .before .pre .fits _ (c .before .before .before .before .before .answer .given .1) in omega (arith, z .outputs, c .struct-known4 .given)
+cast-t8 c =
+    let pre = c .before .before .before .before .before .before .before .pre in
+    let the-answer = c .before .before .before .before .before .answer in
+    let z = pre .fits _ (the-answer .given .1) in omega (arith, z .outputs, c .struct-known4 .given)
 
 enum-known-answer-2 : tie.Need-enum-known-answer-2
 enum-known-answer-2 c = search needs

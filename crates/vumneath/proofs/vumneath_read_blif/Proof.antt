@@ -8,7 +8,9 @@ read-blif-requires : tie.Need-read-blif-requires
 read-blif-requires c κs = search needs
 
 network-of-requires : tie.Need-network-of-requires
-network-of-requires c κs = counts-fit _ _ _ _ _ _ _ _ (c .before .before .before .before .before .before .before .before .before .before .read-blif .ensures)
+network-of-requires c κs =
+    let read-blif = c .before .before .before .before .before .before .before .before .before .before .read-blif in
+    counts-fit _ _ _ _ _ _ _ _ (read-blif .ensures)
 
 same-length : tie.Need-same-length
 same-length c = search needs
@@ -26,7 +28,9 @@ same-length-5 : tie.Need-same-length-5
 same-length-5 c = search needs
 
 returns : tie.Need-returns
-returns c = read-handed _ _ _ _ _ _ _ _ (c .before .before .before .before .before .before .before .before .before .before .before .read-blif .ensures) (c .network-of .ensures)
+returns c =
+    let read-blif = c .before .before .before .before .before .before .before .before .before .before .before .read-blif in
+    read-handed _ _ _ _ _ _ _ _ (read-blif .ensures) (c .network-of .ensures)
 
 pub vumneath-read-blif-spec : {M : Type 1} → statement M
 vumneath-read-blif-spec =
