@@ -4,12 +4,10 @@ use mathlib.Core.Bool.{Bool, true, false, _||_}
 use mathlib.Core.List.{List, [], _∷_}
 use Prim.Native.Nat.{ℕ, zero, suc, _+_, _≤_, _<_}
 use native.Mathlib.Omega.{arith}
-use lib.Dec.{ltb}
 use lib.ListN.{length, getD, take}
 use lib.Seq.{take-all}
-use borrow.Author.Tests.{ltb-false}
-use Rattle.lists.specs.Lists.{any, zeros}
-use Rattle.lists.proofs.Tests.{or-false, or-left, or-right}
+use Rattle.lists.specs.Lists.{any}
+use Rattle.lists.proofs.Tests.{or-false}
 
 -- whether one of the first i elements of l passes the test p
 pub record Looked (p : ℕ → Bool) (l : List ℕ) (r : Bool) (i : ℕ) : Type 0 where
@@ -39,11 +37,3 @@ looked-next {p} {l} {r} {i} h c =
 
 pub looked-done : {p : ℕ → Bool} {l : List ℕ} {r : Bool} {i : ℕ} → length l ≤ i → Looked p l r i → r ≡ any p l
 looked-done {p} {l} {r} {i} h c = c .so ∙ ap (any p) (take-all i l h)
-
--- where no number is over zero, all are zero
-pub none-over : (l : List ℕ) → any (ltb 0) l ≡ false → l ≡ zeros (length l)
-none-over [] e = refl
-none-over (x ∷ l) e =
-    let z : x ≤ 0 = ltb-false 0 x (or-left (ltb 0 x) (any (ltb 0) l) e) in
-    let q : x ≡ 0 = omega (arith, z) in
-    ap (λ (y : ℕ). y ∷ l) q ∙ ap (λ (m : List ℕ). 0 ∷ m) (none-over l (or-right (ltb 0 x) (any (ltb 0) l) e))

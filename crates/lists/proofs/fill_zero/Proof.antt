@@ -1,111 +1,42 @@
--- `fill_zero` clears block by block. Assumes nothing.
-use mathlib.Core.Path.{_≡_}
-use mathlib.Core.List.{List, _++_}
-use Prim.Native.Nat.{ℕ, _+_, _-_, _≤_}
+-- `fill_zero` fills from the front. Assumes nothing.
+use Prim.Native.Nat.{_-_}
 use native.Mathlib.Omega.{arith}
 use borrow.Author.Needs.{needs}
-use lib.ListN.{length, take, drop, replicate}
-use Rattle.lists.proofs.Fill.{Filled, fill-start, fill-part, fill-done}
+use lib.ListN.{length}
+use Rattle.lists.proofs.Fill.{Filled, fill-start, fill-next, fill-done}
 use Rattle.lists.proofs.fill_zero.Statement.{statement}
 use Rattle.lists.proofs.fill_zero.Tie as tie
-use Rattle.lists.proofs.fill_zero.Reads as reads
-use Rattle.lists.proofs.fill_zero.Lts as lts
-use Rattle.lists.proofs.clear_block.Reads as clear-block-reads
-
--- a block more
-next-part : {o p q : List ℕ} {i : ℕ} → Filled 0 o p i → q ≡ replicate (length (take (i + 256 - i) (drop i p))) 0 → i + 256 ≤ length p
-    → Filled 0 o (take i p ++ (q ++ drop (i + 256 - i) (drop i p))) (i + 256)
-next-part {o} {p} {q} {i} c e h = fill-part (i + 256 - i) (i + 256) c e (omega arith) h
-
--- the part behind the last whole block
-last-part : {o p q : List ℕ} {i : ℕ} → Filled 0 o p i → q ≡ replicate (length (take (length p - i) (drop i p))) 0
-    → Filled 0 o (take i p ++ (q ++ drop (length p - i) (drop i p))) (length p)
-last-part {o} {p} {q} {i} c e =
-    let h : i + (length p - i) ≡ length p = omega (arith, c .within, c .kept) in
-    fill-part (length p - i) (length p) c e h (omega arith)
 
 abbrev Inv-loop : tie.InvT-loop
-Inv-loop s₀ n at₀ s at = Filled 0 s₀ s at
+Inv-loop s₀ i₀ s i = Filled 0 s₀ s i
 
 abbrev μ-loop : tie.MeasureT-loop
-μ-loop s₀ n at₀ s at = length s₀ - at
+μ-loop s₀ i₀ s i = length s₀ - i
 
 loop-holds : tie.Need-loop-holds Inv-loop μ-loop
 loop-holds c = fill-start 0 _
 
-sub-loop : tie.Need-sub-loop Inv-loop μ-loop
-sub-loop c = c .loop .inv .within
+mul-s : tie.Need-mul-s Inv-loop μ-loop
+mul-s c = search needs
 
-add-end : tie.Need-add-end Inv-loop μ-loop
-add-end c = omega arith
+slice-write-s : tie.Need-slice-write-s Inv-loop μ-loop
+slice-write-s c = search needs
 
-mul-clear-block : tie.Need-mul-clear-block Inv-loop μ-loop
-mul-clear-block c = search needs
-
-sub-clear-block : tie.Need-sub-clear-block Inv-loop μ-loop
-sub-clear-block c = omega arith
-
-part-clear-block-start : tie.Need-part-clear-block-start Inv-loop μ-loop
-part-clear-block-start c = omega arith
-
-part-clear-block-end : tie.Need-part-clear-block-end Inv-loop μ-loop
-part-clear-block-end c = omega arith
-
-clear-block-requires : tie.Need-clear-block-requires Inv-loop μ-loop
-clear-block-requires c κs = search needs
+add-i : tie.Need-add-i Inv-loop μ-loop
+add-i c = omega arith
 
 loop-less : tie.Need-loop-less Inv-loop μ-loop
 loop-less c = omega arith
 
 loop-again : tie.Need-loop-again Inv-loop μ-loop
-loop-again c =
-    let m = c .before .before .before .before .loop-test .taken in
-    let k = c .before .before .before .before .before .loop .inv .kept in
-    next-part (c .before .before .before .before .before .loop .inv) (c .before .before .clear-block .ensures) (omega (arith, m, k))
-
-mul-clear-block-2 : tie.Need-mul-clear-block-2 Inv-loop μ-loop
-mul-clear-block-2 c = search needs
-
-sub-clear-block-2 : tie.Need-sub-clear-block-2 Inv-loop μ-loop
-sub-clear-block-2 c = omega arith
-
-part-clear-block-start-2 : tie.Need-part-clear-block-start-2 Inv-loop μ-loop
-part-clear-block-start-2 c = omega arith
-
-part-clear-block-end-2 : tie.Need-part-clear-block-end-2 Inv-loop μ-loop
-part-clear-block-end-2 c = omega arith
-
-clear-block-requires-2 : tie.Need-clear-block-requires-2 Inv-loop μ-loop
-clear-block-requires-2 c κs = search needs
+loop-again c = fill-next (c .loop-test .taken) (c .before .loop .inv)
 
 same-length : tie.Need-same-length Inv-loop μ-loop
-same-length c = last-part (c .before .before .before .before .before .loop .inv) (c .before .before .clear-block2 .ensures) .kept
+same-length c = c .before .loop .inv .kept
 
 returns : tie.Need-returns Inv-loop μ-loop
-returns c =
-    let z = last-part (c .before .before .before .before .before .loop .inv) (c .before .before .clear-block2 .ensures) in
-    fill-done (omega (arith, z .kept)) z
+returns c = fill-done (c .loop-test .left) (c .before .loop .inv)
 
 pub fill-zero-spec : {M : Type 1} → statement M
 fill-zero-spec =
-    tie.close
-    (tie.spec
-    Inv-loop
-    μ-loop
-    loop-holds
-    sub-loop
-    add-end
-    mul-clear-block
-    sub-clear-block
-    part-clear-block-start
-    part-clear-block-end
-    clear-block-requires
-    loop-less
-    loop-again
-    mul-clear-block-2
-    sub-clear-block-2
-    part-clear-block-start-2
-    part-clear-block-end-2
-    clear-block-requires-2
-    same-length
-    returns)
+    tie.close (tie.spec Inv-loop μ-loop loop-holds mul-s slice-write-s add-i loop-less loop-again same-length returns)
