@@ -1,19 +1,18 @@
 -- Runs of pins, the cover and the latch of each kind of gate, and gates that are not too wide. Assumes nothing.
 use mathlib.Core.Path.{_≡_, refl, sym, _∙_, ap}
-use mathlib.Core.Bool.{false}
+use mathlib.Core.Bool.{true, false}
 use mathlib.Core.List.{List, [], _∷_, map, flatMap, append-nil}
-use Prim.Native.Nat.{ℕ, _+_, _-_, _≤_, min}
-use native.Mathlib.Omega.{arith}
-use lib.ListN.{length, take, drop, length-drop, length-map, drop-of-length-le}
-use lib.Seq.{take-all, take-nil}
+use Prim.Native.Nat.{ℕ, _+_, _-_, _≤_}
+use lib.ListN.{length, take, drop, length-map}
+use borrow.Author.Tests.{leb-true}
 use Rattle.lists.specs.Lists.{Bytes}
-use Rattle.lists.proofs.Tests.{by-order}
+use Rattle.lists.proofs.Places.{part-run}
 use Rattle.signal.specs.Signal.{Signal}
 use Rattle.signal.specs.Cell.{sigOf}
 use Rattle.signal.specs.declared.Signal as signal
 use Rattle.gates.specs.Gate.{Form, Comb}
 use Rattle.gates.specs.Forms.{formNumber, binaryForm, ternaryForm, naryForm}
-use Rattle.gates.specs.Decode.{runOf, gateIn}
+use Rattle.gates.specs.Decode.{runOf, runWithin, gateIn}
 use Rattle.gates.specs.declared.PinRun.{PinRun}
 use Rattle.gates.specs.declared.BinaryType.{BinaryType}
 use Rattle.gates.specs.declared.BinaryType.the-variants as B
@@ -33,37 +32,22 @@ use Rattle.blif_write.specs.Parts.{blocksText, coverText, latchText}
 
 -- ---- runs of pins
 
--- where a run starts and ends among n pins
-abbrev from : PinRun → ℕ → ℕ
-from run n = min (run .first) n
+-- a run as the code cuts it out of the pins
+abbrev cutRun : PinRun → List ℕ → List ℕ
+cutRun run ps = take (run .first + run .count - run .first) (drop (run .first) ps)
 
-abbrev upto : PinRun → ℕ → ℕ
-upto run n = min (min (run .first) n + run .count) n
-
-pub run-slice : {s e : ℕ} (run : PinRun) (ps : List ℕ) → s ≡ from run (length ps) → e ≡ upto run (length ps) → take (e - s) (drop s ps) ≡ runOf run ps
-run-slice {s} {e} run ps h k =
-    by-order (run .first) (length ps)
-    (λ l.
-    let q : s ≡ run .first = omega arith in
-    ap (λ (i : ℕ). take (e - i) (drop i ps)) q
-    ∙ by-order (run .count) (length ps - run .first)
-    (λ m. let z : e - run .first ≡ run .count = omega arith in ap (λ (i : ℕ). take i (drop (run .first) ps)) z)
-    (λ m.
-    take-all (e - run .first) (drop (run .first) ps) (omega (arith, length-drop (run .first) ps))
-    ∙ sym (take-all (run .count) (drop (run .first) ps) (omega (arith, length-drop (run .first) ps)))))
-    (λ l.
-    let q : length ps ≤ s = omega arith in
-    let p : length ps ≤ run .first = omega arith in
-    ap (take (e - s)) (drop-of-length-le ps q)
-    ∙ take-nil (e - s)
-    ∙ sym (ap (take (run .count)) (drop-of-length-le ps p) ∙ take-nil (run .count)))
+-- a Nary gate's run ends within the pins
+pub run-ends : {x : code.Gate} {t : NaryType} {run : PinRun} (ps : List ℕ) → x ≡ G.Nary t run → runWithin x ps ≡ true
+    → run .first + run .count ≤ length ps
+run-ends {run = run} ps e h = leb-true (run .first + run .count) (length ps) (ap (λ (z : code.Gate). runWithin z ps) (sym e) ∙ h)
 
 -- ---- gates that are not too wide
 
-pub narrow-run : {x : code.Gate} {t : NaryType} {run : PinRun} (ps cells : List ℕ) → x ≡ G.Nary t run → cells ≡ runOf run ps
-    → wide (gateIn x ps) ≡ false → Narrow t (length cells)
-narrow-run {x} {t} {run} ps cells e h w =
-    let q : length (map sigOf (runOf run ps)) ≡ length cells = length-map (runOf run ps) sigOf ∙ ap length (sym h) in
+pub narrow-run : {x : code.Gate} {t : NaryType} {run : PinRun} (ps : List ℕ) → x ≡ G.Nary t run → wide (gateIn x ps) ≡ false
+    → Narrow t (length (cutRun run ps))
+narrow-run {x} {t} {run} ps e w =
+    let cut : cutRun run ps ≡ runOf run ps = part-run (run .first) (run .count) ps in
+    let q : length (map sigOf (runOf run ps)) ≡ length (cutRun run ps) = length-map (runOf run ps) sigOf ∙ ap length (sym cut) in
     ap (tooWide (formNumber (naryForm t))) (sym q) ∙ ap (λ (z : code.Gate). wide (gateIn z ps)) (sym e) ∙ w
 
 -- ---- a gate's cover
@@ -108,10 +92,10 @@ module _ {x : code.Gate} (g : ℕ) (ps : List ℕ) where
       cover-at g ps e
       (comb-cover g (ternaryForm t) (sigOf (a .a) ∷ sigOf (b .a) ∷ sigOf (c .a) ∷ []) (ternary-block g t (sigOf (a .a) ∷ sigOf (b .a) ∷ sigOf (c .a) ∷ [])))
 
-  pub cover-nary : {t : NaryType} {run : PinRun} (cells : List ℕ) → x ≡ G.Nary t run → cells ≡ runOf run ps
-      → blockText (formBlock nameBytes g (naryForm t) (map sigOf cells)) ≡ coverText g (gateIn x ps)
-  cover-nary {t} {run} cells e h =
-      ap (λ (l : List ℕ). blockText (formBlock nameBytes g (naryForm t) (map sigOf l))) h
+  pub cover-nary : {t : NaryType} {run : PinRun} → x ≡ G.Nary t run
+      → blockText (formBlock nameBytes g (naryForm t) (map sigOf (cutRun run ps))) ≡ coverText g (gateIn x ps)
+  cover-nary {t} {run} e =
+      ap (λ (l : List ℕ). blockText (formBlock nameBytes g (naryForm t) (map sigOf l))) (part-run (run .first) (run .count) ps)
       ∙ cover-at g ps e (comb-cover g (naryForm t) (map sigOf (runOf run ps)) (nary-block g t (map sigOf (runOf run ps))))
 
   pub cover-buf : {s : signal.Signal} → x ≡ G.Buf s → blockText (bufBlock nameBytes g (sigOf (s .a) ∷ [])) ≡ coverText g (gateIn x ps)

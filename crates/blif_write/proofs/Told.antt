@@ -16,6 +16,7 @@ use Rattle.gates.specs.Decode.{kindComb}
 use Rattle.gates.proofs.Forms.{From, comb-number}
 use Rattle.network.specs.Cells.{formAt, firstAt, countAt, CellIs, runAt, gateAt, orBuf, HasRun}
 use Rattle.network.proofs.GateRead.{has-run, gate-is, run-pins}
+use Rattle.network.proofs.Records.{cut-run}
 use Rattle.blif_model.specs.Write.{named, exclusive, maxExclusive, tooWide, wide}
 use Rattle.blif_write.specs.Parts.{latchText, coverText, HeldAt}
 use Rattle.blif_inverters.specs.Marks.{SignalsMarked}
@@ -90,13 +91,8 @@ module _ {cells ps : List ℕ} {g : ℕ} (c : HeldAt cells ps g) where
   run-named : {form : ℕ} → form ≡ formAt cells g → (form ≡ formNumber Buf → ⊥) → map sigOf (runAt cells ps g) ≡ named (orBuf (gateAt cells ps g))
   run-named e h = sym (tells .all-pins) ∙ all-named (c .gate) (λ q. h (e ∙ sym (tells .number) ∙ q)) ∙ ap named (as-held cells ps g (c .is))
 
-  run-is : {first count : ℕ} → CellIs (firstAt cells g) first → CellIs (countAt cells g) count → take (first + count - first) (drop first ps) ≡ runAt cells ps g
-  run-is {first} {count} h k =
-      let e : first + count - first ≡ count = omega arith in
-      ap (λ (i : ℕ). take i (drop first ps)) e ∙ ap₂ (λ (i j : ℕ). take i (drop j ps)) (k .cell) (h .cell)
-
   -- the signals of the run are those that the gate's text names
   pub run-marked : {form first count : ℕ} {gs is gs' is' : List ℕ} → form ≡ formAt cells g → (form ≡ formNumber Buf → ⊥) → CellIs (firstAt cells g) first
       → CellIs (countAt cells g) count → SignalsMarked (map sigOf (take (first + count - first) (drop first ps))) gs is gs' is'
       → SignalsMarked (named (orBuf (gateAt cells ps g))) gs is gs' is'
-  run-marked e n h k v = as-marked (ap (map sigOf) (run-is h k) ∙ run-named e n) v
+  run-marked e n h k v = as-marked (ap (map sigOf) (cut-run cells ps g h k) ∙ run-named e n) v

@@ -14,8 +14,8 @@ use Rattle.gates.specs.declared.Gate as code
 use Rattle.gates.specs.declared.Gate.the-variants as G
 use Rattle.gates.specs.declared.Decoded.{Decoded}
 use Rattle.gates.specs.declared.Decoded.the-variants.{Good, Bad}
-use Rattle.network.specs.Cells.{gateAt, orBuf, cellGates}
-use Rattle.network.proofs.GateRead.{cell-gate}
+use Rattle.network.specs.Cells.{gateAt, decodedAt, orBuf, cellGates}
+use Rattle.network.proofs.GateRead.{decoded-is, cell-gate}
 use Rattle.blif_model.specs.Names.{nameBytes}
 use Rattle.blif_model.specs.Write.{combBlock, combBlocks, latchBlocks, wide}
 use Rattle.blif_model.specs.Render.{line, blockLines, allLines}
@@ -26,15 +26,15 @@ use Rattle.blif_write.proofs.Told.{held-is}
 
 -- ---- gates read one after the other
 
-pub read-bad : {cells ps : List ℕ} {g : ℕ} {r : Decoded} → HeldAt cells ps g → decodedIn r ps ≡ gateAt cells ps g → r ≡ Bad → ⊥
+pub read-bad : {cells ps : List ℕ} {g : ℕ} {r : Decoded} → HeldAt cells ps g → r ≡ decodedAt cells ps g → r ≡ Bad → ⊥
 read-bad {cells} {ps} {g} {r} w e b =
-    let q : none ≡ some (w .gate) = ap (λ (z : Decoded). decodedIn z ps) (sym b) ∙ e ∙ w .is in
+    let q : none ≡ some (w .gate) = ap (λ (z : Decoded). decodedIn z ps) (sym b) ∙ decoded-is cells ps g e ∙ w .is in
     let z : _≡_ {A = ℕ} 0 1 = cc in
     omega arith
 
-pub read-good : (cells ps : List ℕ) (g : ℕ) {r : Decoded} {x : code.Gate} → decodedIn r ps ≡ gateAt cells ps g → r ≡ Good x
+pub read-good : (cells ps : List ℕ) (g : ℕ) {r : Decoded} {x : code.Gate} → r ≡ decodedAt cells ps g → r ≡ Good x
     → gateIn x ps ≡ orBuf (gateAt cells ps g)
-read-good cells ps g e h = ap orBuf (ap (λ (z : Decoded). decodedIn z ps) (sym h) ∙ e)
+read-good cells ps g e h = ap orBuf (ap (λ (z : Decoded). decodedIn z ps) (sym h) ∙ decoded-is cells ps g e)
 
 -- the gates from gate g on: the first, then the others; and none
 pub cells-next : (cells ps : List ℕ) {n g : ℕ} → g < n → cellGates cells ps g (n - g) ≡ orBuf (gateAt cells ps g) ∷ cellGates cells ps (g + 1) (n - (g + 1))

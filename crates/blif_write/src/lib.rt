@@ -10,17 +10,16 @@ use gates::Decoded;
 use gates::Gate;
 use gates::NARY_XNOR;
 use gates::NARY_XOR;
-use gates::PinRun;
 use network::Counts;
 use signal::Signal;
 ghost use mathlib.Core.Path.{_≡_};
-ghost use mathlib.Core.Bool.{false};
+ghost use mathlib.Core.Bool.{true, false};
 ghost use mathlib.Core.List.{[], _++_, map};
-ghost use Prim.Native.Nat.{_+_, _≤_, _<_, min};
+ghost use Prim.Native.Nat.{_≤_, _<_, min};
 ghost use lib.ListN.{length};
 ghost use Rattle.lists.specs.Lists.{any};
 ghost use Rattle.signal.specs.Cell.{sigOf};
-ghost use Rattle.gates.specs.Decode.{gateIn};
+ghost use Rattle.gates.specs.Decode.{runWithin, gateIn};
 ghost use Rattle.network.specs.Cells.{maxGates, maxInputs, gateAt, orBuf, cellGates, cellNet, lent};
 ghost use Rattle.blif_text.specs.Places.{maxText};
 ghost use Rattle.blif_model.specs.Names.{nameBytes};
@@ -68,38 +67,17 @@ fn latch_at(out: &mut [u8], gates: &[u32], pins: &[u32], g: usize) -> usize
     write_latch(out, gate, g)
 }
 
-// Where a run starts among n pins.
-fn run_start(run: PinRun, n: usize) -> usize
-    ensures { λ r. ⌜ r ≡ min (run .first) n ⌝ }
-{
-    if run.first > n {
-        return n;
-    }
-    run.first
-}
-
-// Where a run ends among n pins.
-fn run_end(run: PinRun, n: usize) -> usize
-    ensures { λ r. ⌜ r ≡ min (min (run .first) n + run .count) n ⌝ }
-{
-    let start = run_start(run, n);
-    if run.count > n - start {
-        return n;
-    }
-    start + run.count
-}
-
 // Writes the cover of a combinational gate, and nothing for a flip-flop.
 fn write_cover(out: &mut [u8], gate: Gate, pins: &[u32], g: usize) -> usize
-    requires { ⌜ (g < maxGates) × (wide (gateIn gate (now pins)) ≡ false) ⌝ }
+    requires { ⌜ (g < maxGates) × (runWithin gate (now pins) ≡ true) × (wide (gateIn gate (now pins)) ≡ false) ⌝ }
     ensures { λ r. ⌜ Wrote (coverText g (gateIn gate (now (pins .entry)))) (now (out .entry)) (now (out .exit)) r ⌝ }
 {
     match gate {
         Gate::Binary(t, a, b) => blif_put::write_binary(out, t, a, b, g),
         Gate::Ternary(t, a, b, c) => blif_put::write_ternary(out, t, a, b, c, g),
         Gate::Nary(t, run) => {
-            let start = run_start(run, pins.len());
-            let end = run_end(run, pins.len());
+            let start = run.first;
+            let end = start + run.count;
             blif_put::write_nary(out, t, &pins[start..end], g)
         }
         Gate::Buf(s) => blif_put::write_buf(out, s, g),

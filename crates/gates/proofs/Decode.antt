@@ -1,13 +1,13 @@
 -- The code's `Gate` and the data `Gate`: a kind with its pins is the gate of its number and pins. Assumes nothing.
-use mathlib.Core.Path.{_≡_, refl, sym, ap, _∙_, subst}
-use mathlib.Core.Bool.{Bool, true, false, cond, false≢true, true≢false}
+use mathlib.Core.Path.{_≡_, refl, sym, ap, _∙_}
+use mathlib.Core.Bool.{Bool, true, false, false≢true, true≢false}
 use mathlib.Core.List.{List, [], _∷_, map}
-use mathlib.Core.Option.{Option, none, some}
-use Prim.Native.Nat.{ℕ, zero, suc, _+_, _≤_, _<_}
+use mathlib.Core.Option.{none, some}
+use Prim.Native.Nat.{ℕ, suc, _+_, _≤_}
 use native.Mathlib.Omega.{arith}
 use lib.Dec.{eqb}
 use lib.ListN.{length, getD, take, drop, length-map, List·getD-eq-default}
-use borrow.Author.Tests.{eqb-true, eq-eqb}
+use borrow.Author.Tests.{eqb-true, eq-eqb, le-leb}
 use Rattle.lists.proofs.Tests.{by-test}
 use Rattle.gates.proofs.Forms.{binary-count, ternary-count}
 use Rattle.signal.specs.declared.Signal as code
@@ -16,7 +16,7 @@ use Rattle.signal.specs.Cell.{sigOf}
 use Rattle.gates.specs.Gate as data-gate
 use Rattle.gates.specs.Gate.{Comb, Dff, Buf, isComb}
 use Rattle.gates.specs.Forms.{canHave, formCell, binaryForm, ternaryForm, naryForm, kindOf, kindNumber, kindTakes, combFrom, flopFrom, gateOfKind, gateFrom}
-use Rattle.gates.specs.Decode.{runOf, gateIn, decodedIn, kindOfGate, kindComb, cellSignal, kindGate, withPins}
+use Rattle.gates.specs.Decode.{runWithin, gateIn, decodedIn, kindOfGate, kindComb, cellSignal, kindGate, withPins}
 use Rattle.gates.specs.declared.Gate.{Gate}
 use Rattle.gates.specs.declared.Gate.the-variants as G
 use Rattle.gates.specs.declared.Kind.{Kind}
@@ -102,6 +102,30 @@ module _ (pins : List ℕ) (i : ℕ) (ps : List ℕ) (run : RunAt pins i ps) whe
       by-test (kindTakes (kindOf n) (length ps))
       (λ t. ap (λ (d : Decoded). decodedIn d pins) (sym (with-some (kindOf n) i ps t)) ∙ kind-in (kindOf n) t)
       (λ t. ap (λ (d : Decoded). decodedIn d pins) (sym (with-none (kindOf n) i ps t)) ∙ none-kind ps (kindOf n) t)
+
+-- ---- the run of a gate that was decoded
+
+-- the gate's run, where there is a gate, ends within these pin cells
+abbrev within : Decoded → List ℕ → Bool
+within (Good g) pins = runWithin g pins
+within Bad pins = true
+
+module _ (i : ℕ) (ps pins : List ℕ) (h : i + length ps ≤ length pins) where
+  kind-within : (k : Kind) → within (kindGate k i ps) pins ≡ true
+  kind-within (K.Binary t) = refl
+  kind-within (K.Ternary t) = refl
+  kind-within (K.Nary t) = le-leb (i + length ps) (length pins) h
+  kind-within K.Buf = refl
+  kind-within K.Dff = refl
+  kind-within K.Unknown = refl
+
+  -- a kind with the pins of a run that ends within the cells
+  pub run-decoded : (k : Kind) {g : Gate} → withPins k i ps ≡ Good g → runWithin g pins ≡ true
+  run-decoded k e =
+      ap (λ (d : Decoded). within d pins) (sym e)
+      ∙ by-test (kindTakes k (length ps))
+      (λ t. ap (λ (d : Decoded). within d pins) (sym (with-some k i ps t)) ∙ kind-within k)
+      (λ t. ap (λ (d : Decoded). within d pins) (sym (with-none k i ps t)))
 
 -- ---- combinational or not
 

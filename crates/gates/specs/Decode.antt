@@ -3,7 +3,8 @@
 use mathlib.Core.Bool.{Bool, true, false, cond}
 use mathlib.Core.List.{List, [], _∷_, map}
 use mathlib.Core.Option.{Option, none, some}
-use Prim.Native.Nat.{ℕ}
+use Prim.Native.Nat.{ℕ, _+_}
+use lib.Dec.{leb}
 use lib.ListN.{length, getD, take, drop}
 use Rattle.signal.specs.declared.Signal as code
 use Rattle.signal.specs.Signal.{Signal}
@@ -22,6 +23,14 @@ use Rattle.gates.specs.declared.Decoded.the-variants.{Good, Bad}
 -- the pins of a run
 abbrev pub runOf : PinRun → List ℕ → List ℕ
 runOf r pins = take (r .count) (drop (r .first) pins)
+
+-- a `Gate`'s run ends within these pin cells; only a Nary gate has a run
+abbrev pub runWithin : Gate → List ℕ → Bool
+runWithin (G.Binary t a b) pins = true
+runWithin (G.Ternary t a b c) pins = true
+runWithin (G.Nary t r) pins = leb (r .first + r .count) (length pins)
+runWithin (G.Buf a) pins = true
+runWithin (G.Dff d e r) pins = true
 
 -- the gate that a `Gate` stands for beside these pin cells
 abbrev pub gateIn : Gate → List ℕ → data-gate.Gate

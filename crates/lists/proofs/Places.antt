@@ -1,12 +1,11 @@
 -- Elements by their place in a list. Assumes nothing.
 use mathlib.Core.Path.{_≡_, refl, sym, ap, ap₂, _∙_, subst}
 use mathlib.Core.List.{List, [], _∷_, _++_, map, flatMap, append-assoc, List·Memᴰ, List·Memᴰ·head, List·Memᴰ·tail}
-use mathlib.Core.Option.{Option, none, some, Option·none-ne-some}
-use mathlib.Core.Logic.{_⊎_, inl, inr}
-use Prim.Native.Nat.{ℕ, zero, suc, _+_, _≤_, _<_}
+use mathlib.Core.Option.{some, Option·none-ne-some}
+use Prim.Native.Nat.{ℕ, zero, suc, _+_, _-_, _≤_, _<_}
 use native.Mathlib.Omega.{arith}
-use native.Mathlib.Nat.{zero-add, add-zero, add-suc, suc-add}
-use lib.ListN.{length, getD, getElem?, take, drop, length-map, length-take, length-drop}
+use native.Mathlib.Nat.{zero-add, suc-add}
+use lib.ListN.{length, getD, getElem?, take, drop, length-take, length-drop}
 use lib.Seq.{take-take, drop-cons, length-take-le, take-append-seam, drop-append-seam}
 use native.Mathlib.Numerals.{add-one}
 
@@ -99,6 +98,10 @@ module _ {A : Type 0} where
     sym (take-append-seam a b) ∙ ap₂ take l e ∙ take-append-seam c d,
     sym (drop-append-seam a b) ∙ ap₂ drop l e ∙ drop-append-seam c d,
   )
+
+  -- the part from n to n + k is the run of k elements
+  pub part-run : (n k : ℕ) (l : List A) → take (n + k - n) (drop n l) ≡ take k (drop n l)
+  part-run n k l = let e : n + k - n ≡ k = omega arith in ap (λ (m : ℕ). take m (drop n l)) e
 
   -- a run of k elements that ends within the list
   pub length-run : (n k : ℕ) (l : List A) → n + k ≤ length l → length (take k (drop n l)) ≡ k

@@ -1,49 +1,82 @@
--- A gate that can be read out of the cells: its record and its run of pins are there, its pins are the run's, and it is one of the gates
--- that the cells hold. Assumes nothing.
+-- What `gate_at` answers, and a gate that can be read out of the cells: its record and its run of pins are there, its pins are the run's, and
+-- it is one of the gates that the cells hold. Assumes nothing.
 use mathlib.Core.Path.{_≡_, sym, ap, _∙_}
-use mathlib.Core.Bool.{Bool, true, _&&_, cond}
+use mathlib.Core.Bool.{Bool, true}
 use mathlib.Core.List.{List, map}
-use mathlib.Core.Option.{Option, none, some, Option·none-ne-some}
-use Prim.Native.Nat.{ℕ, _+_, _*_, _<_}
+use mathlib.Core.Option.{Option, some, Option·none-ne-some}
+use Prim.Native.Nat.{ℕ, _+_, _*_, _≤_, _<_}
+use native.Mathlib.Omega.{arith}
 use native.Mathlib.Nat.{zero-add}
 use lib.Dec.{leb, ltb}
-use lib.ListN.{length, getElem?, length-map}
+use lib.ListN.{length, take, drop, getElem?, length-map}
 use borrow.Author.Tests.{ltb-true, leb-true}
 use Rattle.lists.specs.Lists.{range}
 use Rattle.lists.proofs.Tests.{by-test, and-left, and-right}
+use Rattle.lists.proofs.Places.{length-run}
 use Rattle.lists.proofs.Range.{length-range, map-range}
 use Rattle.signal.specs.Cell.{sigOf}
 use Rattle.gates.specs.Gate.{Gate, pins}
-use Rattle.gates.specs.Forms.{gateFrom}
+use Rattle.gates.specs.Forms.{kindOf}
+use Rattle.gates.specs.Decode.{runWithin, decodedIn}
+use Rattle.gates.specs.declared.Gate as code
+use Rattle.gates.specs.declared.Decoded.{Decoded}
+use Rattle.gates.specs.declared.Decoded.the-variants.{Good, Bad}
 use Rattle.gates.proofs.Forms.{From, gate-from}
-use Rattle.network.specs.Cells.{gateWidth, formAt, firstAt, countAt, runAt, gateAt, orBuf, cellGates, HasRun}
+use Rattle.gates.proofs.Decode.{RunAt, decode-is, run-decoded}
+use Rattle.network.specs.Cells.{gateWidth, formAt, firstAt, countAt, runAt, hasRun, gateAt, decodedAt, orBuf, cellGates, HasRun}
+use Rattle.network.proofs.RecordCells.{gate-some, decoded-some, gate-none, decoded-none}
+
+-- what the test for a record and its run gives
+there : (cells ps : List ℕ) (g : ℕ) → hasRun cells ps g ≡ true → HasRun cells ps g
+there cells ps g t =
+    let first : Bool = ltb (g * gateWidth + 2) (length cells) in
+    let last : Bool = leb (firstAt cells g + countAt cells g) (length ps) in
+    record {
+      cells = ltb-true (g * gateWidth + 2) (length cells) (and-left first last t);
+      within = leb-true (firstAt cells g + countAt cells g) (length ps) (and-right first last t);
+    }
+
+-- ---- what `gate_at` answers
+
+module _ (cells ps : List ℕ) (g : ℕ) where
+  run-length : hasRun cells ps g ≡ true → length (runAt cells ps g) ≡ countAt cells g
+  run-length t = length-run (firstAt cells g) (countAt cells g) ps (there cells ps g t .within)
+
+  -- it stands for gate g of the cells
+  pub decodedIn-decodedAt : decodedIn (decodedAt cells ps g) ps ≡ gateAt cells ps g
+  decodedIn-decodedAt =
+      by-test (hasRun cells ps g)
+      (λ t.
+      let run : RunAt ps (firstAt cells g) (runAt cells ps g) = ap (λ (k : ℕ). take k (drop (firstAt cells g) ps)) (run-length t) in
+      ap (λ (d : Decoded). decodedIn d ps) (decoded-some cells ps g t)
+      ∙ decode-is ps (firstAt cells g) (runAt cells ps g) run (formAt cells g)
+      ∙ sym (gate-some cells ps g t))
+      (λ t. ap (λ (d : Decoded). decodedIn d ps) (decoded-none cells ps g t) ∙ sym (gate-none cells ps g t))
+
+  module _ {d : Decoded} (e : d ≡ decodedAt cells ps g) where
+    pub decoded-is : decodedIn d ps ≡ gateAt cells ps g
+    decoded-is = ap (λ (x : Decoded). decodedIn x ps) e ∙ decodedIn-decodedAt
+
+    -- its run ends within the pins
+    pub decoded-within : {x : code.Gate} → d ≡ Good x → runWithin x ps ≡ true
+    decoded-within {x} h =
+        by-test (hasRun cells ps g)
+        (λ t.
+        let n : firstAt cells g + length (runAt cells ps g) ≤ length ps = omega (arith, run-length t, there cells ps g t .within) in
+        run-decoded (firstAt cells g) (runAt cells ps g) ps n (kindOf (formAt cells g)) (sym (decoded-some cells ps g t) ∙ sym e ∙ h))
+        (λ t. absurd (let b : d ≡ Bad = e ∙ decoded-none cells ps g t in let z : _≡_ {A = ℕ} 0 1 = cc in omega arith))
+
+-- ---- a gate that can be read
 
 module _ (cells ps : List ℕ) (g : ℕ) (x : Gate) (e : gateAt cells ps g ≡ some x) where
-  abbrev first : Bool
-  first = ltb (g * gateWidth + 2) (length cells)
-
-  abbrev last : Bool
-  last = leb (firstAt cells g + countAt cells g) (length ps)
-
-  abbrev inside : Bool
-  inside = first && last
-
-  opened : cond inside (gateFrom (formAt cells g) (map sigOf (runAt cells ps g))) none ≡ some x
-  unfolding gateAt
-  opened = e
-
-  is-inside : inside ≡ true
-  is-inside = by-test inside (λ t. t) (λ t. absurd (Option·none-ne-some x (rw t at opened)))
+  is-there : hasRun cells ps g ≡ true
+  is-there = by-test (hasRun cells ps g) (λ t. t) (λ t. absurd (Option·none-ne-some x (sym (gate-none cells ps g t) ∙ e)))
 
   pub has-run : HasRun cells ps g
-  has-run =
-      record {
-        cells = ltb-true (g * gateWidth + 2) (length cells) (and-left first last is-inside);
-        within = leb-true (firstAt cells g + countAt cells g) (length ps) (and-right first last is-inside);
-      }
+  has-run = there cells ps g is-there
 
   pub gate-is : From (formAt cells g) (map sigOf (runAt cells ps g)) x
-  gate-is = gate-from (formAt cells g) (map sigOf (runAt cells ps g)) x (rw is-inside at opened)
+  gate-is = gate-from (formAt cells g) (map sigOf (runAt cells ps g)) x (sym (gate-some cells ps g is-there) ∙ e)
 
   pub run-pins : length (runAt cells ps g) ≡ length (pins x)
   run-pins = sym (length-map (runAt cells ps g) sigOf) ∙ ap length (sym (gate-is .all-pins))

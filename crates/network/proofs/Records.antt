@@ -10,19 +10,19 @@ use lib.Dec.{eqb, leb, ltb}
 use lib.ListN.{length, take, drop}
 use borrow.Author.Tests.{le-leb, lt-leb, le-ltb, leb-true}
 use Rattle.lists.proofs.Tests.{and-false, and-left, and-right}
-use Rattle.lists.proofs.Places.{length-run}
+use Rattle.lists.proofs.Places.{part-run}
 use Rattle.lists.proofs.Range.{TestedTo, to-start, to-next, to-fails, to-done}
 use Rattle.signal.specs.Signal.{Node, Const, Input, Gated, inputNode, gateNode}
 use Rattle.signal.specs.Cell.{nodeOf, inputNumber, gateNumber}
 use Rattle.signal.proofs.Cells.{input-number, gate-number}
 use Rattle.gates.specs.Forms.{kindOf, kindTakes}
-use Rattle.gates.specs.Decode.{decodedIn, withPins}
+use Rattle.gates.specs.Decode.{withPins}
 use Rattle.gates.specs.declared.Kind.{Kind}
 use Rattle.gates.specs.declared.Decoded.{Decoded}
-use Rattle.gates.proofs.Decode.{RunAt, decode-is}
-use Rattle.network.specs.Cells.{maxInputs, maxOutputs, maxGates, maxPins, WithinSizes, gateWidth, formAt, firstAt, countAt, runAt, CellIs, gateAt, sizesFit, startAt, recordFits, recordsFit, validNode, allValid, lent, isNetwork}
+use Rattle.gates.specs.declared.Decoded.the-variants.{Bad}
+use Rattle.network.specs.Cells.{maxInputs, maxOutputs, maxGates, maxPins, WithinSizes, gateWidth, formAt, firstAt, countAt, runAt, CellIs, hasRun, gateAt, decodedAt, sizesFit, startAt, recordFits, recordsFit, validNode, allValid, lent, isNetwork}
 use Rattle.network.specs.declared.Counts.{Counts}
-use Rattle.network.proofs.RecordCells.{gate-there}
+use Rattle.network.proofs.RecordCells.{gate-none, decoded-none, decoded-there}
 
 -- ---- valid signals
 
@@ -126,35 +126,37 @@ module _ {cells : List ℕ} {n at g : ℕ} (c : Following cells n at g) where
 -- ---- one gate
 
 module _ (cells pins : List ℕ) (g : ℕ) where
+  record-past : length cells / 3 ≤ g → hasRun cells pins g ≡ false
+  record-past h = rw (le-ltb (g * gateWidth + 2) (length cells) (omega arith))
+
   pub no-record : length cells / 3 ≤ g → none ≡ gateAt cells pins g
-  unfolding gateAt
-  no-record h = rw (le-ltb (g * gateWidth + 2) (length cells) (omega arith))
+  no-record h = sym (gate-none cells pins g (record-past h))
+
+  pub bad-record : length cells / 3 ≤ g → Bad ≡ decodedAt cells pins g
+  bad-record h = sym (decoded-none cells pins g (record-past h))
 
   module _ {first count : ℕ} (f : CellIs (firstAt cells g) first) (c : CellIs (countAt cells g) count) where
     pub end-is : firstAt cells g + countAt cells g ≡ first + count
     end-is = sym (ap₂ _+_ (f .cell) (c .cell))
 
+    run-past : length pins < first + count → hasRun cells pins g ≡ false
+    run-past h = rw (lt-leb (firstAt cells g + countAt cells g) (length pins) (omega (arith, end-is)), and-false (ltb (g * gateWidth + 2) (length cells)))
+
     pub no-run : length pins < first + count → none ≡ gateAt cells pins g
-    unfolding gateAt
-    no-run h = rw (lt-leb (firstAt cells g + countAt cells g) (length pins) (omega (arith, end-is)), and-false (ltb (g * gateWidth + 2) (length cells)))
+    no-run h = sym (gate-none cells pins g (run-past h))
+
+    pub bad-run : length pins < first + count → Bad ≡ decodedAt cells pins g
+    bad-run h = sym (decoded-none cells pins g (run-past h))
 
     -- the run from the first pin to the end, as the code cuts it
     pub cut-run : take (first + count - first) (drop first pins) ≡ runAt cells pins g
-    cut-run =
-        let k : first + count - first ≡ count = omega arith in
-        ap (λ (m : ℕ). take m (drop first pins)) k ∙ ap₂ (λ (m i : ℕ). take m (drop i pins)) (c .cell) (f .cell)
-
-    run-at : first + count ≤ length pins → RunAt pins (firstAt cells g) (runAt cells pins g)
-    run-at h =
-        let k : length (runAt cells pins g) ≡ countAt cells g = length-run (firstAt cells g) (countAt cells g) pins (omega (arith, end-is)) in
-        ap (λ (m : ℕ). take m (drop (firstAt cells g) pins)) k
+    cut-run = part-run first count pins ∙ ap₂ (λ (m i : ℕ). take m (drop i pins)) (c .cell) (f .cell)
 
     pub gate-read : {form : ℕ} {k : Kind} {d : Decoded} → g < length cells / 3 → first + count ≤ length pins → form ≡ formAt cells g → k ≡ kindOf form
-        → d ≡ withPins k first (take (first + count - first) (drop first pins)) → decodedIn d pins ≡ gateAt cells pins g
+        → d ≡ withPins k first (take (first + count - first) (drop first pins)) → d ≡ decodedAt cells pins g
     gate-read h l p q e =
-        ap (λ (x : Decoded). decodedIn x pins) (e ∙ (λ i. withPins ((q ∙ ap kindOf p) i) (f .cell i) (cut-run i)))
-        ∙ decode-is pins (firstAt cells g) (runAt cells pins g) (run-at l) (formAt cells g)
-        ∙ sym (gate-there cells pins g (omega arith) (omega (arith, end-is)))
+        e ∙ (λ i. withPins ((q ∙ ap kindOf p) i) (f .cell i) (cut-run i))
+        ∙ sym (decoded-there cells pins g (omega arith) (omega (arith, end-is)))
 
 -- ---- all of refusal 20
 

@@ -1,17 +1,20 @@
 -- A network in lent cells, and what refusal 20 asks of them (document 01, "Sizes, and the reading and writing operations").
 -- Assumes nothing: these are definitions.
 use mathlib.Core.Path.{_≡_}
-use mathlib.Core.Bool.{Bool, true, false, _&&_, cond}
-use mathlib.Core.List.{List, [], _∷_, _++_, map, flatMap}
+use mathlib.Core.Bool.{Bool, true, _&&_, cond}
+use mathlib.Core.List.{List, [], _∷_, _++_, map}
 use mathlib.Core.Option.{Option, none, some}
 use Prim.Native.Nat.{ℕ, _+_, _*_, _^_, _<_, _≤_}
 use lib.Dec.{eqb, leb, ltb}
 use lib.ListN.{length, getD, take, drop}
 use Rattle.lists.specs.Lists.{all, range, sumTo}
-use Rattle.signal.specs.Signal.{Node, Const, Input, Gated, Signal}
+use Rattle.signal.specs.Signal.{Node, Const, Input, Gated}
 use Rattle.signal.specs.Cell.{sigCell, nodeOf, sigOf}
 use Rattle.gates.specs.Gate.{Buf, Gate, Comb, pins}
 use Rattle.gates.specs.Forms.{formCell, kindOf, kindTakes, gateFrom}
+use Rattle.gates.specs.Decode.{withPins}
+use Rattle.gates.specs.declared.Decoded.{Decoded}
+use Rattle.gates.specs.declared.Decoded.the-variants.{Bad}
 use Rattle.network.specs.Net.{Net, netFrom}
 use Rattle.network.specs.declared.Counts.{Counts}
 
@@ -73,12 +76,17 @@ pub record CellIs (x r : ℕ) : Type 0 where
 abbrev pub runAt : List ℕ → List ℕ → ℕ → List ℕ
 runAt cells pinCells g = take (countAt cells g) (drop (firstAt cells g) pinCells)
 
+-- gate g's record is within the cells, and its run within the pins
+abbrev pub hasRun : List ℕ → List ℕ → ℕ → Bool
+hasRun cells pinCells g = ltb (g * gateWidth + 2) (length cells) && leb (firstAt cells g + countAt cells g) (length pinCells)
+
 -- gate g of the cells; none where its record or its run is not within them, the form is unknown, or it cannot have so many pins
 unfoldable pub gateAt : List ℕ → List ℕ → ℕ → Option Gate
-gateAt cells pinCells g =
-    cond (ltb (g * gateWidth + 2) (length cells) && leb (firstAt cells g + countAt cells g) (length pinCells))
-    (gateFrom (formAt cells g) (map sigOf (runAt cells pinCells g)))
-    none
+gateAt cells pinCells g = cond (hasRun cells pinCells g) (gateFrom (formAt cells g) (map sigOf (runAt cells pinCells g))) none
+
+-- the same as the code's `Gate`, a Nary gate with the run that its record has: the first pin of a run without pins is the record's too
+unfoldable pub decodedAt : List ℕ → List ℕ → ℕ → Decoded
+decodedAt cells pinCells g = cond (hasRun cells pinCells g) (withPins (kindOf (formAt cells g)) (firstAt cells g) (runAt cells pinCells g)) Bad
 
 -- the cells of gates, the first one's pins starting at cell `at`
 unfoldable pub gateCells : ℕ → List Gate → List ℕ

@@ -8,8 +8,7 @@ ghost use Prim.Native.Nat.{_+_, _*_, _≤_, _<_};
 ghost use lib.ListN.{length};
 ghost use Rattle.lists.specs.Lists.{overAt};
 ghost use Rattle.signal.specs.Cell.{nodeOf};
-ghost use Rattle.gates.specs.Decode.{decodedIn};
-ghost use Rattle.network.specs.Cells.{gateWidth, maxGates, maxPins, formAt, firstAt, countAt, gateAt, CellIs, lent, sizesFit, startAt, recordFits, recordsFit, validNode, allValid, isNetwork};
+ghost use Rattle.network.specs.Cells.{gateWidth, maxGates, maxPins, formAt, firstAt, countAt, decodedAt, CellIs, lent, sizesFit, startAt, recordFits, recordsFit, validNode, allValid, isNetwork};
 
 pub const MAX_INPUTS: usize = 256;
 
@@ -166,7 +165,7 @@ pub fn check_layout(counts: Counts, gates: &[u32], pins: &[u32], outputs: &[u32]
 
 // Gate g of the cells.
 pub fn gate_at(gates: &[u32], pins: &[u32], g: usize) -> Decoded
-    ensures { λ r. ⌜ decodedIn r (now (pins .entry)) ≡ gateAt (now (gates .entry)) (now (pins .entry)) g ⌝ }
+    ensures { λ r. ⌜ r ≡ decodedAt (now (gates .entry)) (now (pins .entry)) g ⌝ }
 {
     if g >= gates.len() / GATE_CELLS {
         return Decoded::Bad;

@@ -1,5 +1,6 @@
 -- `cover_at` reads the gate unless its form is the flip-flop's. Assumes nothing.
 use mathlib.Core.Path.{_∙_, ap}
+use Rattle.network.proofs.GateRead.{decoded-within}
 use Rattle.blif_names.proofs.Laws.{as-wrote, wrote-nothing}
 use Rattle.blif_model.specs.Write.{wide}
 use Rattle.blif_write.specs.Parts.{coverText}
@@ -33,7 +34,12 @@ write-cover-requires : tie.Need-write-cover-requires
 write-cover-requires c κs =
     let pre = c .before .before .before .before .before .before .before .before .before .before .pre in
     let args = c .before .before .before .before .before .before .before .before .before .before .args in
-    (pre .0 .low, ap wide (read-good (args .gates .now) (args .pins .now) (args .g) (c .before .before .before .before .gate-at .ensures) (c .before .before .gate .given .1)) ∙ pre .1)
+    let decoded = c .before .before .before .before .gate-at .ensures in
+    let is = c .before .before .gate .given .1 in (
+      pre .0 .low,
+      decoded-within (args .gates .now) (args .pins .now) (args .g) decoded is,
+      ap wide (read-good (args .gates .now) (args .pins .now) (args .g) decoded is) ∙ pre .1,
+    )
 
 same-length : tie.Need-same-length
 same-length c = search needs

@@ -1,9 +1,24 @@
 -- `write_cover` writes the cover by the gate's kind. Assumes nothing.
+use Prim.Native.Nat.{_+_, _≤_}
+use native.Mathlib.Omega.{arith}
 use borrow.Author.Needs.{needs}
+use lib.ListN.{length}
+use Rattle.gates.specs.declared.PinRun.{PinRun}
 use Rattle.blif_names.proofs.Laws.{as-wrote, wrote-nothing}
-use Rattle.blif_write.proofs.Covers.{run-slice, narrow-run, cover-binary, cover-ternary, cover-nary, cover-buf, cover-dff}
+use Rattle.blif_write.proofs.Covers.{run-ends, narrow-run, cover-binary, cover-ternary, cover-nary, cover-buf, cover-dff}
 use Rattle.blif_write.proofs.write_cover.Statement.{statement}
 use Rattle.blif_write.proofs.write_cover.Tie as tie
+
+-- the entry, from where a Nary gate's run is known
+abbrev entry : tie.After-struct-known → tie.Start
+entry c = c .before .before .before .before .before .before
+
+-- that run, and that it ends within the pins
+abbrev run : tie.After-struct-known → PinRun
+run c = c .before .before .gate3 .given .0 .1 .0
+
+ends : (c : tie.After-struct-known) → run c .first + run c .count ≤ length (entry c .args .pins .now)
+ends c = run-ends (entry c .args .pins .now) (c .before .before .gate3 .given .1) (entry c .pre .1)
 
 enum-known-gate : tie.Need-enum-known-gate
 enum-known-gate c = search needs
@@ -20,14 +35,11 @@ write-ternary-requires c κs = search needs
 enum-known-gate-3 : tie.Need-enum-known-gate-3
 enum-known-gate-3 c = search needs
 
-run-start-requires : tie.Need-run-start-requires
-run-start-requires c κs = search needs
-
-run-end-requires : tie.Need-run-end-requires
-run-end-requires c κs = search needs
+add-end : tie.Need-add-end
+add-end c = omega (arith, ends c)
 
 mul-write-nary : tie.Need-mul-write-nary
-mul-write-nary c = search needs
+mul-write-nary c = omega (arith, ends (c .before))
 
 sub-write-nary : tie.Need-sub-write-nary
 sub-write-nary c = search needs
@@ -36,14 +48,12 @@ part-write-nary-start : tie.Need-part-write-nary-start
 part-write-nary-start c = search needs
 
 part-write-nary-end : tie.Need-part-write-nary-end
-part-write-nary-end c = search needs
+part-write-nary-end c = omega (arith, ends (c .before))
 
 write-nary-requires : tie.Need-write-nary-requires
 write-nary-requires c κs =
-    let pre = c .before .before .before .before .before .before .before .before .before .pre in
-    let args = c .before .before .before .before .before .before .before .before .before .args in
-    let gate3 = c .before .before .before .before .before .gate3 in
-    (pre .0, narrow-run (args .pins .now) _ (gate3 .given .1) (run-slice _ (args .pins .now) (c .before .before .before .run-start .ensures) (c .before .before .run-end .ensures)) (pre .1))
+    let start = entry (c .before .before) in
+    (start .pre .0, narrow-run (start .args .pins .now) (c .before .before .before .before .gate3 .given .1) (start .pre .2))
 
 enum-known-gate-4 : tie.Need-enum-known-gate-4
 enum-known-gate-4 c = search needs
@@ -77,11 +87,9 @@ same-length-3 c = search needs
 
 returns-3 : tie.Need-returns-3
 returns-3 c =
-    let args = c .before .before .before .before .before .before .before .before .before .before .before .before .args in
-    let gate3 = c .before .before .before .before .before .before .before .before .gate3 in
-    let run-start = c .before .before .before .before .before .before .run-start in
-    let run-end = c .before .before .before .before .before .run-end in
-    as-wrote (cover-nary (args .g) (args .pins .now) _ (gate3 .given .1) (run-slice _ (args .pins .now) (run-start .ensures) (run-end .ensures))) (c .before .before .write-nary .ensures)
+    let start = entry (c .before .before .before .before .before) in
+    let gate3 = c .before .before .before .before .before .before .before .gate3 in
+    as-wrote (cover-nary (start .args .g) (start .args .pins .now) (gate3 .given .1)) (c .before .before .write-nary .ensures)
 
 same-length-4 : tie.Need-same-length-4
 same-length-4 c = search needs
@@ -104,8 +112,7 @@ write-cover-spec =
     enum-known-gate-2
     write-ternary-requires
     enum-known-gate-3
-    run-start-requires
-    run-end-requires
+    add-end
     mul-write-nary
     sub-write-nary
     part-write-nary-start

@@ -1,18 +1,11 @@
 -- `gate_at` cuts the run out of the pins and decodes it. Assumes nothing.
-use Rattle.network.proofs.Records.{no-record, no-run, gate-read}
+use Rattle.network.proofs.Records.{bad-record, bad-run, gate-read}
 use borrow.Author.Needs.{needs}
 use Rattle.network.proofs.gate_at.Statement.{statement}
 use Rattle.network.proofs.gate_at.Tie as tie
-use Rattle.network.proofs.gate_at.Reads as reads
-use Rattle.network.proofs.gate_at.Lts as lts
-use Rattle.gates.proofs.Kind.with_pins.Reads as with-pins-reads
-use Rattle.gates.proofs.kind_of.Reads as kind-of-reads
-use Rattle.network.proofs.count_at.Reads as count-at-reads
-use Rattle.network.proofs.first_at.Reads as first-at-reads
-use Rattle.network.proofs.form_at.Reads as form-at-reads
 
 returns : tie.Need-returns
-returns c = no-record _ _ _ (c .if1 .taken)
+returns c = bad-record _ _ _ (c .if1 .taken)
 
 first-at-requires : tie.Need-first-at-requires
 first-at-requires c κs = search needs
@@ -24,7 +17,7 @@ add-end : tie.Need-add-end
 add-end c = search needs
 
 returns-2 : tie.Need-returns-2
-returns-2 c = no-run _ _ _ (c .before .before .first-at .ensures) (c .before .count-at .ensures) (c .if2 .taken)
+returns-2 c = bad-run _ _ _ (c .before .before .first-at .ensures) (c .before .count-at .ensures) (c .if2 .taken)
 
 form-at-requires : tie.Need-form-at-requires
 form-at-requires c κs = search needs

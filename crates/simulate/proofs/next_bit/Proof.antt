@@ -1,4 +1,5 @@
 -- `next_bit` decodes the gate. Assumes nothing.
+use Rattle.network.proofs.GateRead.{decoded-is}
 use Rattle.simulate.proofs.GateBits.{next-good, next-bad}
 use borrow.Author.Needs.{needs}
 use Rattle.simulate.proofs.next_bit.Statement.{statement}
@@ -18,15 +19,15 @@ enum-told c = search needs
 
 returns : tie.Need-returns
 returns c =
-    let args = c .before .before .before .before .before .before .before .before .before .args in
-    let a = args in
-    next-good (a .row .now) (a .bits .now) (a .gates .now) (a .pins .now) (a .g) (a .held) (c .before .before .before .before .gate-at .ensures) (c .before .before .gate .given .1) (c .next-of .ensures)
+    let a = c .before .before .before .before .before .before .before .before .before .args in
+    let decoded = decoded-is (a .gates .now) (a .pins .now) (a .g) (c .before .before .before .before .gate-at .ensures) in
+    next-good (a .row .now) (a .bits .now) (a .gates .now) (a .pins .now) (a .g) (a .held) decoded (c .before .before .gate .given .1) (c .next-of .ensures)
 
 returns-2 : tie.Need-returns-2
 returns-2 c =
-    let args = c .before .before .before .before .before .before .before .args in
-    let a = args in
-    next-bad (a .row .now) (a .bits .now) (a .gates .now) (a .pins .now) (a .g) (a .held) (c .before .before .gate-at .ensures) (c .enum-told .given .1)
+    let a = c .before .before .before .before .before .before .before .args in
+    let decoded = decoded-is (a .gates .now) (a .pins .now) (a .g) (c .before .before .gate-at .ensures) in
+    next-bad (a .row .now) (a .bits .now) (a .gates .now) (a .pins .now) (a .g) (a .held) decoded (c .enum-told .given .1)
 
 pub next-bit-spec : {M : Type 1} → statement M
 next-bit-spec =

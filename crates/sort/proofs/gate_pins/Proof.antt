@@ -1,9 +1,6 @@
 -- A gate's run is cut out of the pins. Assumes nothing.
-use mathlib.Core.Path.{_≡_, ap, ap₂, _∙_}
-use Prim.Native.Nat.{ℕ, _+_, _-_}
-use native.Mathlib.Omega.{arith}
-use lib.ListN.{take, drop}
 use borrow.Author.Needs.{needs}
+use Rattle.network.proofs.Records.{cut-run}
 use Rattle.sort.proofs.gate_pins.Statement.{statement}
 use Rattle.sort.proofs.gate_pins.Tie as tie
 
@@ -30,12 +27,8 @@ part-result-end c = search needs
 
 returns : tie.Need-returns
 returns c =
-    let ps = c .before .before .before .before .before .args .pins .now in
-    let f = c .before .before .first-at .result in
-    let k = c .before .count-at .result in
-    let e : f + k - f ≡ k = omega arith in
-    ap (λ (m : ℕ). take m (drop f ps)) e
-    ∙ ap₂ (λ (m i : ℕ). take m (drop i ps)) (c .before .count-at .ensures .cell) (c .before .before .first-at .ensures .cell)
+    let a = c .before .before .before .before .before .args in
+    cut-run (a .gates .now) (a .pins .now) (a .g) (c .before .before .first-at .ensures) (c .before .count-at .ensures)
 
 pub gate-pins-spec : {M : Type 1} → statement M
 gate-pins-spec =
