@@ -1,20 +1,23 @@
--- Laws for the sweeps that work a clock's bits out: bits that a sweep leaves as they were fit; a sweep makes the gates of one rank more
--- right, and where all are right it changes none, so that sweeps come to an end. Assumes nothing.
+-- Laws for the sweeps that work a clock's bits out: bits that a sweep leaves as they were fit, and a sweep leaves bits that fit as they
+-- were; a sweep makes the gates of one rank more right, so that sweeps enough settle. Assumes nothing.
 use mathlib.Core.Path.{_≡_, refl, sym, ap, _∙_, subst}
-use mathlib.Core.Bool.{Bool, true, false, not, Bool·beq, true≢false, false≢true}
-use mathlib.Core.List.{List}
-use Prim.Native.Nat.{ℕ, _+_, _≤_, _<_}
+use mathlib.Core.Bool.{Bool, true, false, not, _||_, Bool·beq, true≢false, false≢true}
+use mathlib.Core.List.{List, List·Memᴰ}
+use Prim.Native.Nat.{ℕ, zero, suc, _+_, _-_, _≤_, _<_}
 use native.Mathlib.Omega.{arith}
 use native.Mathlib.Decide.{ℕ-discrete}
-use lib.ListN.{length, getD, set, length-set}
+use native.Mathlib.Nat.{sub-zero}
+use native.Mathlib.Numerals.{add-one}
+use lib.ListN.{length, set, length-set}
 use lib.Seq.{getD-set-same, getD-set-other, set-getD}
-use Rattle.lists.proofs.Tests.{by-order, below-next}
-use Rattle.network.specs.Clock.{gateBit}
+use Rattle.lists.proofs.Tests.{by-order, by-test, below-next, or-left, or-right}
+use Rattle.signal.specs.Signal.{Gated, Signal}
+use Rattle.gates.specs.Gate.{Form, Comb}
+use Rattle.network.specs.Clock.{sigBit, gateBit}
 use Rattle.network.specs.Cells.{gateAt, orBuf}
 use Rattle.network.proofs.OneChoice.{gate-agrees}
-use Rattle.simulate.specs.Bits.{bitsOf, signalBit, FitTo, Target, RightTo, Swept, Settled}
-
--- ---- a sweep
+use Rattle.simulate.specs.Bits.{bitsOf, signalBit}
+use Rattle.simulate.specs.Sweep.{SweepOutcome, sweepOutcome, SettleOutcome, settleOutcome, bitOfGate, workOut, sweepTo, settleIn}
 
 beq-same : (b x : Bool) → not (Bool·beq b x) ≡ false → b ≡ x
 beq-same true true e = refl
@@ -22,153 +25,189 @@ beq-same true false e = absurd (true≢false e)
 beq-same false true e = absurd (true≢false e)
 beq-same false false e = refl
 
-beq-differ : (b x : Bool) → not (Bool·beq b x) ≡ true → b ≡ x → ⊥
-beq-differ true true e q = false≢true e
-beq-differ true false e q = true≢false q
-beq-differ false true e q = false≢true q
-beq-differ false false e q = false≢true e
+beq-self : (b : Bool) → (not (Bool·beq b b) || false) ≡ false
+beq-self true = refl
+beq-self false = refl
 
--- where the gates below g have been worked out: the bits are right to rank k, and those of these gates to one rank more
-pub record Nearing (n : ℕ) (s : ℕ → Bool) (rank : ℕ → ℕ) (k g : ℕ) (bits : List Bool) : Type 0 where
-  pub right : RightTo n s rank k bits
-  pub done : (j : ℕ) → j < g → rank j < k + 1 → bitsOf bits j ≡ s j
+module _ (cells pins : List ℕ) (row held : List Bool) where
+  abbrev bitAt : List Bool → ℕ → Bool
+  bitAt = bitOfGate cells pins row held
+
+  abbrev sweep : ℕ → List Bool → SweepOutcome
+  sweep = sweepTo cells pins row held
+
+  abbrev settle : ℕ → ℕ → List Bool → SettleOutcome
+  settle = settleIn cells pins row held
+
+  -- each of the first n gates has the bit that it should
+  abbrev pub FitTo : ℕ → List Bool → Type 0
+  FitTo n bits = (g : ℕ) → g < n → bitsOf bits g ≡ bitAt bits g
+
+  -- ---- a sweep
+
+  pub length-sweep : (n : ℕ) (bits : List Bool) → length (sweep n bits .bits) ≡ length bits
+  unfolding sweepTo
+  length-sweep zero bits = refl
+  length-sweep (suc g) bits = length-set (sweep g bits .bits) g (bitAt (sweep g bits .bits) g) ∙ length-sweep g bits
+
+  -- a sweep over n gates leaves the bits as they were, and they fit
+  pub record Still (n : ℕ) (bits : List Bool) : Type 0 where
+    pub same : sweep n bits .bits ≡ bits
+    pub fit : FitTo n bits
+
+  pub sweep-still : (n : ℕ) (bits : List Bool) → sweep n bits .changed ≡ false → Still n bits
+  unfolding sweepTo
+  sweep-still zero bits e = record { same = refl; fit = λ g l. absurd (omega arith) }
+  sweep-still (suc n) bits e =
+      let was : List Bool = sweep n bits .bits in
+      let so : Still n bits = sweep-still n bits (or-right (not (Bool·beq (bitAt was n) (bitsOf was n))) _ e) in
+      let here : bitAt was n ≡ bitsOf was n = beq-same _ _ (or-left _ (sweep n bits .changed) e) in
+      record {
+        same = ap (set was n) here ∙ set-getD was n false ∙ so .same;
+        fit = λ g l.
+            below-next (λ j. bitsOf bits j ≡ bitAt bits j) n (so .fit) (subst (λ (bs : List Bool). bitsOf bs n ≡ bitAt bs n) (so .same) (sym here)) g (omega arith);
+      }
+
+  pub fit-sweep : (n : ℕ) (bits : List Bool) → FitTo n bits → sweep n bits ≡ sweepOutcome false bits
+  unfolding sweepTo
+  fit-sweep zero bits fit = refl
+  fit-sweep (suc n) bits fit =
+      let x : Bool = bitsOf bits n in
+      ap (workOut cells pins row held n) (fit-sweep n bits (λ g l. fit g (omega arith)))
+      ∙ ap (λ (b : Bool). sweepOutcome (not (Bool·beq b x) || false) (set bits n b)) (sym (fit n (omega arith)))
+      ∙ cc (set-getD bits n false, beq-self x)
+
+  -- ---- sweeps
+
+  module _ (k n : ℕ) (bits : List Bool) where
+    pub settle-more : sweep n bits .changed ≡ true → settle (suc k) n bits ≡ settle k n (sweep n bits .bits)
+    unfolding settleIn
+    settle-more e = rw e
+
+    pub settle-now : sweep n bits .changed ≡ false → settle (suc k) n bits ≡ settleOutcome true (sweep n bits .bits)
+    unfolding settleIn
+    settle-now e = rw e
+
+  -- bits that have settled fit
+  pub settle-fit : (k n : ℕ) (bits : List Bool) → settle k n bits .settled ≡ true → FitTo n (settle k n bits .bits)
+  unfolding settleIn
+  settle-fit zero n bits e = absurd (false≢true e)
+  settle-fit (suc k) n bits e =
+      by-test (sweep n bits .changed)
+      (λ c. rw c (settle-fit k n (sweep n bits .bits) (rw c at e)))
+      (λ c. let so : Still n bits = sweep-still n bits c in rw c (rw (so .same) (so .fit)))
+
+  -- ---- sweeps come to an end
+
+  -- bits s that fit ("just one choice fits"), and a rank of each gate above those of its inputs, as a network without a loop has them
+  pub record Target (n : ℕ) (s : ℕ → Bool) (rank : ℕ → ℕ) : Type 0 where
+    -- each gate has the bit that it should
+    pub fits : (g : ℕ) → g < n → s g ≡ gateBit (sigBit row s) (bitsOf held g) (orBuf (gateAt cells pins g))
+    -- a combinational gate's gate inputs are of lower rank
+    pub rises : (g h : ℕ) (f : Form) (ps : List Signal) (t : Signal) → g < n → orBuf (gateAt cells pins g) ≡ Comb f ps → List·Memᴰ t ps → t .node ≡ Gated h
+        → rank h < rank g
+
+  module _ {n : ℕ} {s : ℕ → Bool} {rank : ℕ → ℕ} (t : Target n s rank) where
+    -- each gate of a rank below k has the bit that it should, and so has each number that is no gate's
+    abbrev pub RightTo : ℕ → List Bool → Type 0
+    RightTo k bits = (g : ℕ) → (g < n → rank g < k) → bitsOf bits g ≡ s g
+
+    -- where those of lower rank are right, what a gate's form makes of them is right
+    right-bit : (bits : List Bool) (g : ℕ) → g < n → ((h : ℕ) → rank h < rank g → bitsOf bits h ≡ s h) → bitAt bits g ≡ s g
+    right-bit bits g l low =
+        gate-agrees row (bitsOf bits) s (bitsOf held g) (orBuf (gateAt cells pins g)) (λ f p h e m q. low h (t .rises g h f _ p l e m q)) ∙ sym (t .fits g l)
+
+    -- a sweep that has worked out the gates below g: these are right up to rank k, the others below it
+    near : (k : ℕ) (bits : List Bool) → n ≤ length bits → RightTo k bits → (g : ℕ) → g ≤ n
+        → (j : ℕ) → (j < n → rank j ≤ k) → (g ≤ j → j < n → rank j < k) → bitsOf (sweep g bits .bits) j ≡ s j
+    unfolding sweepTo
+    near k bits room right zero l j low front = right j (front (omega arith))
+    near k bits room right (suc g) l j low front = go (near k bits room right g (omega arith)) (ℕ-discrete j g)
+      where
+        was : List Bool
+        was = sweep g bits .bits
+
+        go : ((i : ℕ) → (i < n → rank i ≤ k) → (g ≤ i → i < n → rank i < k) → bitsOf was i ≡ s i) → Dec (j ≡ g) → bitsOf (set was g (bitAt was g)) j ≡ s j
+        go before (no f) = getD-set-other was g j (bitAt was g) false f ∙ before j low (λ a. front (by-order (suc g) j (λ b. b) (λ b. absurd (f (omega arith)))))
+        go before (yes e) =
+            let lowHere : rank g ≤ k = rw e at (low (omega arith)) in
+            let inside : g < length was = omega (arith, length-sweep g bits) in
+            rw e (getD-set-same was g (bitAt was g) false inside ∙ right-bit was g (omega arith) (λ h u. before h (λ m. omega arith) (λ a m. omega arith)))
+
+    pub sweep-nearer : (k : ℕ) (bits : List Bool) → n ≤ length bits → RightTo k bits → RightTo (k + 1) (sweep n bits .bits)
+    sweep-nearer k bits room right g low = near k bits room right n (omega arith) g (λ l. omega (arith, low l)) (λ a l. absurd (omega arith))
+
+    -- after c sweeps, each of which has changed a bit, there are enough left for each rank and one more
+    pub settle-ends : (k c : ℕ) (bits : List Bool) → n ≤ length bits → ((g : ℕ) → g < n → rank g ≤ n) → RightTo c bits → c ≤ n + 1 → n + 2 ≤ c + k
+        → settle k n bits .settled ≡ true
+    settle-ends zero c bits room most right few enough = absurd (omega arith)
+    settle-ends (suc k) c bits room most right few enough =
+        by-test (sweep n bits .changed)
+        (λ e.
+        let less : c ≤ n = by-order c n (λ l. l) (λ l. absurd (true≢false (sym e ∙ ap (λ (o : SweepOutcome). o .changed) (fit-sweep n bits (all-fit l))))) in
+        rw (settle-more k n bits e)
+        (settle-ends k (c + 1) (sweep n bits .bits) (omega (arith, length-sweep n bits)) most (sweep-nearer c bits room right) (omega arith) (omega arith)))
+        (λ e. rw (settle-now k n bits e))
+      where
+        -- past the last rank all are right
+        all-right : n < c → (g : ℕ) → bitsOf bits g ≡ s g
+        all-right l g = right g (λ m. omega (arith, most g m))
+
+        all-fit : n < c → FitTo n bits
+        all-fit l g m = all-right l g ∙ sym (right-bit bits g m (λ h u. all-right l h))
+
+-- ---- the loops
 
 -- a sweep that has worked out the gates below g, from bits₀ to bits
-pub record Sweeping (n : ℕ) (cells pins : List ℕ) (row held bits₀ bits : List Bool) (changed : Bool) (g : ℕ) : Type 0 where
-  pub same : length bits ≡ length bits₀
-  pub fit : changed ≡ false → FitTo g cells pins row held bits
-  pub nearing : (s : ℕ → Bool) (rank : ℕ → ℕ) (k : ℕ) → Target n cells pins row held s rank → n ≤ length bits₀ → RightTo n s rank k bits₀ → Nearing n s rank k g bits
-  pub still : (s : ℕ → Bool) (rank : ℕ → ℕ) → Target n cells pins row held s rank → n ≤ length bits₀ → ((j : ℕ) → bitsOf bits₀ j ≡ s j) → changed ≡ false
-
-module _ {n : ℕ} {cells pins : List ℕ} {row held bits₀ : List Bool} where
-  pub sweeping-start : Sweeping n cells pins row held bits₀ bits₀ false 0
-  sweeping-start =
-      record {
-        same = refl;
-        fit = λ e j l. absurd (omega (arith, l));
-        nearing = λ s rank k t room r. record { right = r; done = λ j l u. absurd (omega (arith, l)) };
-        still = λ s rank t room r. refl;
-      }
-
-  module _ {bits next : List Bool} {g : ℕ} {b h x was : Bool} (sweep : Sweeping n cells pins row held bits₀ bits was g) (below : g < n)
-      (eh : h ≡ bitsOf held g) (eb : b ≡ gateBit (signalBit row bits) h (orBuf (gateAt cells pins g))) (ex : x ≡ bitsOf bits g) (en : next ≡ set bits g b) where
-    worked : b ≡ gateBit (signalBit row bits) (bitsOf held g) (orBuf (gateAt cells pins g))
-    worked = eb ∙ ap (λ (y : Bool). gateBit (signalBit row bits) y (orBuf (gateAt cells pins g))) eh
-
-    -- what a gate's form makes of right bits is right
-    right-bit : (s : ℕ → Bool) (rank : ℕ → ℕ) (k : ℕ) → Target n cells pins row held s rank → RightTo n s rank k bits → rank g < k + 1 → b ≡ s g
-    right-bit s rank k t r low =
-        worked
-        ∙ gate-agrees row (bitsOf bits) s (bitsOf held g) (orBuf (gateAt cells pins g)) (λ f p i e m q.
-        r i (λ l. let u : rank i < rank g = t .rises g i f _ p below e m q l in omega (arith, u, low)))
-        ∙ sym (t .fits g below)
-
-    other : (j : ℕ) → (j ≡ g → ⊥) → bitsOf next j ≡ bitsOf bits j
-    other j f = ap (λ (l : List Bool). getD l j false) en ∙ getD-set-other bits g j b false f
-
-    nearing-next : (s : ℕ → Bool) (rank : ℕ → ℕ) (k : ℕ) → Target n cells pins row held s rank → n ≤ length bits₀ → RightTo n s rank k bits₀ → Nearing n s rank k (g + 1) next
-    nearing-next s rank k t room r₀ = record { right = right; done = done }
-      where
-        near : Nearing n s rank k g bits
-        near = sweep .nearing s rank k t room r₀
-
-        here : rank g < k + 1 → bitsOf next g ≡ s g
-        here low =
-            ap (λ (l : List Bool). getD l g false) en ∙ getD-set-same bits g b false (omega (arith, below, room, sweep .same))
-            ∙ right-bit s rank k t (near .right) low
-
-        right : RightTo n s rank k next
-        right j low = go (ℕ-discrete j g)
-          where
-            go : Dec (j ≡ g) → bitsOf next j ≡ s j
-            go (yes e) =
-                let u : rank g < k = subst (λ (i : ℕ). rank i < k) e (low (omega (arith, e, below))) in
-                subst (λ (i : ℕ). bitsOf next i ≡ s i) (sym e) (here (omega (arith, u)))
-            go (no f) = other j f ∙ near .right j low
-
-        done : (j : ℕ) → j < g + 1 → rank j < k + 1 → bitsOf next j ≡ s j
-        done = below-next (λ j. rank j < k + 1 → bitsOf next j ≡ s j) g (λ j m low. other j (λ (e : j ≡ g). omega (arith, e, m)) ∙ near .done j m low) here
-
-    kept : length next ≡ length bits₀
-    kept = ap length en ∙ length-set bits g b ∙ sweep .same
-
-    -- a gate whose bit was right already leaves the bits as they were
-    pub sweeping-same : {now : Bool} → not (Bool·beq b x) ≡ false → now ≡ was → Sweeping n cells pins row held bits₀ next now (g + 1)
-    sweeping-same {now} same ew = record { same = kept; fit = fit; nearing = nearing-next; still = λ s rank t room r. ew ∙ sweep .still s rank t room r }
-      where
-        is : bitsOf bits g ≡ b
-        is = sym (beq-same b x same ∙ ex)
-
-        more : FitTo g cells pins row held bits → FitTo (g + 1) cells pins row held bits
-        more fits = below-next (λ k. bitsOf bits k ≡ gateBit (signalBit row bits) (bitsOf held k) (orBuf (gateAt cells pins k))) g fits (is ∙ worked)
-
-        fit : now ≡ false → FitTo (g + 1) cells pins row held next
-        fit f = subst (FitTo (g + 1) cells pins row held) (sym (en ∙ ap (set bits g) (sym is) ∙ set-getD bits g false)) (more (sweep .fit (sym ew ∙ f)))
-
-    pub sweeping-changed : {now : Bool} → not (Bool·beq b x) ≡ true → now ≡ true → Sweeping n cells pins row held bits₀ next now (g + 1)
-    sweeping-changed {now} differ ew = record { same = kept; fit = λ f. absurd (true≢false (sym ew ∙ f)); nearing = nearing-next; still = still }
-      where
-        still : (s : ℕ → Bool) (rank : ℕ → ℕ) → Target n cells pins row held s rank → n ≤ length bits₀ → ((j : ℕ) → bitsOf bits₀ j ≡ s j) → now ≡ false
-        still s rank t room r₀ =
-            let r : RightTo n s rank (rank g + 1) bits = sweep .nearing s rank (rank g + 1) t room (λ j l. r₀ j) .right in
-            absurd (beq-differ b x differ (right-bit s rank (rank g + 1) t r (omega arith) ∙ sym (r g (λ l. omega arith)) ∙ sym ex))
-
-  pub sweeping-done : {bits : List Bool} {changed : Bool} {g : ℕ} → Sweeping n cells pins row held bits₀ bits changed g → n ≤ g
-      → Swept n cells pins row held bits₀ bits changed
-  sweeping-done sweep past =
-      record {
-        fit = λ e j l. sweep .fit e j (omega (arith, l, past));
-        nearer = λ s rank k t room r j low.
-            let near = sweep .nearing s rank k t room r in
-            by-order n j (λ l. near .right j (λ m. absurd (omega (arith, l, m)))) (λ l. near .done j (omega (arith, l, past)) (low l));
-        still = sweep .still;
-      }
-
--- ---- sweeps
-
--- after c sweeps: no more than one for each rank, and the bits are right to rank c
-pub record Near (n : ℕ) (s : ℕ → Bool) (rank : ℕ → ℕ) (c : ℕ) (bits : List Bool) : Type 0 where
-  pub few : c ≤ n + 1
-  pub right : RightTo n s rank c bits
+pub record Sweeping (cells pins : List ℕ) (row held : List Bool) (n : ℕ) (bits₀ bits : List Bool) (changed : Bool) (g : ℕ) : Type 0 where
+  -- no more than n
+  pub within : g ≤ n
+  -- this is what the sweep has made so far
+  pub made : sweepOutcome changed bits ≡ sweepTo cells pins row held g bits₀
 
 -- c sweeps, each of which has changed a bit, from bits₀ to bits
-pub record Settling (n : ℕ) (cells pins : List ℕ) (row held bits₀ bits : List Bool) (c : ℕ) : Type 0 where
+pub record Settling (cells pins : List ℕ) (row held : List Bool) (n most : ℕ) (bits₀ bits : List Bool) (c : ℕ) : Type 0 where
+  -- no place is lost
   pub same : length bits ≡ length bits₀
-  pub near : (s : ℕ → Bool) (rank : ℕ → ℕ) → Target n cells pins row held s rank → n ≤ length bits₀ → ((g : ℕ) → g < n → rank g ≤ n)
-      → ((g : ℕ) → n ≤ g → bitsOf bits₀ g ≡ s g) → Near n s rank c bits
+  -- the sweeps that are left give what all of them do
+  pub rest : settleIn cells pins row held (most - c) n bits ≡ settleIn cells pins row held most n bits₀
 
-module _ {n : ℕ} {cells pins : List ℕ} {row held bits₀ : List Bool} where
-  pub settling-start : Settling n cells pins row held bits₀ bits₀ 0
-  settling-start =
-      record {
-        same = refl;
-        near = λ s rank t room most past.
-            record { few = omega arith; right = λ g low. by-order n g (past g) (λ l. let u : rank g < 0 = low l in absurd (omega (arith, u))) };
-      }
+module _ {cells pins : List ℕ} {row held : List Bool} {n : ℕ} {bits₀ : List Bool} where
+  pub sweeping-start : Sweeping cells pins row held n bits₀ bits₀ false 0
+  unfolding sweepTo
+  sweeping-start = record { within = omega arith; made = refl }
 
-  module _ {bits next : List Bool} {changed : Bool} (swept : Swept n cells pins row held bits next changed) where
-    pub settling-next : {c : ℕ} → Settling n cells pins row held bits₀ bits c → length next ≡ length bits → changed ≡ true
-        → Settling n cells pins row held bits₀ next (c + 1)
-    settling-next {c} settling kept change =
-        record {
-          same = kept ∙ settling .same;
-          near = λ s rank t room most past.
-              let near : Near n s rank c bits = settling .near s rank t room most past in
-              let within : n ≤ length bits = omega (arith, room, settling .same) in
-              record { few = few s rank t within most near; right = swept .nearer s rank c t within (near .right) };
-        }
-      where
-        few : (s : ℕ → Bool) (rank : ℕ → ℕ) → Target n cells pins row held s rank → n ≤ length bits → ((g : ℕ) → g < n → rank g ≤ n) → Near n s rank c bits → c + 1 ≤ n + 1
-        few s rank t within most near =
-            by-order c n (λ l. omega (arith, l)) (λ l.
-            absurd (true≢false (sym change ∙ swept .still s rank t within (λ g. near .right g (λ m. let u : rank g ≤ n = most g m in omega (arith, u, l))))))
+  module _ {bits : List Bool} {was : Bool} {g : ℕ} (u : Sweeping cells pins row held n bits₀ bits was g) where
+    pub sweeping-length : length bits ≡ length bits₀
+    sweeping-length = ap (λ (o : SweepOutcome). length (o .bits)) (u .made) ∙ length-sweep cells pins row held g bits₀
 
-    pub settled-now : {most : ℕ} → changed ≡ false → Settled n most cells pins row held bits₀ next true
-    settled-now e = record { fit = λ u. swept .fit e; ends = λ s rank t room few past enough. refl }
+    pub sweeping-next : {next : List Bool} {now b h x : Bool} → g < n → h ≡ bitsOf held g → b ≡ gateBit (signalBit row bits) h (orBuf (gateAt cells pins g))
+        → x ≡ bitsOf bits g → next ≡ set bits g b → now ≡ (not (Bool·beq b x) || was) → Sweeping cells pins row held n bits₀ next now (g + 1)
+    unfolding sweepTo
+    sweeping-next {b = b} l eh eb ex en ew =
+        let e : b ≡ bitOfGate cells pins row held bits g = eb ∙ ap (λ (y : Bool). gateBit (signalBit row bits) y (orBuf (gateAt cells pins g))) eh in
+        record { within = omega arith; made = rw add-one (cc (e, u .made)) }
 
-  pub settled-never : {bits : List Bool} {c most : ℕ} → Settling n cells pins row held bits₀ bits c → most ≤ c → Settled n most cells pins row held bits₀ bits false
-  settled-never settling over =
-      record {
-        fit = λ e. absurd (false≢true e);
-        ends = λ s rank t room few past enough. let near = settling .near s rank t room few past in absurd (omega (arith, near .few, over, enough));
-      }
+    pub sweeping-done : n ≤ g → sweepOutcome was bits ≡ sweepTo cells pins row held n bits₀
+    sweeping-done h = let e : g ≡ n = omega (arith, u .within) in u .made ∙ ap (λ (k : ℕ). sweepTo cells pins row held k bits₀) e
+
+  module _ {most : ℕ} where
+    pub settling-start : Settling cells pins row held n most bits₀ bits₀ 0
+    settling-start = record { same = refl; rest = rw sub-zero }
+
+    module _ {bits : List Bool} {c : ℕ} (s : Settling cells pins row held n most bits₀ bits c) where
+      module _ {next : List Bool} {changed : Bool} (l : c < most) (swept : sweepOutcome changed next ≡ sweepTo cells pins row held n bits) where
+        left : settleIn cells pins row held (suc (most - (c + 1))) n bits ≡ settleIn cells pins row held most n bits₀
+        left = let e : suc (most - (c + 1)) ≡ most - c = omega arith in ap (λ (k : ℕ). settleIn cells pins row held k n bits) e ∙ s .rest
+
+        pub settling-next : changed ≡ true → Settling cells pins row held n most bits₀ next (c + 1)
+        settling-next e =
+            let more = settle-more cells pins row held (most - (c + 1)) n bits (cc) in
+            record { same = ap (λ (o : SweepOutcome). length (o .bits)) swept ∙ length-sweep cells pins row held n bits ∙ s .same; rest = cc (more, left) }
+
+        pub settling-now : changed ≡ false → settleOutcome true next ≡ settleIn cells pins row held most n bits₀
+        settling-now e = let now = settle-now cells pins row held (most - (c + 1)) n bits (cc) in cc (now, left)
+
+      pub settling-never : most ≤ c → settleOutcome false bits ≡ settleIn cells pins row held most n bits₀
+      unfolding settleIn
+      settling-never h = let e : most - c ≡ 0 = omega arith in rw e at (s .rest)

@@ -23,7 +23,8 @@ ghost use Rattle.gates.specs.Gate.{ones, mux};
 ghost use Rattle.gates.specs.Forms.{gateOfKind, binaryForm, ternaryForm, naryForm};
 ghost use Rattle.network.specs.Clock.{gateBit, nextBit};
 ghost use Rattle.network.specs.Cells.{gateAt, orBuf};
-ghost use Rattle.simulate.specs.Bits.{signalBit, pinBits, Makes, MakesOfThree, NextOf, Swept, Settled, SteppedTo, ShownTo, bitDigit, Clocks};
+ghost use Rattle.simulate.specs.Bits.{signalBit, pinBits, Makes, MakesOfThree, NextOf, bitDigit};
+ghost use Rattle.simulate.specs.Sweep.{sweepOutcome, sweepTo, settleOutcome, settleIn, steppedTo, shownTo, clockOutcome, clockInto};
 
 // Bit i, zero past the end.
 fn bit_at(bits: &[bool], i: usize) -> bool
@@ -218,7 +219,9 @@ fn sweep(
     held: &[bool],
     bits: &mut [bool],
 ) -> bool
-    ensures { λ r. ⌜ Swept n (now (gates .entry)) (now (pins .entry)) (now (row .entry)) (now (held .entry)) (now (bits .entry)) (now (bits .exit)) r ⌝ }
+    ensures { λ r.
+        ⌜ sweepOutcome r (now (bits .exit))
+        ≡ sweepTo (now (gates .entry)) (now (pins .entry)) (now (row .entry)) (now (held .entry)) n (now (bits .entry)) ⌝ }
 {
     let mut changed = false;
     for g in 0..n {
@@ -241,7 +244,9 @@ fn settle(
     held: &[bool],
     bits: &mut [bool],
 ) -> bool
-    ensures { λ r. ⌜ Settled n most (now (gates .entry)) (now (pins .entry)) (now (row .entry)) (now (held .entry)) (now (bits .entry)) (now (bits .exit)) r ⌝ }
+    ensures { λ r.
+        ⌜ settleOutcome r (now (bits .exit))
+        ≡ settleIn (now (gates .entry)) (now (pins .entry)) (now (row .entry)) (now (held .entry)) most n (now (bits .entry)) ⌝ }
 {
     for _ in 0..most {
         if !sweep(n, gates, pins, row, held, bits) {
@@ -253,7 +258,9 @@ fn settle(
 
 // All flip-flops step together.
 fn step(n: usize, gates: &[u32], pins: &[u32], row: &[bool], bits: &[bool], held: &mut [bool])
-    ensures { λ _. ⌜ SteppedTo n (now (gates .entry)) (now (pins .entry)) (now (row .entry)) (now (bits .entry)) (now (held .entry)) (now (held .exit)) ⌝ }
+    ensures { λ _.
+        ⌜ now (held .exit)
+        ≡ steppedTo n (now (gates .entry)) (now (pins .entry)) (now (row .entry)) (now (bits .entry)) (now (held .entry)) ⌝ }
 {
     for g in 0..n {
         let b = next_bit(gates, pins, g, row, bits, bit_at(held, g));
@@ -282,7 +289,9 @@ fn digit(b: bool) -> u8
 
 // The outputs' bits in order, as digits.
 fn show(n: usize, outputs: &[u32], row: &[bool], bits: &[bool], line: &mut [u8])
-    ensures { λ _. ⌜ ShownTo n (now (outputs .entry)) (now (row .entry)) (now (bits .entry)) (now (line .exit)) ⌝ }
+    ensures { λ _.
+        ⌜ now (line .exit)
+        ≡ shownTo n (now (outputs .entry)) (now (row .entry)) (now (bits .entry)) (now (line .entry)) ⌝ }
 {
     for i in 0..n {
         let s = Signal {
@@ -292,7 +301,8 @@ fn show(n: usize, outputs: &[u32], row: &[bool], bits: &[bool], line: &mut [u8])
     }
 }
 
-// One clock: works the bits out in at most so many sweeps, takes the outputs, then steps what is held; answers whether the bits settled.
+// One clock: works the bits out in at most so many sweeps, and answers whether they settled; if so, takes the outputs, then steps what is
+// held.
 pub fn clock(
     counts: Counts,
     most: usize,
@@ -303,12 +313,17 @@ pub fn clock(
     held: &mut [bool],
     line: &mut [u8],
 ) -> bool
-    ensures { λ r. ⌜ Clocks counts most (now (gates .entry)) (now (pins .entry)) (now (outputs .entry)) (now (row .entry)) (now (held .entry)) (now (line .entry)) (now (held .exit)) (now (line .exit)) r ⌝ }
+    ensures { λ r.
+        ⌜ clockOutcome r (now (held .exit)) (now (line .exit))
+        ≡ clockInto counts most (now (gates .entry)) (now (pins .entry)) (now (outputs .entry)) (now (row .entry)) (now (held .entry)) (now (line .entry)) ⌝ }
 {
     let mut bits = [false; 1024];
     let n = counts.gates;
     let settled = settle(n, most, gates, pins, row, held, &mut bits);
+    if !settled {
+        return false;
+    }
     show(counts.outputs, outputs, row, &bits, line);
     step(n, gates, pins, row, &bits, held);
-    settled
+    true
 }

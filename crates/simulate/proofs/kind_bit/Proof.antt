@@ -1,7 +1,7 @@
 -- `kind_bit` goes by the kinds. Assumes nothing.
 use mathlib.Core.Path.{sym, _∙_}
 use borrow.Author.Tests.{not-true, not-false}
-use Rattle.simulate.proofs.GateBits.{kind-none, kind-binary, kind-ternary, kind-nary, kind-buf, kind-dff, kind-unknown}
+use Rattle.simulate.proofs.GateBits.{kind-none, kind-binary, kind-ternary, kind-nary, kind-buf, kind-dff}
 use borrow.Author.Needs.{needs}
 use Rattle.simulate.proofs.kind_bit.Statement.{statement}
 use Rattle.simulate.proofs.kind_bit.Tie as tie

@@ -1,5 +1,4 @@
 -- `ones_of` counts one pin after the other. Assumes nothing.
-use mathlib.Core.Path.{sym, _∙_}
 use mathlib.Core.Logic.{⊎-elim}
 use Prim.Native.Nat.{_-_}
 use lib.ListN.{length}

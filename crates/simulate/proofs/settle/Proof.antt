@@ -1,7 +1,7 @@
--- `settle` sweeps until nothing changes, and without a loop nothing does in the end. Assumes nothing.
+-- `settle` sweeps until nothing changes. Assumes nothing.
 use mathlib.Core.Path.{_∙_}
 use Prim.Native.Nat.{_-_}
-use Rattle.simulate.proofs.Sweeping.{Settling, settling-start, settling-next, settled-now, settled-never}
+use Rattle.simulate.proofs.Sweeping.{Settling, settling-start, settling-next, settling-now, settling-never}
 use borrow.Author.Tests.{not-true, not-false}
 use borrow.Author.Needs.{needs}
 use native.Mathlib.Omega.{arith}
@@ -9,7 +9,7 @@ use Rattle.simulate.proofs.settle.Statement.{statement}
 use Rattle.simulate.proofs.settle.Tie as tie
 
 abbrev Inv-loop : tie.InvT-loop
-Inv-loop n most gates pins row held bits₀ counter₀ bits counter = Settling n gates pins row held bits₀ bits counter
+Inv-loop n most gates pins row held bits₀ counter₀ bits counter = Settling gates pins row held n most bits₀ bits counter
 
 abbrev μ-loop : tie.MeasureT-loop
 μ-loop n most gates pins row held bits₀ counter₀ bits counter = most - counter
@@ -24,7 +24,10 @@ same-length : tie.Need-same-length Inv-loop μ-loop
 same-length c = c .before .before .before .sweep .kept .1 .1 .1 .1 .1 .0 ∙ c .before .before .before .before .before .before .loop .inv .same
 
 returns : tie.Need-returns Inv-loop μ-loop
-returns c = settled-now (c .before .before .before .sweep .ensures) (not-true _ (c .if1 .taken))
+returns c =
+    let the-loop = c .before .before .before .before .before .before .loop in
+    let below = c .before .before .before .before .before .loop-test .taken in
+    settling-now (the-loop .inv) below (c .before .before .before .sweep .ensures) (not-true _ (c .if1 .taken))
 
 add-counter : tie.Need-add-counter Inv-loop μ-loop
 add-counter c = omega arith
@@ -35,14 +38,14 @@ loop-less c = omega arith
 loop-again : tie.Need-loop-again Inv-loop μ-loop
 loop-again c =
     let the-loop = c .before .before .before .before .before .before .loop in
-    let sweep = c .before .before .before .sweep in
-    settling-next (sweep .ensures) (the-loop .inv) (sweep .kept .1 .1 .1 .1 .1 .0) (not-false _ (c .if1 .left))
+    let below = c .before .before .before .before .before .loop-test .taken in
+    settling-next (the-loop .inv) below (c .before .before .before .sweep .ensures) (not-false _ (c .if1 .left))
 
 same-length-2 : tie.Need-same-length-2 Inv-loop μ-loop
 same-length-2 c = c .before .loop .inv .same
 
 returns-2 : tie.Need-returns-2 Inv-loop μ-loop
-returns-2 c = settled-never (c .before .loop .inv) (c .loop-test .left)
+returns-2 c = settling-never (c .before .loop .inv) (c .loop-test .left)
 
 pub settle-spec : {M : Type 1} → statement M
 settle-spec =

@@ -1,22 +1,23 @@
 -- `show` puts one digit after the other. Assumes nothing.
-use mathlib.Core.Path.{_≡_, refl}
 use Prim.Native.Nat.{_-_}
-use lib.ListN.{length}
-use Rattle.simulate.specs.Bits.{ShownTo}
-use Rattle.simulate.proofs.Clocked.{shown-next}
+use lib.ListN.{getD}
+use Rattle.signal.specs.Cell.{sigOf}
+use Rattle.simulate.specs.Bits.{signalBit, bitDigit}
+use Rattle.simulate.proofs.Putting.{Putting, putting-start, putting-length, putting-next, putting-done}
 use borrow.Author.Needs.{needs}
 use native.Mathlib.Omega.{arith}
 use Rattle.simulate.proofs.show.Statement.{statement}
 use Rattle.simulate.proofs.show.Tie as tie
 
 abbrev Inv-loop : tie.InvT-loop
-Inv-loop n outputs row bits line₀ i₀ line i = (length line ≡ length line₀) × ShownTo i outputs row bits line
+Inv-loop n outputs row bits line₀ i₀ line i =
+    Putting (λ j. bitDigit (signalBit row bits (sigOf (getD outputs j 0)))) line₀ n line i
 
 abbrev μ-loop : tie.MeasureT-loop
 μ-loop n outputs row bits line₀ i₀ line i = n - i
 
 loop-holds : tie.Need-loop-holds Inv-loop μ-loop
-loop-holds c = (refl, λ j h l. absurd (omega (arith, h)))
+loop-holds c = putting-start
 
 cell-at-requires : tie.Need-cell-at-requires Inv-loop μ-loop
 cell-at-requires c κs = search needs
@@ -38,21 +39,17 @@ loop-less c = omega arith
 
 loop-again : tie.Need-loop-again Inv-loop μ-loop
 loop-again c =
-    let args = c .before .before .before .before .before .before .before .before .before .before .before .before .before .args in
     let loop = c .before .before .before .before .before .before .before .before .loop in
-    let cell-at = c .before .before .before .before .before .before .cell-at in
-    let a = args in
-    let l = loop in (
-      search needs,
-      shown-next (a .outputs .now) (a .row .now) (a .bits .now) (l .line) _ (l .inv .1) (cell-at .ensures) (c .before .before .before .before .sig-bit .ensures) (c .before .before .before .digit .ensures)
-          (c .before .before .put-byte .ensures),
-    )
+    let below = c .before .before .before .before .before .before .before .loop-test .taken in
+    let cell = c .before .before .before .before .before .before .cell-at .ensures in
+    let bit = rw cell at (c .before .before .before .before .sig-bit .ensures) in
+    putting-next (loop .inv) below (rw bit at (c .before .before .before .digit .ensures)) (c .before .before .put-byte .ensures)
 
 same-length : tie.Need-same-length Inv-loop μ-loop
-same-length c = c .before .loop .inv .0
+same-length c = putting-length (c .before .loop .inv)
 
 returns : tie.Need-returns Inv-loop μ-loop
-returns c = λ j l p. c .before .loop .inv .1 j (omega (arith, l, c .loop-test .left)) p
+returns c = putting-done (c .before .loop .inv) (c .loop-test .left)
 
 pub show-spec : {M : Type 1} → statement M
 show-spec =

@@ -1,19 +1,25 @@
 -- `step` steps one gate after the other, by the bits that were settled. Assumes nothing.
+use mathlib.Core.Bool.{false}
+use mathlib.Core.Path.{_∙_}
 use Prim.Native.Nat.{_-_}
-use Rattle.simulate.proofs.Clocked.{Stepping, stepping-start, stepping-next}
+use Rattle.network.specs.Clock.{nextBit}
+use Rattle.network.specs.Cells.{gateAt, orBuf}
+use Rattle.simulate.specs.Bits.{bitsOf, signalBit}
+use Rattle.simulate.proofs.Putting.{Putting, putting-start, putting-length, putting-here, putting-next, putting-done}
 use borrow.Author.Needs.{needs}
 use native.Mathlib.Omega.{arith}
 use Rattle.simulate.proofs.step.Statement.{statement}
 use Rattle.simulate.proofs.step.Tie as tie
 
 abbrev Inv-loop : tie.InvT-loop
-Inv-loop n gates pins row bits held₀ g₀ held g = Stepping gates pins row bits held₀ held g
+Inv-loop n gates pins row bits held₀ g₀ held g =
+    Putting (λ j. nextBit (signalBit row bits) (bitsOf held₀ j) (orBuf (gateAt gates pins j))) held₀ n held g
 
 abbrev μ-loop : tie.MeasureT-loop
 μ-loop n gates pins row bits held₀ g₀ held g = n - g
 
 loop-holds : tie.Need-loop-holds Inv-loop μ-loop
-loop-holds c = stepping-start
+loop-holds c = putting-start
 
 bit-at-requires : tie.Need-bit-at-requires Inv-loop μ-loop
 bit-at-requires c κs = search needs
@@ -33,14 +39,15 @@ loop-less c = omega arith
 loop-again : tie.Need-loop-again Inv-loop μ-loop
 loop-again c =
     let loop = c .before .before .before .before .before .before .before .before .loop in
-    let bit-at = c .before .before .before .before .before .bit-at in
-    stepping-next (loop .inv) (bit-at .ensures) (c .before .before .before .before .next-bit .ensures) (c .before .before .put-bit .ensures)
+    let below = c .before .before .before .before .before .before .before .loop-test .taken in
+    let held = c .before .before .before .before .before .bit-at .ensures ∙ putting-here (loop .inv) false in
+    putting-next (loop .inv) below (rw held at (c .before .before .before .before .next-bit .ensures)) (c .before .before .put-bit .ensures)
 
 same-length : tie.Need-same-length Inv-loop μ-loop
-same-length c = c .before .loop .inv .same
+same-length c = putting-length (c .before .loop .inv)
 
 returns : tie.Need-returns Inv-loop μ-loop
-returns c = λ j l p. c .before .loop .inv .done j (omega (arith, l, c .loop-test .left)) p
+returns c = putting-done (c .before .loop .inv) (c .loop-test .left)
 
 pub step-spec : {M : Type 1} → statement M
 step-spec =

@@ -1,14 +1,14 @@
--- `sweep` tells a bit that changed, without one leaves bits that fit, and makes the gates of one rank more right. Assumes nothing.
+-- `sweep` works one gate out after the other. Assumes nothing.
 use mathlib.Core.Logic.{⊎-elim}
 use Prim.Native.Nat.{_-_}
-use Rattle.simulate.proofs.Sweeping.{Sweeping, sweeping-start, sweeping-same, sweeping-changed, sweeping-done}
+use Rattle.simulate.proofs.Sweeping.{Sweeping, sweeping-start, sweeping-length, sweeping-next, sweeping-done}
 use borrow.Author.Needs.{needs}
 use native.Mathlib.Omega.{arith}
 use Rattle.simulate.proofs.sweep.Statement.{statement}
 use Rattle.simulate.proofs.sweep.Tie as tie
 
 abbrev Inv-loop : tie.InvT-loop
-Inv-loop n gates pins row held bits₀ changed₀ g₀ bits changed g = Sweeping n gates pins row held bits₀ bits changed g
+Inv-loop n gates pins row held bits₀ changed₀ g₀ bits changed g = Sweeping gates pins row held n bits₀ bits changed g
 
 abbrev μ-loop : tie.MeasureT-loop
 μ-loop n gates pins row held bits₀ changed₀ g₀ bits changed g = n - g
@@ -42,11 +42,11 @@ loop-again c =
     let b = c .before .before .before .before .before .before .before .gate-bit .ensures in
     let x = c .before .before .before .before .before .bit-at2 .ensures in
     let put = c .before .before .put-bit .ensures in
-    ⊎-elim (λ w. sweeping-changed (l .inv) below h b x put (w .0 .taken) (w .1)) (λ w. sweeping-same (l .inv) below h b x put (w .0 .left) (w .1))
-    (c .before .before .before .before .if1 .came)
+    sweeping-next (l .inv) below h b x put
+    (⊎-elim (λ w. rw (w .0 .taken) (w .1)) (λ w. rw (w .0 .left) (w .1)) (c .before .before .before .before .if1 .came))
 
 same-length : tie.Need-same-length Inv-loop μ-loop
-same-length c = c .before .loop .inv .same
+same-length c = sweeping-length (c .before .loop .inv)
 
 returns : tie.Need-returns Inv-loop μ-loop
 returns c = sweeping-done (c .before .loop .inv) (c .loop-test .left)
