@@ -18,7 +18,7 @@ use Rattle.blif_text.specs.Places.{tokenOf, tokensOf}
 use Rattle.blif_text.specs.Walk.{Inside}
 use Rattle.blif_text.specs.Blocks.{blockWidth}
 use Rattle.blif_text.specs.declared.Block.{Block}
-use Rattle.blif_text.proofs.LineLaws.{slice-snoc}
+use Rattle.blif_text.proofs.WordLaws.{slice-snoc}
 use Rattle.name_index.specs.Search.{Entry, entry}
 use Rattle.name_index.specs.Index.{entriesOf, Index, Entered}
 use Rattle.blif_model.specs.Read.{when, twice}

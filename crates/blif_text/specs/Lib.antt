@@ -3,6 +3,7 @@ pub mod Keywords
 pub mod Statements
 pub mod Decls
 pub mod Rows
+pub mod PlaceRows
 pub mod Places
 pub mod Scan
 pub mod PlacedStatements

@@ -2,12 +2,13 @@
 -- Assumes nothing: these are definitions.
 use mathlib.Core.Path.{_≡_}
 use mathlib.Core.Bool.{Bool, true, false, cond}
-use mathlib.Core.List.{List, [], _∷_, map}
+use mathlib.Core.List.{List, [], _∷_, _++_, map, headD}
 use Prim.Native.Nat.{ℕ, _+_, _*_, _/_, _%_, _^_, _≤_, _<_}
 use lib.Dec.{leb}
 use lib.ListN.{length, getD, take, drop}
 use Rattle.lists.specs.Lists.{Bytes}
 use Rattle.blif_text.specs.Rows.{textRows}
+use Rattle.blif_text.specs.PlaceRows.{placeLines, placeRows}
 
 -- "Text at most 32,768 bytes"
 abbrev pub maxText : ℕ
@@ -62,8 +63,30 @@ unfoldable pub grouped : Bytes → List ℕ → Grouped
 grouped text [] = record { loose = []; rows = [] }
 grouped text (c ∷ cs) = withToken (isFirst c) (tokenOf text c) (grouped text cs)
 
--- the first r cells hold the text's tokens by their places, row by row
+-- the cell of the token that stands at these places
+abbrev pub placesCell : Bool → List ℕ → ℕ
+placesCell first ks = tokenCell first (headD ks 0) (length ks)
+
+-- the cells of a statement's tokens; `first` says whether the first of them is the statement's
+unfoldable pub rowCells : Bool → List (List ℕ) → List ℕ
+rowCells first [] = []
+rowCells first (t ∷ ts) = placesCell first t ∷ rowCells false ts
+
+-- the cells of statements, one after the other; `first` says whether the first of them starts there
+unfoldable pub rowsCells : Bool → List (List (List ℕ)) → List ℕ
+rowsCells first [] = []
+rowsCells first (r ∷ rs) = rowCells first r ++ rowsCells true rs
+
+-- the cells of all tokens of a text, in order
+unfoldable pub tokenCells : Bytes → List ℕ
+tokenCells text = rowsCells true (placeRows text (placeLines text 0))
+
+-- the first r cells are those of the text's tokens, and so they hold the text's rows
 pub record TokensMarked (text cells : List ℕ) (r : ℕ) : Type 0 where
+  -- as many as the text has
+  pub counted : r ≡ length (tokenCells text)
+  -- each at its place
+  pub marked : take r cells ≡ tokenCells text
   -- no more than fit
   pub few : r ≤ maxTokens
   -- the rows are the text's

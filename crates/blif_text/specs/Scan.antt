@@ -1,16 +1,15 @@
 -- What the functions that scan a text promise to each other: records over places in the text. Assumes nothing: these are definitions.
 use mathlib.Core.Path.{_≡_}
-use mathlib.Core.Bool.{Bool, true, false, not, _||_}
-use mathlib.Core.List.{List, [], _∷_, _++_}
+use mathlib.Core.Bool.{Bool, true, false, _||_}
+use mathlib.Core.List.{List, [], _∷_}
 use mathlib.Core.Logic.{_⊎_}
 use Prim.Native.Nat.{ℕ, _+_, _-_, _*_, _≤_, _<_}
 use lib.Dec.{eqb}
-use lib.ListN.{length, getD, take, drop, set}
-use lib.Seq.{slice}
-use Rattle.lists.specs.Lists.{Bytes}
-use Rattle.blif_text.specs.Lines.{before, lines, isBlank, nonEmpty, tokens}
-use Rattle.blif_text.specs.Rows.{lineRows, fullRows, textRows}
-use Rattle.blif_text.specs.Places.{maxText, maxTokens, tokenCell, isFirst, InText, tokensOf, grouped}
+use lib.ListN.{length, getD, set}
+use Rattle.lists.specs.Lists.{Bytes, overAt}
+use Rattle.blif_text.specs.Lines.{isBlank}
+use Rattle.blif_text.specs.PlaceRows.{placeLines, placeRows}
+use Rattle.blif_text.specs.Places.{maxText, maxTokens, tokenCell, isFirst, rowsCells}
 
 -- what ends a word: "Blanks are 9 to 13 and 32", and "`#` cuts the line"
 unfoldable pub endsWord : ℕ → Bool
@@ -76,56 +75,31 @@ abbrev pub Firsts : Bool → List ℕ → Type 0
 Firsts first [] = Unit {0}
 Firsts first (c ∷ cs) = (isFirst c ≡ first) × NoneFirst cs
 
--- the first count cells hold the tokens of whole statements, then those of the statement that goes on; fresh says that the next
--- token is a statement's first
-pub record Placed (text cells : List ℕ) (count : ℕ) (fresh : Bool) (closed pending : List ℕ) : Type 0 where
-  -- as many cells as a text may need
-  pub room : maxTokens ≤ length cells
-  -- all cells so far
-  pub so-far : take count cells ≡ closed ++ pending
-  -- how many there are
-  pub counted : count ≡ length (closed ++ pending)
-  -- every token of whole statements stands in a row
-  pub none-loose : grouped text closed .loose ≡ []
-  -- the open statement's first token is marked, and no other
-  pub firsts : Firsts true pending
-  -- whether it has one
-  pub fresh-is : fresh ≡ not (nonEmpty pending)
-  -- each token within the text
-  pub inside : (k : ℕ) → k < count → InText text (getD cells k 0)
+-- the cells of the tokens from place i on; `first` says whether the next token is a statement's first
+unfoldable pub cellsFrom : Bytes → ℕ → Bool → List ℕ
+cellsFrom text i first = rowsCells first (placeRows text (placeLines text i))
 
--- the scan has come to place i, with count tokens marked
-pub record Scanned (text cells : List ℕ) (i count : ℕ) (fresh : Bool) : Type 0 where
+-- the scan may go on at place i, with count tokens marked
+pub record ScanAt (text cells : List ℕ) (i count : ℕ) : Type 0 where
   -- the text is within its limit
   pub small : length text ≤ maxText
-  -- where the line starts
-  pub at : ℕ
-  -- the place is in the line
-  pub low : at ≤ i
-  -- and within the text
+  -- as many cells as a text may need
+  pub room : maxTokens ≤ length cells
+  -- the place is within the text
   pub high : i ≤ length text
   -- two bytes for each token
   pub few : 2 * count ≤ i + 1
   -- and for the last one too, where a word starts
   pub fewer : i < length text → endsWord (getD text i 0) ≡ false → 2 * count ≤ i
-  -- the line has not ended: "LF ends a line"
-  pub line : (k : ℕ) → at ≤ k → k < i → eqb 10 (getD text k 0) ≡ false
-  -- "`#` cuts the line": no comment has started
-  pub plain : (k : ℕ) → at ≤ k → k < i → eqb 35 (getD text k 0) ≡ false
-  -- "A line without `#` that ends in a backslash loses it and continues": no backslash so far ends the line
-  pub no-continuation : (k : ℕ) → at ≤ k → k < i → getD text k 0 ≡ 92 → (next : ℕ) → StopTo text (k + 1) next → ⊥
-  -- the cells of whole statements
-  pub closed : List ℕ
-  -- the cells of the statement that goes on, from the lines before
-  pub pending : List ℕ
-  -- and from this line
-  pub added : List ℕ
-  -- all cells
-  pub placed : Placed text cells count fresh closed (pending ++ added)
-  -- the rows so far and those from this line on are the text's
-  pub rest : textRows text ≡ grouped text closed .rows ++ fullRows (before (tokensOf text pending) (lineRows (lines (drop at text))))
-  -- the line's tokens up to any place before a comment are the cells and those from i on
-  pub are : (e : ℕ) → i ≤ e → e ≤ length text → ((k : ℕ) → i ≤ k → k < e → eqb 35 (getD text k 0) ≡ false) → tokens (slice at e text) ≡ tokensOf text added ++ tokens (slice i e text)
+
+-- the scan has come from place i to place i′: with the tokens that are left at either, there are as many in all, and the same cells
+pub record Scanned (text cells : List ℕ) (i count : ℕ) (fresh : Bool) (cells′ : List ℕ) (i′ count′ : ℕ) (fresh′ : Bool) : Type 0 where
+  -- it may go on
+  pub ready : ScanAt text cells′ i′ count′
+  -- as many tokens
+  pub same-count : count′ + length (cellsFrom text i′ fresh′) ≡ count + length (cellsFrom text i fresh)
+  -- the same cells
+  pub same-cells : overAt count′ (cellsFrom text i′ fresh′) cells′ ≡ overAt count (cellsFrom text i fresh) cells
 
 -- a word is put: its cell stands behind the others, and the scan goes on at next
 pub record WordPut (cells : List ℕ) (at count : ℕ) (fresh : Bool) (end next : ℕ) (cells′ : List ℕ) (at′ count′ : ℕ) (fresh′ : Bool) : Type 0 where

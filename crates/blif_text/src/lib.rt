@@ -7,9 +7,9 @@ ghost use mathlib.Core.List.{[], _∷_};
 ghost use Prim.Native.Nat.{_+_, _*_, _≤_, _<_};
 ghost use lib.ListN.{length, getD};
 ghost use lib.Seq.{slice};
-ghost use Rattle.lists.specs.Lists.{any, overAt};
+ghost use Rattle.lists.specs.Lists.{any, over, overAt};
 ghost use Rattle.blif_text.specs.Lines.{isBlank};
-ghost use Rattle.blif_text.specs.Places.{maxText, maxTokens, tokenCell, isFirst, tokenStart, tokenLength, InText, tokenOf, tokensOf, TokensMarked};
+ghost use Rattle.blif_text.specs.Places.{maxText, maxTokens, tokenCell, isFirst, tokenStart, tokenLength, InText, tokenOf, tokensOf, tokenCells, TokensMarked};
 ghost use Rattle.blif_text.specs.Keywords.{keywordOf};
 ghost use Rattle.blif_text.specs.PlacedStatements.{said, RowTo, StatementOf, refusal};
 ghost use Rattle.blif_text.specs.Statements.{parsed, firstBad};
@@ -17,7 +17,7 @@ ghost use Rattle.blif_text.specs.Decls.{columns};
 ghost use Rattle.blif_text.specs.Rows.{rowStmt};
 ghost use Rattle.blif_text.specs.Walk.{Inside};
 ghost use Rattle.blif_text.specs.Blocks.{blockWidth, firstName, nameCount, lineCount};
-ghost use Rattle.blif_text.specs.Scan.{endsWord, NoneTo, FirstTo, SpacesTo, LineAfter, StopOf, WordPut, Scanned};
+ghost use Rattle.blif_text.specs.Scan.{endsWord, NoneTo, FirstTo, SpacesTo, LineAfter, StopOf, WordPut, ScanAt, Scanned};
 
 pub const MAX_TEXT: usize = 32768;
 
@@ -263,8 +263,9 @@ fn put_word(cells: &mut [u32], w: Marks, end: usize, next: usize) -> Marks
 
 // Marks the word at w. A backslash that ends the line is no part of it, and the statement goes on in the next line.
 fn mark_word(text: &[u8], cells: &mut [u32], w: Marks) -> Marks
-    requires { ⌜ Scanned (now text) (now cells) (w .at) (w .count) (w .fresh) × (w .at < length (now text)) × (endsWord (getD (now text) (w .at) 0) ≡ false) ⌝ }
-    ensures { λ r. ⌜ Scanned (now (text .entry)) (now (cells .exit)) (r .at) (r .count) (r .fresh) × (w .at < r .at) ⌝ }
+    requires { ⌜ ScanAt (now text) (now cells) (w .at) (w .count) × (w .at < length (now text)) × (endsWord (getD (now text) (w .at) 0) ≡ false) ⌝ }
+    ensures { λ r. ⌜ Scanned (now (text .entry)) (now (cells .entry)) (w .at) (w .count) (w .fresh) (now (cells .exit)) (r .at) (r .count) (r .fresh) ⌝ }
+    ensures { λ r. ⌜ w .at < r .at ⌝ }
 {
     let at = w.at;
     let end = word_end(text, at + 1);
@@ -287,8 +288,9 @@ fn mark_word(text: &[u8], cells: &mut [u32], w: Marks) -> Marks
 
 // One step of the scan: a word, a comment with its line's end, a line's end, or another blank with the spaces behind it.
 fn mark_step(text: &[u8], cells: &mut [u32], w: Marks) -> Marks
-    requires { ⌜ Scanned (now text) (now cells) (w .at) (w .count) (w .fresh) × (w .at < length (now text)) ⌝ }
-    ensures { λ r. ⌜ Scanned (now (text .entry)) (now (cells .exit)) (r .at) (r .count) (r .fresh) × (w .at < r .at) ⌝ }
+    requires { ⌜ ScanAt (now text) (now cells) (w .at) (w .count) × (w .at < length (now text)) ⌝ }
+    ensures { λ r. ⌜ Scanned (now (text .entry)) (now (cells .entry)) (w .at) (w .count) (w .fresh) (now (cells .exit)) (r .at) (r .count) (r .fresh) ⌝ }
+    ensures { λ r. ⌜ w .at < r .at ⌝ }
 {
     let at = w.at;
     let c = text[at];
@@ -322,6 +324,7 @@ fn mark_step(text: &[u8], cells: &mut [u32], w: Marks) -> Marks
 pub fn mark_tokens(text: &[u8], cells: &mut [u32]) -> usize
     requires { ⌜ (length (now text) ≤ maxText) × (maxTokens ≤ length (now cells)) ⌝ }
     ensures { λ r. ⌜ TokensMarked (now (text .entry)) (now (cells .exit)) r ⌝ }
+    ensures { λ r. ⌜ now (cells .exit) ≡ over (tokenCells (now (text .entry))) (now (cells .entry)) ⌝ }
 {
     let mut w = Marks {
         at: 0,

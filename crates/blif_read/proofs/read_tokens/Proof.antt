@@ -22,7 +22,7 @@ mark-tokens-requires c κs =
 first-bad-requires : tie.Need-first-bad-requires
 first-bad-requires c κs =
     let pre = c .before .before .before .before .before .before .before .before .before .before .before .pre in
-    (c .before .before .before .mark-tokens .ensures, omega (arith, c .before .before .before .mark-tokens .ensures .few, c .before .before .before .mark-tokens .kept .1 .0, pre .0 .pins))
+    (c .before .before .before .mark-tokens .ensures .0, omega (arith, c .before .before .before .mark-tokens .ensures .0 .few, c .before .before .before .mark-tokens .kept .1 .0, pre .0 .pins))
 
 same-length : tie.Need-same-length
 same-length c = search needs
@@ -36,7 +36,7 @@ too-large-requires : tie.Need-too-large-requires
 too-large-requires c κs =
     let pre = c .before .before .before .before .before .before .before .before .before .before .before .before .before .before .pre in
     let mark-tokens = c .before .before .before .before .before .before .mark-tokens in
-    (stmts-start (mark-tokens .ensures) (omega (arith, mark-tokens .ensures .few, mark-tokens .kept .1 .0, pre .0 .pins)) (sym (c .before .before .first-bad .ensures) ∙ c .before .if1 .left), mark-tokens .ensures .few)
+    (stmts-start (mark-tokens .ensures .0) (omega (arith, mark-tokens .ensures .0 .few, mark-tokens .kept .1 .0, pre .0 .pins)) (sym (c .before .before .first-bad .ensures) ∙ c .before .if1 .left), mark-tokens .ensures .0 .few)
 
 same-length-2 : tie.Need-same-length-2
 same-length-2 c = search needs
@@ -45,7 +45,7 @@ returns-2 : tie.Need-returns-2
 returns-2 c =
     let pre = c .before .before .before .before .before .before .before .before .before .before .before .before .before .before .before .before .pre in
     let mark-tokens = c .before .before .before .before .before .before .before .before .mark-tokens in
-    holds-refused _ _ _ _ _ (passed-size (pre .1) (mark-tokens .ensures) (omega (arith, mark-tokens .ensures .few, mark-tokens .kept .1 .0, pre .0 .pins)) (sym (c .before .before .before .before .first-bad .ensures) ∙ c .before .before .before .if1 .left) (sym (c .before .too-large .ensures) ∙ c .if2 .taken))
+    holds-refused _ _ _ _ _ (passed-size (pre .1) (mark-tokens .ensures .0) (omega (arith, mark-tokens .ensures .0 .few, mark-tokens .kept .1 .0, pre .0 .pins)) (sym (c .before .before .before .before .first-bad .ensures) ∙ c .before .before .before .if1 .left) (sym (c .before .too-large .ensures) ∙ c .if2 .taken))
 
 read-names-requires : tie.Need-read-names-requires
 read-names-requires c κs =
@@ -55,7 +55,7 @@ read-names-requires c κs =
     let if1 = c .before .before .before .before .before .before .before .before .if1 in
     let too-large = c .before .before .before .before .before .before .too-large in
     let if2 = c .before .before .before .before .before .if2 in
-    (enough-same (pre .0) refl (mark-tokens .kept .1 .0) refl refl refl, sized (pre .1) (mark-tokens .ensures) (omega (arith, mark-tokens .ensures .few, mark-tokens .kept .1 .0, pre .0 .pins)) (sym (first-bad .ensures) ∙ if1 .left) (sym (too-large .ensures) ∙ if2 .left))
+    (enough-same (pre .0) refl (mark-tokens .kept .1 .0) refl refl refl, sized (pre .1) (mark-tokens .ensures .0) (omega (arith, mark-tokens .ensures .0 .few, mark-tokens .kept .1 .0, pre .0 .pins)) (sym (first-bad .ensures) ∙ if1 .left) (sym (too-large .ensures) ∙ if2 .left))
 
 same-length-3 : tie.Need-same-length-3
 same-length-3 c = search needs

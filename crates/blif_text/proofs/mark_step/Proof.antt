@@ -3,8 +3,8 @@ use mathlib.Core.Path.{sym, _∙_}
 use native.Mathlib.Omega.{arith}
 use borrow.Author.Needs.{needs}
 use borrow.Author.Tests.{not-true, not-false}
-use Rattle.blif_text.proofs.ScanEnds.{scan-lf, scan-comment, comment-moves}
-use Rattle.blif_text.proofs.ScanWords.{scan-blank, scan-spaces}
+use Rattle.blif_text.proofs.CellsFrom.{comment-moves}
+use Rattle.blif_text.proofs.ScanSteps.{scan-lf, scan-comment, scan-blank}
 use Rattle.blif_text.proofs.mark_step.Statement.{statement}
 use Rattle.blif_text.proofs.mark_step.Tie as tie
 
@@ -32,7 +32,7 @@ returns-2 : tie.Need-returns-2
 returns-2 c =
     let s = c .before .before .before .before .before .before .before in (
       scan-comment (s .pre .0) (s .pre .1) (c .before .if2 .taken) (c .line-after .ensures),
-      comment-moves (s .pre .0) (s .pre .1) (c .before .if2 .taken) (c .line-after .ensures),
+      comment-moves (s .pre .1) (c .before .if2 .taken) (c .line-after .ensures),
     )
 
 add-t14 : tie.Need-add-t14
@@ -50,9 +50,11 @@ skip-spaces-requires c κs = search needs
 returns-4 : tie.Need-returns-4
 returns-4 c =
     let before = c .before .before .before .before .before .before .before .before in
-    let s = before in
-    let b = scan-blank (s .pre .0) (s .pre .1) (sym (c .before .before .before .before .ends-word .ensures) ∙ not-false _ (c .before .before .before .if1 .left)) (c .before .before .if2 .left) (c .before .if3 .left) in
-    (scan-spaces b (c .skip-spaces .ensures), omega (arith, c .skip-spaces .ensures .low))
+    let s = before in (
+      scan-blank (s .pre .0) (s .pre .1) (sym (c .before .before .before .before .ends-word .ensures) ∙ not-false _ (c .before .before .before .if1 .left)) (c .before .before .if2 .left) (c .before .if3 .left)
+          (c .skip-spaces .ensures),
+      omega (arith, c .skip-spaces .ensures .low),
+    )
 
 pub mark-step-spec : {M : Type 1} → statement M
 mark-step-spec =

@@ -1,8 +1,7 @@
 -- `mark_word` finds the word's end, and looks behind a backslash for the line's. Assumes nothing.
 use native.Mathlib.Omega.{arith}
 use borrow.Author.Needs.{needs}
-use Rattle.blif_text.proofs.ScanWords.{word-room, word-place, scan-word, scan-put}
-use Rattle.blif_text.proofs.ScanGoesOn.{scan-alone, scan-goes, goes-moves}
+use Rattle.blif_text.proofs.ScanSteps.{word-room, word-place, scan-word, scan-put, scan-alone, scan-goes, goes-moves}
 use Rattle.blif_text.proofs.mark_word.Statement.{statement}
 use Rattle.blif_text.proofs.mark_word.Tie as tie
 
