@@ -3,9 +3,13 @@
 Usage: python3 test_vumneath.py
 """
 
+import array
+import copy
 import ctypes
 import doctest
+import multiprocessing
 import os
+import pickle
 import re
 import unittest
 
@@ -138,6 +142,77 @@ class Calls(unittest.TestCase):
         network = vumneath.read(GOOD)
         self.assertEqual(vumneath.read(vumneath.write(network)).inputs, network.inputs)
         self.assertEqual(vumneath.read(b""), Network(0, [], []))
+
+    def test_bytes_like(self):
+        text = GOOD + b" " * (-len(GOOD) % 24)
+        network, words = vumneath.read(text), array.array("I", text)
+        spread = memoryview(bytes(byte for pair in zip(text, b"#" * len(text)) for byte in pair))
+        kinds = [
+            bytearray(text), array.array("b", text), array.array("Q", text), words, memoryview(text).cast("d"),
+            memoryview(text).cast("I", (len(text) // 24, 6)), (ctypes.c_uint32 * len(words))(*words), spread[::2],
+            memoryview(text[::-1])[::-1], memoryview(array.array("I", words[::-1]))[::-1],
+        ]
+        for kind in kinds:
+            self.assertEqual(vumneath.read(kind), network, repr(kind))
+        self.assertEqual(number(vumneath.read, array.array("Q", bytes(32776))), 2)
+        self.assertEqual(vumneath.read(array.array("I")), vumneath.read(b""))
+        for other, said in ((text.decode(), "str"), (None, "NoneType"), (list(text), "list"), (7, "int")):
+            self.assertRaisesRegex(TypeError, rf"^read\(\) wants a bytes-like object, .* not {said}$", vumneath.read, other)
+
+    def test_messages(self):
+        a, messages = Signal.from_input(0), []
+        for inputs, form, pins in (
+            (1, "Lut", ()), (1, None, ()), (1, "Buf", ("a",)), (1, "Buf", (a, 4)), (1, "Buf", (Signal("a"),)), (1, "Buf", (Signal(0.5),)),
+            (1, "Buf", (Signal(2**32),)), ("one", "Buf", (a,)), (1, "Binary And", (a,)), (1, "Dff", (a,) * 4), (1, "Buf", ()),
+            (1, "Buf", (~Signal.from_input(1),)), (1, "Buf", (Signal.from_var(1),)), (257, "Buf", (a,)), (-1, "Buf", (ONE,)),
+            (1, "Nary Or", (a,) * 16385),
+        ):
+            with self.assertRaises((ValueError, TypeError, Refusal)) as raised:
+                vumneath.write(Network(inputs, [Gate(form, pins)], []))
+            messages.append(f"{type(raised.exception).__name__}: {raised.exception}")
+        forms, twenty = ", ".join(vumneath.FORMS), "Refusal: refused=20: what is lent to the writer is no network "
+        self.assertEqual(messages, [
+            f"ValueError: gate 0 has the form 'Lut', which is none of vumneath.FORMS: {forms}",
+            f"ValueError: gate 0 has the form None, which is none of vumneath.FORMS: {forms}",
+            "TypeError: gate 0, pin 0 is no Signal but 'a'",
+            "TypeError: gate 0, pin 1 is no Signal but 4",
+            "TypeError: the cell of gate 0, pin 0 is no whole number but 'a'",
+            "TypeError: the cell of gate 0, pin 0 is no whole number but 0.5",
+            "ValueError: the cell of gate 0, pin 0 is no number of 32 bits but 4294967296",
+            "TypeError: the number of inputs is no whole number but 'one'",
+            twenty + "(gate 0, Binary And, has 1 pins and not 2)",
+            twenty + "(gate 0, Dff, has 4 pins and not 3)",
+            twenty + "(gate 0, Buf, has 0 pins and not 1)",
+            twenty + "(gate 0 takes !i1, which there is not)",
+            twenty + "(gate 0 takes x1, which there is not)",
+            twenty + "(257 inputs, where 0 to 256 are possible)",
+            twenty + "(-1 inputs, where 0 to 256 are possible)",
+            twenty + "(16385 pins, where 0 to 16384 are possible)",
+        ])
+        self.assertRaisesRegex(TypeError, "^output 0 is no Signal but 2$", vumneath.write, Network(0, [], [2]))
+        with self.assertRaises(Refusal) as raised:
+            vumneath.write(Network(0, [], [ONE, ~a]))
+        self.assertEqual(raised.exception.detail, "an output takes !i0, which there is not")
+
+    def test_refusals_are_copied(self):
+        for refusal in [Refusal(n) for n in vumneath.REFUSALS] + [Refusal(20, "257 inputs")]:
+            copies = [copy.copy(refusal), copy.deepcopy(refusal)]
+            copies += [pickle.loads(pickle.dumps(refusal, protocol)) for protocol in range(pickle.HIGHEST_PROTOCOL + 1)]
+            for each in copies:
+                self.assertEqual((type(each), each.args, vars(each), str(each)), (Refusal, refusal.args, vars(refusal), str(refusal)))
+        self.assertEqual(str(Refusal(7)), "refused=7: there is a second .model")
+        self.assertEqual(repr(Refusal(7)), "Refusal(7)")
+
+    def test_refusals_from_other_processes(self):
+        with multiprocessing.Pool(1) as pool:
+            self.assertEqual(pool.apply_async(vumneath.read, (GOOD,)).get(60), vumneath.read(GOOD))
+            for text, wanted in ((b".end", 8), (b"\x80", 3)):
+                with self.assertRaises(Refusal) as raised:
+                    pool.apply_async(vumneath.read, (text,)).get(60)
+                self.assertEqual(raised.exception.number, wanted)
+            with self.assertRaises(Refusal) as raised:
+                pool.apply_async(vumneath.write, (Network(257, [], []),)).get(60)
+            self.assertEqual(raised.exception.detail, "257 inputs, where 0 to 256 are possible")
 
     def test_signals(self):
         self.assertEqual([Signal.from_input(1).cell, Signal.from_var(1).cell], [0xFFFFFFFC, 4])

@@ -18,8 +18,11 @@ into, else the one that tests/bindings leaves in the repository.
 """
 
 import ctypes
+import operator
 import os
 from typing import List, NamedTuple, Tuple
+
+__version__ = "0.1.0"
 
 MAX_TEXT = 32768
 MAX_INPUTS = 256
@@ -54,14 +57,23 @@ FORMS = (
     "Nary Nor", "Nary Xor", "Nary Xnor", "Buf", "Dff",
 )
 
+# How many pins a gate has; one of the form Nary has any number.
+_PIN_COUNTS = {"Binary": 2, "Ternary": 3, "Buf": 1, "Dff": 3}
+
 
 class Refusal(Exception):
-    """Why a text is not read or a network not written: its number and a plain sentence."""
+    """Why a text is not read or a network not written: its number and a plain sentence. Where write() refuses what is no network, the
+    detail says what is wrong with it."""
 
-    def __init__(self, number: int):
+    def __init__(self, number: int, detail: str = ""):
+        # What stands in the exception's args is handed to this function again where a refusal is copied or pickled.
+        super().__init__(number, *([detail] if detail else []))
         self.number = number
         self.sentence = REFUSALS[number]
-        super().__init__(f"refused={number}: {self.sentence}")
+        self.detail = detail
+
+    def __str__(self) -> str:
+        return f"refused={self.number}: {self.sentence}" + (f" ({self.detail})" if self.detail else "")
 
 
 class Signal(NamedTuple):
@@ -178,10 +190,20 @@ def write_cells(counts, gates, pins, outputs, out) -> TextAnswer:
     return _library.vumneath_write_blif(*fitting, *(part for array in (gates, pins, outputs, out) for part in (array, len(array))))
 
 
+def _bytes_of(text) -> bytes:
+    """All bytes of a bytes-like object: also of one whose items have several bytes, or whose items do not lie side by side."""
+    try:
+        return memoryview(text).tobytes()
+    except TypeError:
+        raise TypeError(f"read() wants a bytes-like object, such as bytes or bytearray, not {type(text).__name__}") from None
+
+
 def read(text: bytes) -> Network:
-    """Reads a BLIF text. Flip-flops come first, then every other gate behind those that it takes its inputs from."""
+    """Reads a BLIF text: all bytes of a bytes-like object. Flip-flops come first, then every other gate behind those that it takes its
+    inputs from."""
+    data = _bytes_of(text)
     lent = [(ctypes.c_uint32 * n)() for n in (MAX_GATES * GATE_CELLS, MAX_PINS, MAX_OUTPUTS, MAX_GATES * GATE_CELLS, MAX_PINS)]
-    answer = read_cells((ctypes.c_uint8 * len(text)).from_buffer_copy(text), *lent)
+    answer = read_cells((ctypes.c_uint8 * len(data)).from_buffer_copy(data), *lent)
     if answer.refused:
         raise Refusal(answer.refused)
     records = [lent[0][g * GATE_CELLS : (g + 1) * GATE_CELLS] for g in range(answer.gates)]
@@ -189,24 +211,62 @@ def read(text: bytes) -> Network:
     return Network(answer.inputs, gates, [Signal(cell) for cell in lent[2][: answer.outputs]])
 
 
-def _lend(signals) -> List[int]:
-    """The cells of signals."""
-    cells = [signal.cell for signal in signals]
-    if not all(0 <= cell < 2**32 for cell in cells):
-        raise ValueError("a signal's cell is a number of 32 bits")
+def _number_of(value, place: str) -> int:
+    """A whole number; place says where it stands."""
+    try:
+        return operator.index(value)
+    except TypeError:
+        raise TypeError(f"{place} is no whole number but {value!r}") from None
+
+
+def _lend(signals, place: str) -> List[int]:
+    """The cells of signals; place says where they stand."""
+    cells = []
+    for i, signal in enumerate(signals):
+        if not isinstance(signal, Signal):
+            raise TypeError(f"{place} {i} is no Signal but {signal!r}")
+        cell = _number_of(signal.cell, f"the cell of {place} {i}")
+        if not 0 <= cell < 2**32:
+            raise ValueError(f"the cell of {place} {i} is no number of 32 bits but {cell}")
+        cells.append(cell)
     return cells
 
 
+def _wrong_with(network: Network) -> str:
+    """What a network that was refused with 20 has wrong; the first thing found."""
+    pins = [len(gate.pins) for gate in network.gates]
+    for what, count, limit in (
+        ("inputs", network.inputs, MAX_INPUTS), ("outputs", len(network.outputs), MAX_OUTPUTS),
+        ("gates", len(pins), MAX_GATES), ("pins", sum(pins), MAX_PINS),
+    ):
+        if not 0 <= count <= limit:
+            return f"{count} {what}, where 0 to {limit} are possible"
+    for v, gate in enumerate(network.gates):
+        wanted = _PIN_COUNTS.get(gate.form.split()[0])
+        if wanted is not None and len(gate.pins) != wanted:
+            return f"gate {v}, {gate.form}, has {len(gate.pins)} pins and not {wanted}"
+    users = [(f"gate {v}", gate.pins) for v, gate in enumerate(network.gates)] + [("an output", network.outputs)]
+    for user, signals in users:
+        for signal in signals:
+            count = network.inputs if signal.is_input() else len(pins)
+            if not signal.is_constant() and signal.number() >= count:
+                return f"{user} takes {signal}, which there is not"
+    return ""
+
+
 def write(network: Network) -> bytes:
-    """Writes a network, read or made by the caller, as a BLIF text. What is no network is refused with 20; a form that is none of FORMS
-    and a signal that is no 32-bit number are a ValueError."""
+    """Writes a network, read or made by the caller, as a BLIF text. What is no network is refused with 20, and the refusal's detail says
+    why. A form that is none of FORMS and a cell over 32 bits are a ValueError; a pin that is no Signal is a TypeError."""
     records, pins = [], []
-    for gate in network.gates:
+    for v, gate in enumerate(network.gates):
+        if gate.form not in FORMS:
+            raise ValueError(f"gate {v} has the form {gate.form!r}, which is none of vumneath.FORMS: {', '.join(FORMS)}")
         records += [FORMS.index(gate.form) + 1, len(pins), len(gate.pins)]
-        pins += _lend(gate.pins)
-    lent = [(ctypes.c_uint32 * len(part))(*part) for part in (records, pins, _lend(network.outputs))]
+        pins += _lend(gate.pins, f"gate {v}, pin")
+    lent = [(ctypes.c_uint32 * len(part))(*part) for part in (records, pins, _lend(network.outputs, "output"))]
     out = (ctypes.c_uint8 * MAX_TEXT)()
-    answer = write_cells((network.inputs, len(network.gates), len(pins), len(network.outputs)), *lent, out)
+    inputs = _number_of(network.inputs, "the number of inputs")
+    answer = write_cells((inputs, len(network.gates), len(pins), len(network.outputs)), *lent, out)
     if answer.refused:
-        raise Refusal(answer.refused)
+        raise Refusal(answer.refused, _wrong_with(network) if answer.refused == 20 else "")
     return bytes(out[: answer.length])
