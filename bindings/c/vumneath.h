@@ -41,25 +41,25 @@ extern "C" {
 
 /* Refusals of vumneath_read_blif. Of several that apply the answer is the lowest, except among 4 and 5 and among 7 to 10, which are asked
  * statement by statement, and among 12 and 13, which are asked cover by cover: there the earlier statement or cover decides. */
-#define VUMNEATH_REFUSED_CELLS 1         /* too few cells are lent */
-#define VUMNEATH_REFUSED_LONG 2          /* the text is over 32,768 bytes */
-#define VUMNEATH_REFUSED_BYTE 3          /* the text has a byte of 128 or more */
-#define VUMNEATH_REFUSED_NAMELESS 4      /* .model lacks a name, or .latch has fewer than two */
-#define VUMNEATH_REFUSED_UNSUPPORTED 5   /* a statement that starts with a dot is not supported */
-#define VUMNEATH_REFUSED_SIZE 6          /* there are over 256 inputs, 256 outputs, 1,024 gates or 16,384 pins */
-#define VUMNEATH_REFUSED_MODELS 7        /* there is a second .model */
-#define VUMNEATH_REFUSED_END 8           /* .end comes before any .model */
-#define VUMNEATH_REFUSED_COVER_NAMES 9   /* .names has no names */
-#define VUMNEATH_REFUSED_TWICE 10        /* a name is defined twice */
-#define VUMNEATH_REFUSED_UNDEFINED 11    /* an output, a latch's input or a cover's input is not defined */
-#define VUMNEATH_REFUSED_CUBE 12         /* a cube line is wrong */
-#define VUMNEATH_REFUSED_MIXED 13        /* the cube lines of a cover differ in output */
-#define VUMNEATH_REFUSED_LOOP 14         /* there is a combinational loop */
+#define VUMNEATH_REFUSED_TOO_FEW_CELLS 1       /* too few cells are lent */
+#define VUMNEATH_REFUSED_TEXT_TOO_LONG 2       /* the text is over 32,768 bytes */
+#define VUMNEATH_REFUSED_HIGH_BYTE 3           /* the text has a byte of 128 or more */
+#define VUMNEATH_REFUSED_MISSING_NAME 4        /* .model lacks a name, or .latch has fewer than two */
+#define VUMNEATH_REFUSED_UNSUPPORTED 5         /* a statement that starts with a dot is not supported */
+#define VUMNEATH_REFUSED_SIZE_PASSED 6         /* there are over 256 inputs, 256 outputs, 1,024 gates or 16,384 pins */
+#define VUMNEATH_REFUSED_SECOND_MODEL 7        /* there is a second .model */
+#define VUMNEATH_REFUSED_END_BEFORE_MODEL 8    /* .end comes before any .model */
+#define VUMNEATH_REFUSED_NAMES_EMPTY 9         /* .names has no names */
+#define VUMNEATH_REFUSED_DEFINED_TWICE 10      /* a name is defined twice */
+#define VUMNEATH_REFUSED_UNDEFINED 11          /* an output, a latch's input or a cover's input is not defined */
+#define VUMNEATH_REFUSED_WRONG_CUBE_LINE 12    /* a cube line is wrong: its tokens, its columns or its output */
+#define VUMNEATH_REFUSED_OUTPUTS_DIFFER 13     /* the cube lines of a cover differ in output */
+#define VUMNEATH_REFUSED_COMBINATIONAL_LOOP 14 /* there is a combinational loop */
 
 /* Refusals of vumneath_write_blif, in the order in which they are asked. */
-#define VUMNEATH_REFUSED_NETWORK 20      /* what is lent to the writer is no network */
-#define VUMNEATH_REFUSED_EXCLUSIVE 21    /* an Xor or Xnor of any number of inputs has over 12 */
-#define VUMNEATH_REFUSED_ROOM 22         /* the text does not fit into the output slice or into 32,768 bytes */
+#define VUMNEATH_REFUSED_NOT_A_NETWORK 20      /* what is lent to the writer is no network */
+#define VUMNEATH_REFUSED_WIDE_EXCLUSIVE 21     /* an Xor or Xnor of any number of inputs has over 12 */
+#define VUMNEATH_REFUSED_TEXT_DOES_NOT_FIT 22  /* the text does not fit into the output slice or into 32,768 bytes */
 
 /* Signals. A signal is one cell: a constant, an input or a gate, as it is or inverted. Bit 0 is the inversion. Gates are numbered from 0
  * in the order of their records, inputs from 0 in the order in which the text names them. Input 0 is FFFFFFFE hexadecimal, input 1

@@ -220,10 +220,12 @@ class Calls(unittest.TestCase):
         self.assertRaises(ValueError, Signal.from_var, 2**30)
         self.assertRaises(ValueError, Signal.from_input, -1)
 
-    def test_sentences_of_the_header(self):
+    def test_refusals_of_the_header(self):
         with open(os.path.join(HERE, "../c/vumneath.h"), encoding="ascii") as file:
-            lines = re.findall(r"^#define VUMNEATH_REFUSED_\w+ (\d+) +/\* (.*) \*/$", file.read(), flags=re.M)
-        self.assertEqual({int(n): sentence for n, sentence in lines}, vumneath.REFUSALS)
+            lines = re.findall(r"^#define VUMNEATH_REFUSED_(\w+) +(\d+) +/\* (.*) \*/$", file.read(), flags=re.M)
+        refusals = [Refusal(n) for n in vumneath.REFUSALS]
+        self.assertEqual([(each.name.upper(), str(each.number), each.sentence) for each in refusals],
+                         [(constant.replace("_", ""), n, sentence) for constant, n, sentence in lines])
 
     def test_doc(self):
         self.assertEqual(doctest.testmod(vumneath).failed, 0)

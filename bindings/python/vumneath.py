@@ -31,25 +31,28 @@ MAX_GATES = 1024
 MAX_PINS = 16384
 GATE_CELLS = 3
 
-REFUSALS = {
-    1: "too few cells are lent",
-    2: "the text is over 32,768 bytes",
-    3: "the text has a byte of 128 or more",
-    4: ".model lacks a name, or .latch has fewer than two",
-    5: "a statement that starts with a dot is not supported",
-    6: "there are over 256 inputs, 256 outputs, 1,024 gates or 16,384 pins",
-    7: "there is a second .model",
-    8: ".end comes before any .model",
-    9: ".names has no names",
-    10: "a name is defined twice",
-    11: "an output, a latch's input or a cover's input is not defined",
-    12: "a cube line is wrong",
-    13: "the cube lines of a cover differ in output",
-    14: "there is a combinational loop",
-    20: "what is lent to the writer is no network",
-    21: "an Xor or Xnor of any number of inputs has over 12",
-    22: "the text does not fit into the output slice or into 32,768 bytes",
-}
+# Each refusal: its number, its name, its sentence.
+_REFUSALS = (
+    (1, "TooFewCells", "too few cells are lent"),
+    (2, "TextTooLong", "the text is over 32,768 bytes"),
+    (3, "HighByte", "the text has a byte of 128 or more"),
+    (4, "MissingName", ".model lacks a name, or .latch has fewer than two"),
+    (5, "Unsupported", "a statement that starts with a dot is not supported"),
+    (6, "SizePassed", "there are over 256 inputs, 256 outputs, 1,024 gates or 16,384 pins"),
+    (7, "SecondModel", "there is a second .model"),
+    (8, "EndBeforeModel", ".end comes before any .model"),
+    (9, "NamesEmpty", ".names has no names"),
+    (10, "DefinedTwice", "a name is defined twice"),
+    (11, "Undefined", "an output, a latch's input or a cover's input is not defined"),
+    (12, "WrongCubeLine", "a cube line is wrong: its tokens, its columns or its output"),
+    (13, "OutputsDiffer", "the cube lines of a cover differ in output"),
+    (14, "CombinationalLoop", "there is a combinational loop"),
+    (20, "NotANetwork", "what is lent to the writer is no network"),
+    (21, "WideExclusive", "an Xor or Xnor of any number of inputs has over 12"),
+    (22, "TextDoesNotFit", "the text does not fit into the output slice or into 32,768 bytes"),
+)
+REFUSALS = {number: sentence for number, _, sentence in _REFUSALS}
+_NAMES = {number: name for number, name, _ in _REFUSALS}
 
 # The gate forms 1 to 14: Binary, Ternary, Nary, Buf and Dff, with the type where the form has several.
 FORMS = (
@@ -62,13 +65,14 @@ _PIN_COUNTS = {"Binary": 2, "Ternary": 3, "Buf": 1, "Dff": 3}
 
 
 class Refusal(Exception):
-    """Why a text is not read or a network not written: its number and a plain sentence. Where write() refuses what is no network, the
-    detail says what is wrong with it."""
+    """Why a text is not read or a network not written: its number, its name and a plain sentence. Where write() refuses what is no network,
+    the detail says what is wrong with it."""
 
     def __init__(self, number: int, detail: str = ""):
         # What stands in the exception's args is handed to this function again where a refusal is copied or pickled.
         super().__init__(number, *([detail] if detail else []))
         self.number = number
+        self.name = _NAMES[number]
         self.sentence = REFUSALS[number]
         self.detail = detail
 

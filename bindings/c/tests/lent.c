@@ -101,7 +101,7 @@ vumneath_network read_lent(const struct lent *text, const struct cells5 *lent)
 
 void check_left(vumneath_network net, const struct cells5 *lent, unsigned long place)
 {
-    check(net.refused <= VUMNEATH_REFUSED_LOOP, "a reader's refusal is 1 to 14", place);
+    check(net.refused <= VUMNEATH_REFUSED_COMBINATIONAL_LOOP, "a reader's refusal is 1 to 14", place);
     if (net.refused)
         check(!net.inputs && !net.gates && !net.pins && !net.outputs, "counts are zero after a refusal", place);
     check(net.inputs <= VUMNEATH_MAX_INPUTS, "inputs are within the sizes", place);

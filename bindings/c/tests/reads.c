@@ -111,7 +111,7 @@ static void call_damaged(void)
         memcpy(damaged, good, length);
         damaged[i / sizeof others] = others[i % sizeof others];
         uint32_t refused = read_checked(damaged, length, one_more, i);
-        check((refused == VUMNEATH_REFUSED_BYTE) == (others[i % sizeof others] == '\x80'), "3 exactly for a byte over 127", i);
+        check((refused == VUMNEATH_REFUSED_HIGH_BYTE) == (others[i % sizeof others] == '\x80'), "3 exactly for a byte over 127", i);
     }
 }
 
@@ -124,8 +124,8 @@ static void call_longest(char filler)
     memset(text, filler, VUMNEATH_MAX_TEXT + 1);
     uint32_t wanted = filler == '.' ? VUMNEATH_REFUSED_UNSUPPORTED : 0;
     check(read_checked(text, VUMNEATH_MAX_TEXT, enough, 0) == wanted, "the longest text is read", (unsigned char)filler);
-    check(read_checked(text, VUMNEATH_MAX_TEXT + 1, enough, 0) == VUMNEATH_REFUSED_LONG, "a byte more is 2", (unsigned char)filler);
-    check(read_checked(text, VUMNEATH_MAX_TEXT, too_few, 0) == VUMNEATH_REFUSED_CELLS, "too few cells are 1", (unsigned char)filler);
+    check(read_checked(text, VUMNEATH_MAX_TEXT + 1, enough, 0) == VUMNEATH_REFUSED_TEXT_TOO_LONG, "a byte more is 2", (unsigned char)filler);
+    check(read_checked(text, VUMNEATH_MAX_TEXT, too_few, 0) == VUMNEATH_REFUSED_TOO_FEW_CELLS, "too few cells are 1", (unsigned char)filler);
     free(text);
 }
 
@@ -162,19 +162,19 @@ static uint32_t wide(unsigned inputs)
 static void call_largest(void)
 {
     check(many(".inputs", " n%u", 256) == 0, "256 inputs", 0);
-    check(many(".inputs", " n%u", 257) == VUMNEATH_REFUSED_SIZE, "257 inputs", 0);
+    check(many(".inputs", " n%u", 257) == VUMNEATH_REFUSED_SIZE_PASSED, "257 inputs", 0);
     check(many(".inputs a\n.outputs", " a", 256) == 0, "256 outputs", 0);
-    check(many(".inputs a\n.outputs", " a", 257) == VUMNEATH_REFUSED_SIZE, "257 outputs", 0);
+    check(many(".inputs a\n.outputs", " a", 257) == VUMNEATH_REFUSED_SIZE_PASSED, "257 outputs", 0);
     check(many("", ".names n%u\n", 1024) == 0, "1,024 gates", 0);
-    check(many("", ".names n%u\n", 1025) == VUMNEATH_REFUSED_SIZE, "1,025 gates", 0);
+    check(many("", ".names n%u\n", 1025) == VUMNEATH_REFUSED_SIZE_PASSED, "1,025 gates", 0);
     check(wide(8190) == 0, "16,384 pins", 0);
-    check(wide(8191) == VUMNEATH_REFUSED_SIZE, "16,386 pins", 0);
+    check(wide(8191) == VUMNEATH_REFUSED_SIZE_PASSED, "16,386 pins", 0);
 }
 
 static void call_null(void)
 {
     vumneath_network net = vumneath_read_blif(NULL, 0, NULL, 0, NULL, 0, NULL, 0, NULL, 0, NULL, 0);
-    check(net.refused == VUMNEATH_REFUSED_CELLS, "null pointers of length 0 are too few cells", 0);
+    check(net.refused == VUMNEATH_REFUSED_TOO_FEW_CELLS, "null pointers of length 0 are too few cells", 0);
     struct cells5 lent = lend_cells(enough);
     net = vumneath_read_blif(NULL, 0, cells(&lent.gates), VUMNEATH_LEND_GATES, cells(&lent.pins), VUMNEATH_LEND_PINS,
         cells(&lent.outputs), VUMNEATH_LEND_OUTPUTS, cells(&lent.work_gates), VUMNEATH_LEND_GATES, cells(&lent.work_pins),

@@ -78,7 +78,7 @@ static void replay_network(const struct network *net, size_t room, const struct 
     if (text.refused)
         return;
     check(write_checked(*net, text.length, &length, i) == 0, "a slice of the text's length is enough", i);
-    check(write_checked(*net, text.length - 1, &length, i) == VUMNEATH_REFUSED_ROOM, "a byte less is 22", i);
+    check(write_checked(*net, text.length - 1, &length, i) == VUMNEATH_REFUSED_TEXT_DOES_NOT_FIT, "a byte less is 22", i);
 }
 
 void replay_writes(const char *networks, const char *stored, unsigned long step)
@@ -157,7 +157,7 @@ static void call_counts(void)
         uint32_t *count = counts[i % 4], kept = *count;
         *count = others[i / 4];
         bool fits = count == &net.inputs && *count <= VUMNEATH_MAX_INPUTS;
-        check(write_checked(net, VUMNEATH_MAX_TEXT, &length, i) == (fits ? 0 : VUMNEATH_REFUSED_NETWORK), "a count too large is 20", i);
+        check(write_checked(net, VUMNEATH_MAX_TEXT, &length, i) == (fits ? 0 : VUMNEATH_REFUSED_NOT_A_NETWORK), "a count too large is 20", i);
         *count = kept;
     }
     take_back_network(&net, 0);
@@ -186,13 +186,13 @@ static void call_longest(void)
     uint32_t left = VUMNEATH_MAX_TEXT - none, tens = left % 4;
     check(write_wide(VUMNEATH_AND, (left - 5 * tens) / 4, tens, VUMNEATH_MAX_TEXT, &length) == 0, "the longest text", left);
     check(length == VUMNEATH_MAX_TEXT, "the longest text has 32,768 bytes", length);
-    check(write_wide(VUMNEATH_AND, (left - 5 * tens) / 4 - 1, tens + 1, 2 * VUMNEATH_MAX_TEXT, &length) == VUMNEATH_REFUSED_ROOM,
+    check(write_wide(VUMNEATH_AND, (left - 5 * tens) / 4 - 1, tens + 1, 2 * VUMNEATH_MAX_TEXT, &length) == VUMNEATH_REFUSED_TEXT_DOES_NOT_FIT,
         "a byte more is 22 in a slice with room", left);
-    check(write_wide(VUMNEATH_AND, VUMNEATH_MAX_PINS, 0, VUMNEATH_MAX_TEXT, &length) == VUMNEATH_REFUSED_ROOM, "16,384 pins", 0);
-    check(write_wide(VUMNEATH_AND, VUMNEATH_MAX_PINS + 1, 0, VUMNEATH_MAX_TEXT, &length) == VUMNEATH_REFUSED_NETWORK, "16,385 pins", 0);
-    check(write_wide(VUMNEATH_XOR, 12, 0, 2 * VUMNEATH_MAX_TEXT, &length) != VUMNEATH_REFUSED_EXCLUSIVE, "Xor of 12 inputs", 0);
-    check(write_wide(VUMNEATH_XOR, 13, 0, 0, &length) == VUMNEATH_REFUSED_EXCLUSIVE, "Xor of 13 inputs", 0);
-    check(write_wide(VUMNEATH_XNOR, 13, 0, 0, &length) == VUMNEATH_REFUSED_EXCLUSIVE, "Xnor of 13 inputs", 0);
+    check(write_wide(VUMNEATH_AND, VUMNEATH_MAX_PINS, 0, VUMNEATH_MAX_TEXT, &length) == VUMNEATH_REFUSED_TEXT_DOES_NOT_FIT, "16,384 pins", 0);
+    check(write_wide(VUMNEATH_AND, VUMNEATH_MAX_PINS + 1, 0, VUMNEATH_MAX_TEXT, &length) == VUMNEATH_REFUSED_NOT_A_NETWORK, "16,385 pins", 0);
+    check(write_wide(VUMNEATH_XOR, 12, 0, 2 * VUMNEATH_MAX_TEXT, &length) != VUMNEATH_REFUSED_WIDE_EXCLUSIVE, "Xor of 12 inputs", 0);
+    check(write_wide(VUMNEATH_XOR, 13, 0, 0, &length) == VUMNEATH_REFUSED_WIDE_EXCLUSIVE, "Xor of 13 inputs", 0);
+    check(write_wide(VUMNEATH_XNOR, 13, 0, 0, &length) == VUMNEATH_REFUSED_WIDE_EXCLUSIVE, "Xnor of 13 inputs", 0);
 }
 
 /* The network with the largest counts: 256 inputs and outputs, 1,024 gates, all constants. */
@@ -207,7 +207,7 @@ static void call_largest(void)
     }
     check(write_checked(net, VUMNEATH_MAX_TEXT, &length, 0) == 0, "the largest counts are written", 0);
     net.gate_count = 1023;
-    check(write_checked(net, VUMNEATH_MAX_TEXT, &length, 0) == VUMNEATH_REFUSED_NETWORK, "pins that no gate has are 20", 0);
+    check(write_checked(net, VUMNEATH_MAX_TEXT, &length, 0) == VUMNEATH_REFUSED_NOT_A_NETWORK, "pins that no gate has are 20", 0);
     take_back_network(&net, 0);
 }
 
@@ -215,11 +215,11 @@ static void call_null(void)
 {
     uint8_t out[200];
     vumneath_text text = vumneath_write_blif(0, 0, 0, 0, NULL, 0, NULL, 0, NULL, 0, NULL, 0);
-    check(text.refused == VUMNEATH_REFUSED_ROOM && text.length == 0, "no room at all is 22", 0);
+    check(text.refused == VUMNEATH_REFUSED_TEXT_DOES_NOT_FIT && text.length == 0, "no room at all is 22", 0);
     text = vumneath_write_blif(0, 0, 0, 0, NULL, 0, NULL, 0, NULL, 0, out, sizeof out);
     check(text.refused == 0 && text.length == 95, "null pointers of length 0 are the empty network", 0);
     text = vumneath_write_blif(0, 1, 0, 0, NULL, 0, NULL, 0, NULL, 0, out, sizeof out);
-    check(text.refused == VUMNEATH_REFUSED_NETWORK, "a gate without cells is 20", 0);
+    check(text.refused == VUMNEATH_REFUSED_NOT_A_NETWORK, "a gate without cells is 20", 0);
 }
 
 void call_writes(void)
@@ -227,9 +227,9 @@ void call_writes(void)
     unsigned long before = checks;
     call_null();
     check(write_good(12, 10, 2) == 0, "slices with exactly enough cells", 0);
-    check(write_good(11, 10, 2) == VUMNEATH_REFUSED_NETWORK, "a gate cell short", 0);
-    check(write_good(12, 9, 2) == VUMNEATH_REFUSED_NETWORK, "a pin cell short", 0);
-    check(write_good(12, 10, 1) == VUMNEATH_REFUSED_NETWORK, "an output cell short", 0);
+    check(write_good(11, 10, 2) == VUMNEATH_REFUSED_NOT_A_NETWORK, "a gate cell short", 0);
+    check(write_good(12, 9, 2) == VUMNEATH_REFUSED_NOT_A_NETWORK, "a pin cell short", 0);
+    check(write_good(12, 10, 1) == VUMNEATH_REFUSED_NOT_A_NETWORK, "an output cell short", 0);
     call_damaged();
     call_counts();
     call_longest();

@@ -5,7 +5,7 @@
 //! proved to answer every text and every network, sound or damaged, with a result or a numbered [`Refusal`].
 //!
 //! ```
-//! use vumneath::{Gate, NaryType, Network, Signal};
+//! use vumneath::{Gate, NaryType, Network, Refusal, Signal};
 //!
 //! let text = b".model m\n.inputs a b\n.outputs y\n.names a b y\n10 1\n.end\n";
 //! let network = Network::read(text)?;
@@ -16,9 +16,9 @@
 //! assert!(network.write()?.ends_with(b".names i0 i1_n x0\n11 1\n.names i1 i1_n\n0 1\n.names vdd\n1\n.names gnd\n"));
 //!
 //! let refusal = Network::read(b".outputs y\n").unwrap_err();
-//! assert_eq!(refusal.number(), 11);
+//! assert_eq!((refusal, refusal.number()), (Refusal::Undefined, 11));
 //! assert_eq!(refusal.to_string(), "an output, a latch's input or a cover's input is not defined");
-//! # Ok::<(), vumneath::Refusal>(())
+//! # Ok::<(), Refusal>(())
 //! ```
 //!
 //! [`cells`] has the two functions over slices that the caller lends, for programs that want no heap.

@@ -96,17 +96,21 @@ fn signals() {
     );
 }
 
-/// The sentences are those of the C header.
+/// The refusals are the constants of the C header, as they are named there.
 #[test]
-fn sentences_of_the_header() {
+fn refusals_of_the_header() {
     let header = std::fs::read_to_string(concat!(env!("CARGO_MANIFEST_DIR"), "/../c/vumneath.h")).unwrap();
-    let lines = header.lines().filter_map(|line| line.strip_prefix("#define VUMNEATH_REFUSED_"));
-    let mut found = 0;
-    for line in lines {
-        let (number, comment) = line.split_once(' ').unwrap().1.split_once("/*").unwrap();
-        let refusal = Refusal::of(number.trim().parse().unwrap()).unwrap_err();
-        assert_eq!(refusal.sentence(), comment.trim_end_matches("*/").trim());
-        found += 1;
+    let mut found = Vec::new();
+    for line in header.lines().filter_map(|line| line.strip_prefix("#define VUMNEATH_REFUSED_")) {
+        let (constant, rest) = line.split_once(' ').unwrap();
+        let (number, comment) = rest.split_once("/*").unwrap();
+        let refusal = Refusal::from_number(number.trim().parse().unwrap()).unwrap();
+        assert_eq!(refusal.to_string(), comment.trim_end_matches("*/").trim());
+        assert_eq!(format!("{refusal:?}").to_uppercase(), constant.replace('_', ""));
+        assert_eq!(Refusal::of(refusal.number()), Err(refusal));
+        found.push(refusal);
     }
-    assert_eq!(found, 17);
+    assert_eq!(found, Refusal::ALL);
+    assert_eq!(Refusal::of(0), Ok(()));
+    assert_eq!([0, 15, 19, 23, u32::MAX].map(Refusal::from_number), [None; 5]);
 }
