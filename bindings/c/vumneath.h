@@ -8,7 +8,7 @@
  *   - always return: whatever the bytes and cells hold, the answer is a result or the number of a refusal;
  *   - use no heap, no file, no global state and no lock, so threads may call them at the same time with slices of their own;
  *   - need less than 40 KiB of stack (measured by the tests: 33 KiB for reading, 2 KiB for writing);
- *   - do not care what the cells and bytes to be filled held before.
+ *   - do not look at the cells and bytes to be filled before they store there: memory that was never written is fine.
  *
  * A slice is a pointer and a length, counted in elements: bytes of a text, 32-bit cells otherwise. The caller sees to three things:
  *   - a slice's memory exists in its whole length, and cells are aligned as uint32_t is;

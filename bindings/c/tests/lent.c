@@ -94,9 +94,21 @@ void take_back_cells(struct cells5 *lent, unsigned long place)
 
 vumneath_network read_lent(const struct lent *text, const struct cells5 *lent)
 {
-    return vumneath_read_blif(text->part, text->bytes, cells(&lent->gates), cell_count(&lent->gates), cells(&lent->pins),
+    make_undefined(&lent->gates);
+    make_undefined(&lent->pins);
+    make_undefined(&lent->outputs);
+    make_undefined(&lent->work_gates);
+    make_undefined(&lent->work_pins);
+    vumneath_network net = vumneath_read_blif(text->part, text->bytes, cells(&lent->gates), cell_count(&lent->gates), cells(&lent->pins),
         cell_count(&lent->pins), cells(&lent->outputs), cell_count(&lent->outputs), cells(&lent->work_gates),
         cell_count(&lent->work_gates), cells(&lent->work_pins), cell_count(&lent->work_pins));
+    check_defined(&net, sizeof net, "the reader's answer is defined");
+    check_defined(lent->gates.part, lent->gates.bytes, "the gate cells are defined");
+    check_defined(lent->pins.part, lent->pins.bytes, "the pin cells are defined");
+    check_defined(lent->outputs.part, lent->outputs.bytes, "the output cells are defined");
+    check_defined(lent->work_gates.part, lent->work_gates.bytes, "the working gate cells are defined");
+    check_defined(lent->work_pins.part, lent->work_pins.bytes, "the working pin cells are defined");
+    return net;
 }
 
 void check_left(vumneath_network net, const struct cells5 *lent, unsigned long place)
@@ -126,9 +138,13 @@ uint32_t read_checked(const void *text, size_t length, struct sizes5 sizes, unsi
 
 vumneath_text write_lent(const struct network *net, const struct lent *out)
 {
-    return vumneath_write_blif(net->inputs, net->gate_count, net->pin_count, net->output_count, cells(&net->gates),
+    make_undefined(out);
+    vumneath_text text = vumneath_write_blif(net->inputs, net->gate_count, net->pin_count, net->output_count, cells(&net->gates),
         cell_count(&net->gates), cells(&net->pins), cell_count(&net->pins), cells(&net->outputs), cell_count(&net->outputs),
         out->part, out->bytes);
+    check_defined(&text, sizeof text, "the writer's answer is defined");
+    check_defined(out->part, out->bytes, "the output slice is defined");
+    return text;
 }
 
 void take_back_network(struct network *net, unsigned long place)

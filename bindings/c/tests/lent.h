@@ -31,6 +31,11 @@ uint32_t *cells(const struct lent *lent);
 size_t cell_count(const struct lent *lent);
 bool all_zero(const struct lent *lent, size_t from);
 
+/* Tells valgrind that a buffer holds nothing yet; checks that every byte is defined; prints how many were checked, or what is left out. */
+void make_undefined(const struct lent *lent);
+void check_defined(const void *bytes, size_t count, const char *what);
+void tell_defined(void);
+
 /* The five buffers that reading fills, and the counts of their cells. */
 struct cells5 { struct lent gates, pins, outputs, work_gates, work_pins; };
 struct sizes5 { size_t gates, pins, outputs, work_gates, work_pins; };
@@ -38,6 +43,7 @@ extern const struct sizes5 enough, one_more;
 
 struct cells5 lend_cells(struct sizes5 sizes);
 void take_back_cells(struct cells5 *lent, unsigned long place);
+/* Reads a text into buffers that are undefined to valgrind, and checks that they and the answer are defined then. */
 vumneath_network read_lent(const struct lent *text, const struct cells5 *lent);
 /* Checks that a refusal leaves zero counts and cells, and a success zeros beyond the counts and in the working cells. */
 void check_left(vumneath_network net, const struct cells5 *lent, unsigned long place);
@@ -47,6 +53,7 @@ uint32_t read_checked(const void *text, size_t length, struct sizes5 sizes, unsi
 /* A network for the writer. */
 struct network { uint32_t inputs, gate_count, pin_count, output_count; struct lent gates, pins, outputs; };
 
+/* Writes a network into a buffer that is undefined to valgrind, and checks that it and the answer are defined then. */
 vumneath_text write_lent(const struct network *net, const struct lent *out);
 void take_back_network(struct network *net, unsigned long place);
 

@@ -1,6 +1,7 @@
 /* The test of the C functions: stored texts and networks with their answers, calls by hand, and the stack in use.
  * Usage: test FOLDER_OF_CRATES [STEP]
- * With a STEP, as for memcheck, it takes each STEPth stored one, lends blocks without guard bytes and measures no stack.
+ * With a STEP, as for memcheck, it takes each STEPth stored one, lends blocks without guard bytes, measures no stack, and tells how many
+ * buffers that were undefined before a call were found defined after it.
  * Status: 0 where every check holds. */
 #include "lent.h"
 
@@ -30,6 +31,8 @@ int main(int argc, char **argv)
     call_writes();
     if (argc == 2)
         measure_stack(path(list, argv[1], "read_replay/stdin"));
+    else
+        tell_defined();
     printf("%lu checks, %lu failed\n", checks, failures);
     return failures != 0;
 }

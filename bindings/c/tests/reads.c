@@ -173,12 +173,12 @@ static void call_largest(void)
 
 static void call_null(void)
 {
-    vumneath_network net = vumneath_read_blif(NULL, 0, NULL, 0, NULL, 0, NULL, 0, NULL, 0, NULL, 0);
+    const struct lent no_text = { NULL, NULL, 0 };
+    const struct cells5 no_cells = { no_text, no_text, no_text, no_text, no_text };
+    vumneath_network net = read_lent(&no_text, &no_cells);
     check(net.refused == VUMNEATH_REFUSED_TOO_FEW_CELLS, "null pointers of length 0 are too few cells", 0);
     struct cells5 lent = lend_cells(enough);
-    net = vumneath_read_blif(NULL, 0, cells(&lent.gates), VUMNEATH_LEND_GATES, cells(&lent.pins), VUMNEATH_LEND_PINS,
-        cells(&lent.outputs), VUMNEATH_LEND_OUTPUTS, cells(&lent.work_gates), VUMNEATH_LEND_GATES, cells(&lent.work_pins),
-        VUMNEATH_LEND_PINS);
+    net = read_lent(&no_text, &lent);
     check(net.refused == 0 && net.inputs == 0 && net.gates == 0, "a null text of length 0 is the empty netlist", 0);
     check_left(net, &lent, 0);
     take_back_cells(&lent, 0);

@@ -213,13 +213,17 @@ static void call_largest(void)
 
 static void call_null(void)
 {
-    uint8_t out[200];
-    vumneath_text text = vumneath_write_blif(0, 0, 0, 0, NULL, 0, NULL, 0, NULL, 0, NULL, 0);
+    const struct lent no_cells = { NULL, NULL, 0 };
+    struct network net = { 0, 0, 0, 0, no_cells, no_cells, no_cells };
+    struct lent out = lend(200, 0xa5);
+    vumneath_text text = write_lent(&net, &no_cells);
     check(text.refused == VUMNEATH_REFUSED_TEXT_DOES_NOT_FIT && text.length == 0, "no room at all is 22", 0);
-    text = vumneath_write_blif(0, 0, 0, 0, NULL, 0, NULL, 0, NULL, 0, out, sizeof out);
+    text = write_lent(&net, &out);
     check(text.refused == 0 && text.length == 95, "null pointers of length 0 are the empty network", 0);
-    text = vumneath_write_blif(0, 1, 0, 0, NULL, 0, NULL, 0, NULL, 0, out, sizeof out);
+    net.gate_count = 1;
+    text = write_lent(&net, &out);
     check(text.refused == VUMNEATH_REFUSED_NOT_A_NETWORK, "a gate without cells is 20", 0);
+    take_back(&out, 0);
 }
 
 void call_writes(void)
