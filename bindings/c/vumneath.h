@@ -7,7 +7,7 @@
  * Both functions
  *   - always return: whatever the bytes and cells hold, the answer is a result or the number of a refusal;
  *   - use no heap, no file, no global state and no lock, so threads may call them at the same time with slices of their own;
- *   - need less than 40 KiB of stack (measured by the tests: 33 KiB for reading, 2 KiB for writing);
+ *   - need less than 40 KiB of stack (measured by the tests: 38 KiB for reading, 2 KiB for writing);
  *   - do not look at the cells and bytes to be filled before they store there: memory that was never written is fine.
  *
  * A slice is a pointer and a length, counted in elements: bytes of a text, 32-bit cells otherwise. The caller sees to three things:
@@ -109,9 +109,11 @@ extern "C" {
 /* refused is 0 on success, else the refusal's number; the counts are then 0 */
 typedef struct { uint32_t refused, inputs, gates, pins, outputs; } vumneath_network;
 
-/* Reads a text. On success the counts are those of the network; gates, pins and outputs hold it from their starts, with zero in every
- * further cell. work_gates and work_pins are used for working and are all zero afterwards. After a refusal all cells of the five slices
- * are zero. The text is only read, and nothing points into it afterwards. */
+/* Reads a text. A latch's type, control and start value are ignored: every flip-flop starts at zero and takes its data at each clock. The
+ * file DIFFERENCES.md, which is installed as share/doc/vumneath/DIFFERENCES.md, lists each place where a text is read otherwise than BLIF
+ * has it. On success the counts are those of the network; gates, pins and outputs hold it from their starts, with zero in every further
+ * cell. work_gates and work_pins are used for working and are all zero afterwards. After a refusal all cells of the five slices are zero.
+ * The text is only read, and nothing points into it afterwards. */
 vumneath_network vumneath_read_blif(const uint8_t *text, size_t text_len,
     uint32_t *gates, size_t gates_len, uint32_t *pins, size_t pins_len, uint32_t *outputs, size_t outputs_len,
     uint32_t *work_gates, size_t work_gates_len, uint32_t *work_pins, size_t work_pins_len);

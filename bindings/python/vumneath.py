@@ -204,7 +204,7 @@ def _bytes_of(text) -> bytes:
 
 def read(text: bytes) -> Network:
     """Reads a BLIF text: all bytes of a bytes-like object. Flip-flops come first, then every other gate behind those that it takes its
-    inputs from."""
+    inputs from. A latch's type, control and start value are ignored: every flip-flop starts at zero."""
     data = _bytes_of(text)
     lent = [(ctypes.c_uint32 * n)() for n in (MAX_GATES * GATE_CELLS, MAX_PINS, MAX_OUTPUTS, MAX_GATES * GATE_CELLS, MAX_PINS)]
     answer = read_cells((ctypes.c_uint8 * len(data)).from_buffer_copy(data), *lent)

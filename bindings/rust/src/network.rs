@@ -31,7 +31,8 @@ impl Network {
         Network { inputs, gates, outputs }
     }
 
-    /// Reads a BLIF text. Flip-flops come first, then every other gate behind those that it takes its inputs from.
+    /// Reads a BLIF text. Flip-flops come first, then every other gate behind those that it takes its inputs from. A latch's type,
+    /// control and start value are ignored: every flip-flop starts at zero.
     ///
     /// # Errors
     ///
