@@ -22,7 +22,7 @@ import operator
 import os
 from typing import List, NamedTuple, Tuple
 
-__version__ = "0.1.0"
+__version__ = "0.2.0"
 
 MAX_TEXT = 32768
 MAX_INPUTS = 256
