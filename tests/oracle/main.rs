@@ -1,5 +1,5 @@
 // The oracle: Quaigh's answers, as lists that programs of this repository replay.
-// usage: oracle checks SEED COUNT                  texts and networks with what is read and written, as terms of blif_model's Cases
+// usage: oracle checks SEED COUNT                  texts and networks with what is read and written, as the file specs/Stored of model_checks
 //        oracle sort SEED COUNT GIVEN WANTED       files of networks with what `topo_sort` makes of them, and of how many they are
 //        oracle texts SEED COUNT GIVEN WANTED      files of texts and of the statements that `read_statements` finds
 //        oracle reads SEED COUNT GIVEN WANTED      files of texts and of what `read_blif` answers, as document 01 has it
@@ -168,7 +168,7 @@ fn run(a: &[String]) {
     let seed = || a[2].parse::<u64>().unwrap();
     let count = || a[3].parse::<usize>().unwrap();
     match a[1].as_str() {
-        "checks" => println!("{}", models::checks(seed(), count())),
+        "checks" => print!("{}", models::checks(seed(), count())),
         "sort" => store(a, sort_list(seed(), count())),
         "texts" => store(a, texts::lists(seed(), count())),
         "reads" => store(a, reads::lists(seed(), count())),

@@ -115,7 +115,7 @@ pub fn text(r: &mut Numbers) -> String {
     s
 }
 
-// ---- the same as terms of crate blif_model, specs/Cases.antt
+// ---- the same as terms of crate model_checks, specs/Checks.antt
 
 fn signal(s: &Signal) -> String {
     let bare = s.without_inversion();
@@ -126,11 +126,15 @@ fn signal(s: &Signal) -> String {
     } else {
         format!("plain (Gated {})", bare.var())
     };
-    if s.is_inverted() { format!("turned ({node})") } else { node }
+    match (s.is_inverted(), bare.is_constant()) {
+        (false, _) => node,
+        (true, true) => "oneS".to_string(),
+        (true, false) => format!("turned ({node})"),
+    }
 }
 
 fn listed(parts: Vec<String>) -> String {
-    parts.iter().map(|p| format!("({p}) ∷ ")).collect::<String>() + "[]"
+    parts.iter().map(|p| if p.contains(' ') { format!("({p}) ∷ ") } else { format!("{p} ∷ ") }).collect::<String>() + "[]"
 }
 
 const FORMS: [&str; 14] = ["", "And2", "Xor2", "And3", "Xor3", "Maj3", "Mux3", "AndN", "OrN", "NandN", "NorN", "XorN", "XnorN", "Buf"];
@@ -144,7 +148,7 @@ fn gate(form: u32, p: &[Signal]) -> String {
 
 fn net(p: &Plain) -> String {
     let gates = listed(p.gates.iter().map(|(f, ps)| gate(*f, ps)).collect());
-    format!("net {} ({gates}) ({})", p.inputs, listed(p.outputs.iter().map(signal).collect()))
+    format!("netFrom {} ({gates}) ({})", p.inputs, listed(p.outputs.iter().map(signal).collect()))
 }
 
 fn quoted(text: &str) -> String {
@@ -170,7 +174,21 @@ pub fn plain_flops(mut p: Plain) -> Plain {
     p
 }
 
-// Checks of `readText` and `textOf` as a list, and how many texts were read.
+// The file specs/Stored.antt of that crate.
+const HEAD: &str = "-- Texts and networks made from a seed, with Quaigh's answers (tests/oracle/checks). Assumes nothing: these are definitions.
+use mathlib.Core.List.{List, [], _∷_}
+use Rattle.lists.specs.Lists.{bytes}
+use Rattle.signal.specs.Signal.{Input, Gated, plain, zeroS, oneS, turned}
+use Rattle.gates.specs.Gate.{And2, Xor2, And3, Xor3, Maj3, Mux3, AndN, OrN, NandN, NorN, XorN, XnorN, Buf, Comb, Dff}
+use Rattle.network.specs.Net.{netFrom}
+use Rattle.model_checks.specs.Checks.{Check, reads, writes, network, number}
+
+-- the checks
+unfoldable pub stored : List Check
+stored =
+";
+
+// Checks of `readText` and `textOf`: COUNT texts and a network for every four; tells how often each answer occurs.
 pub fn checks(seed: u64, count: usize) -> String {
     let mut r = Numbers(seed);
     let mut parts = Vec::new();
@@ -178,12 +196,13 @@ pub fn checks(seed: u64, count: usize) -> String {
     for _ in 0..count {
         let t = text(&mut r);
         let (kind, wanted) = match answer(t.as_bytes()) {
-            Answer::Read(n) => (0, format!("read ({})", net(&of(&n)))),
-            Answer::Refused(k) => (k, format!("refused {k}")),
+            Answer::Read(n) => (0, format!("network ({})", net(&of(&n)))),
+            Answer::Refused(k) => (k, format!("number {k}")),
         };
         *seen.entry(kind).or_insert(0) += 1;
         parts.push(format!("reads (bytes \"{}\") ({wanted})", quoted(&t)));
     }
+    let texts = parts.len();
     for k in 0..count / 4 {
         let shape = Shape { inputs: k % 4, gates: k % 5, outputs: k % 3, wide: 3, loops: k % 2 == 0, flops: 1 + k % 4 };
         let p = plain_flops(make(&mut r, &shape));
@@ -193,6 +212,6 @@ pub fn checks(seed: u64, count: usize) -> String {
             parts.push(format!("writes ({}) (bytes \"{}\")", net(&p), quoted(std::str::from_utf8(&out).unwrap())));
         }
     }
-    eprintln!("answers (0 for read): {seen:?}");
-    listed(parts)
+    eprintln!("{texts} texts, {} networks; answers (0 for read): {seen:?}", parts.len() - texts);
+    format!("{HEAD}    {}\n    ∷ []\n", parts.join("\n    ∷ "))
 }
