@@ -1,6 +1,6 @@
 // The oracle: Quaigh's answers, as lists that programs of this repository replay.
 // usage: oracle checks SEED COUNT                  texts and networks with what is read and written, as the file specs/Stored of model_checks
-//        oracle sort SEED COUNT GIVEN WANTED       files of networks with what `topo_sort` makes of them, and of how many they are
+//        oracle sort SEED COUNT GIVEN WANTED       files of networks and of what `topo_sort` makes of them
 //        oracle texts SEED COUNT GIVEN WANTED      files of texts and of the statements that `read_statements` finds
 //        oracle reads SEED COUNT GIVEN WANTED      files of texts and of what `read_blif` answers, as document 01 has it
 //        oracle writes SEED COUNT GIVEN WANTED     files of lent networks and of what `write_blif` writes, as document 01 has it
@@ -57,10 +57,9 @@ pub fn cells(p: &Plain) -> (Vec<u32>, Vec<u32>, Vec<u32>) {
     (gates, pins, outs)
 }
 
-// The same, a line each.
-fn cell_lines(p: &Plain) -> String {
-    let (gates, pins, outs) = cells(p);
-    words(&gates) + &words(&pins) + &words(&outs)
+// A word and cells, as the programs print them.
+pub fn line(word: &str, cells: &[u32]) -> String {
+    word.to_string() + &cells.iter().map(|c| format!(" {c:x}")).collect::<String>() + "\n"
 }
 
 // What `topo_sort` makes of it; nothing where it panics.
@@ -104,7 +103,32 @@ fn random(r: &mut Numbers, k: usize, count: usize) -> Plain {
     make(r, &shape)
 }
 
-// The list, and what the program prints for it.
+// What the program prints before the first network, to show that it tells what is wrong: a new cell or an output beyond the counts that has
+// changed, and more outputs than are lent.
+const SORT_TOLD: &str = "told
+gates\nchanged\npins\noutputs
+gates\npins\nchanged\noutputs
+gates\npins\noutputs\nchanged
+gates\npins\noutputs more than are lent\n";
+
+// A network's counts and cells, as the program reads them.
+fn sort_given(p: &Plain) -> String {
+    let (gates, pins, outputs) = cells(p);
+    words(&[p.inputs as u32, p.gates.len() as u32, pins.len() as u32, outputs.len() as u32]) + &words(&gates) + &words(&pins) + &words(&outputs)
+}
+
+// The answer's lines: the sorted network, or a word and the outputs as they are lent.
+fn sort_shown(p: &Plain, answer: Result<&Plain, &str>) -> String {
+    match answer {
+        Ok(s) => {
+            let (gates, pins, outputs) = cells(s);
+            "sorted\n".to_string() + &line("gates", &gates) + &line("pins", &pins) + &line("outputs", &outputs)
+        }
+        Err(word) => format!("{word}\ngates\npins\n") + &line("outputs", &cells(p).2),
+    }
+}
+
+// The networks, and what the program prints for them.
 fn sort_list(seed: u64, count: usize) -> (Vec<u8>, Vec<u8>) {
     let mut r = Numbers(seed);
     let mut caught = vec![usize::MAX; MISTAKES.len()];
@@ -113,34 +137,34 @@ fn sort_list(seed: u64, count: usize) -> (Vec<u8>, Vec<u8>) {
         nets.push(random(&mut r, k, count));
     }
     let over = over_sizes();
-    let n = nets.len() + over.len();
-    let mut given = words(&[n as u32]);
-    for p in nets {
-        let s = sorted(&p);
-        let mine = order(&p, Mistake::Nothing).map(|o| permuted(&p, &o));
+    let mut given = words(&[(nets.len() + over.len()) as u32]);
+    let mut wanted = SORT_TOLD.to_string();
+    let mut seen = [0; 3];
+    for (n, p) in nets.iter().enumerate() {
+        let s = sorted(p);
+        let mine = order(p, Mistake::Nothing).map(|o| permuted(p, &o));
         assert!(s.as_ref().map(|x| cells(x)) == mine.as_ref().map(|x| cells(x)), "the plain sort and the Rust differ");
         for (i, m) in MISTAKES.iter().enumerate() {
-            let other = order(&p, *m).map(|o| permuted(&p, &o));
+            let other = order(p, *m).map(|o| permuted(p, &o));
             if other.map(|x| cells(&x)) != s.as_ref().map(|x| cells(x)) {
                 caught[i] = caught[i].min(p.gates.len());
             }
         }
-        let kind = if s.is_some() { 1 } else { 0 };
-        given += &words(&[kind, p.inputs as u32, p.gates.len() as u32, p.pins() as u32, p.outputs.len() as u32]);
-        given += &cell_lines(&p);
-        if let Some(x) = &s {
-            given += &cell_lines(x);
-        }
+        seen[s.is_none() as usize] += 1;
+        given += &sort_given(p);
+        wanted += &format!("network {n}\n{}", sort_shown(p, s.as_ref().ok_or("loop")));
     }
-    for p in over {
-        given += &words(&[2, p.inputs as u32, p.gates.len() as u32, p.pins() as u32, p.outputs.len() as u32]);
-        given += &cell_lines(&p);
+    for (n, p) in over.iter().enumerate() {
+        seen[2] += 1;
+        given += &sort_given(p);
+        wanted += &format!("network {}\n{}", nets.len() + n, sort_shown(p, Err("refused")));
     }
+    eprintln!("networks sorted, with a loop, over the sizes: {seen:?}");
     for (m, n) in MISTAKES.iter().zip(&caught) {
         assert!(*n != usize::MAX, "the list does not tell {m:?} apart");
         eprintln!("{m:?} told apart by a network of {n} gates");
     }
-    (given.into_bytes(), format!("networks {n}, as stored {n}\n").into_bytes())
+    (given.into_bytes(), wanted.into_bytes())
 }
 
 fn main() {

@@ -1,6 +1,6 @@
 // Texts, and what reading must answer for each: Quaigh's `read_blif`, with document 01's numbers and sizes and its And where cover
 // lines with output 0 are joined.
-use crate::cells;
+use crate::{cells, line};
 use crate::compare::{number, Case};
 use crate::generate::{Numbers, Plain};
 use crate::io::statements::{too_large, with_ones};
@@ -74,10 +74,6 @@ fn sourced(text: &[u8]) -> (Wanted, Source) {
     }
 }
 
-fn line(name: &str, cells: &[u32]) -> String {
-    name.to_string() + &cells.iter().map(|c| format!(" {c:x}")).collect::<String>() + "\n"
-}
-
 // The answer's lines: the refusal, or the counts and the cells in use.
 fn shown(w: &Wanted) -> String {
     match w {
@@ -90,6 +86,18 @@ fn shown(w: &Wanted) -> String {
                 + &line("outputs", &outputs)
         }
     }
+}
+
+// What the program prints before the texts, to show that it tells what is wrong: each slice in turn has a cell that is not zero, after a network
+// without cells in use and after a refusal; then more pins are in use than are lent.
+fn told() -> String {
+    let parts = ["gates\n", "pins\n", "outputs\n", "", ""];
+    let mut all = "told\n".to_string();
+    for kind in 0..parts.len() {
+        let lines = parts.iter().enumerate().map(|(k, part)| part.to_string() + if k == kind { "not zero\n" } else { "" });
+        all += &("counts 0 0 0 0\n".to_string() + &lines.collect::<String>() + "refused=1\nnot zero\n");
+    }
+    all + "counts 0 0 16386 0\ngates\npins more than are lent\noutputs\nrefused=1\n"
 }
 
 // What the program prints after the texts: each slice one cell short, then no cells and a text that is too long.
@@ -159,7 +167,7 @@ impl Case for Text {
 pub fn lists(seed: u64, count: usize) -> (Vec<u8>, Vec<u8>) {
     let texts: Vec<Text> = texts(seed, count).into_iter().map(Text).collect();
     let mut given = format!("{:08x}\n", texts.len()).into_bytes();
-    let mut wanted = Vec::new();
+    let mut wanted = told().into_bytes();
     let mut seen = BTreeMap::new();
     for (i, t) in texts.iter().enumerate() {
         let w = t.answer().0;

@@ -195,14 +195,20 @@ pub fn trips(seed: u64, count: usize) -> Vec<Trip> {
 // ---- the lists
 
 fn digits(bits: &[bool]) -> String {
-    bits.iter().map(|b| if *b { '1' } else { '0' }).collect::<String>() + "\n"
+    bits.iter().map(|b| if *b { '1' } else { '0' }).collect()
+}
+
+// What the program prints before the networks, to show that it tells what is wrong: a byte of the text or a cell of one of five slices that is
+// not zero, with a network without cells in use; bits that did not settle, with more outputs than are lent.
+fn told() -> String {
+    "told\n".to_string() + &"length=0 counts 0 0 0 0\nnot zero\n".repeat(6) + "0 more than are lent\n"
 }
 
 // The numbers that the program reads: those of a network to write, and the rows where it is read back.
 fn given(t: &Trip) -> String {
     let rows = match wanted(&t.lent) {
         Answer::Back(_, _) => {
-            let each = t.rows.iter().map(|r| words(&[r.len() as u32]) + &digits(r));
+            let each = t.rows.iter().map(|r| words(&[r.len() as u32]) + &digits(r) + "\n");
             words(&[t.rows.len() as u32]) + &each.collect::<String>()
         }
         _ => String::new(),
@@ -227,7 +233,8 @@ fn shown(t: &Trip) -> (String, String, [usize; 5]) {
             let flop = p.gates.iter().any(|g| g.0 == 14);
             let counts = [unsorted(&p) as usize, flop as usize, t.rows.is_empty() as usize, outs.len(), outs.concat().len()];
             let head = format!("length={length} counts {} {} {} {}\n", b.inputs, b.gates.len(), b.pins(), b.outputs.len());
-            ("read back".to_string(), head + &outs.iter().map(|o| digits(o)).collect::<String>(), counts)
+            let lines = outs.iter().map(|o| format!("1 {} 1 {}\n", digits(o), digits(o)));
+            ("read back".to_string(), head + &lines.collect::<String>(), counts)
         }
     }
 }
@@ -306,5 +313,5 @@ impl Case for Trip {
 pub fn lists(seed: u64, count: usize) -> (Vec<u8>, Vec<u8>) {
     let ts = trips(seed, count);
     told_apart(&ts);
-    (all_given(&ts).into_bytes(), answers(&ts).concat().into_bytes())
+    (all_given(&ts).into_bytes(), (told() + &answers(&ts).concat()).into_bytes())
 }

@@ -130,12 +130,21 @@ impl Case for Lent {
     }
 }
 
+// What the program prints before the networks, to show that it tells what is wrong: a byte that is not zero, behind a text without bytes and
+// after a refusal; a cell of gates, pins or outputs that has changed; a text longer than the slice.
+const TOLD: &str = "told
+length=0\nnot zero\nrefused=20\nnot zero
+length=0\nchanged\nrefused=20
+length=0\nchanged\nrefused=20
+length=0\nchanged\nrefused=20
+length=32801\nmore than are lent\nrefused=20\n";
+
 // The stored list: the networks, and the answers, each behind the number of its network. Prints how often each answer occurs.
 pub fn lists(seed: u64, count: usize) -> (Vec<u8>, Vec<u8>) {
     let networks: Vec<Lent> = by_hand().into_iter().chain(seeded(seed).take(count)).collect();
     told_apart(&networks);
     let mut given = words(&[networks.len() as u32]).into_bytes();
-    let mut wanted = Vec::new();
+    let mut wanted = TOLD.as_bytes().to_vec();
     let mut seen: BTreeMap<u32, usize> = BTreeMap::new();
     let mut notes = [0; 4];
     for (n, l) in networks.iter().enumerate() {

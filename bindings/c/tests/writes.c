@@ -84,7 +84,7 @@ static void replay_network(const struct network *net, size_t room, const struct 
 void replay_writes(const char *networks, const char *stored, unsigned long step)
 {
     struct lent list = load(networks), answers = load(stored);
-    size_t at = 0, answer = 0;
+    size_t at = 0, answer = answer_start(&answers, "network", 0, 0);
     unsigned long count = next_word(&list, &at), taken = 0, left_out = 0;
     for (unsigned long i = 0; i < count; i++) {
         bool over = false;

@@ -5,6 +5,13 @@ use common::{read_notation, stored, write, List, ENOUGH, ONE_MORE};
 use vumneath::cells::Counts;
 use vumneath::Network;
 
+/// The stored answers from the first one on; before it a program shows what it tells of cells that are not as they must be.
+fn answers(path: &str, first: &str) -> Vec<u8> {
+    let all = stored(path);
+    let start = all.windows(first.len()).position(|part| part == first.as_bytes()).unwrap();
+    all[start..].to_vec()
+}
+
 #[test]
 fn stored_texts() {
     let mut list = List::new(stored("read_replay/stdin"));
@@ -26,7 +33,7 @@ fn stored_texts() {
         said += &read_notation(b"", sizes);
     }
     said += &read_notation(&[0; 32769], [0; 5]);
-    let wanted = String::from_utf8(stored("read_replay/stdout")).unwrap();
+    let wanted = String::from_utf8(answers("read_replay/stdout", "text 0\n")).unwrap();
     assert_eq!(said.lines().count(), wanted.lines().count());
     for (place, (line, stored)) in said.lines().zip(wanted.lines()).enumerate() {
         assert_eq!(line, stored, "line {place}");
@@ -45,7 +52,7 @@ fn next_answer<'a>(rest: &mut &'a [u8], i: u32) -> &'a [u8] {
 #[test]
 fn stored_networks() {
     let mut list = List::new(stored("write_replay/stdin"));
-    let answers = stored("write_replay/stdout");
+    let answers = answers("write_replay/stdout", "network 0\n");
     let mut rest = &answers[..];
     let count = list.word();
     let mut left_out = 0;

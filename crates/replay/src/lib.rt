@@ -1,4 +1,4 @@
-// What the programs that replay stored answers share: numbers on standard input.
+// What the programs that replay stored answers share: numbers on standard input, cells on standard output.
 use network::Counts;
 ghost use mathlib.Core.Path.{_≡_};
 ghost use Prim.Native.Nat.{_^_, _<_};
@@ -59,5 +59,38 @@ pub fn put_word(cells: &mut [u32], i: usize, word: u32)
 {
     if i < cells.len() {
         cells[i] = word;
+    }
+}
+
+// A blank and a cell.
+fn print_cell(cell: u32) {
+    io::write_all(1, b" ");
+    io::print_hex(1, cell as u64, 1);
+}
+
+// A word and the first n cells, on a line.
+pub fn print_cells(word: &[u8], cells: &[u32], n: usize) {
+    io::write_all(1, word);
+    if n > cells.len() {
+        io::write_all(1, b" more than are lent\n");
+        return;
+    }
+    let mut i = 0;
+    while i < n {
+        print_cell(cells[i]);
+        i += 1;
+    }
+    io::write_all(1, b"\n");
+}
+
+// A line, unless every cell from place n on is v.
+pub fn expect_each(cells: &[u32], n: usize, v: u32, line: &[u8]) {
+    let mut i = n;
+    while i < cells.len() {
+        if cells[i] != v {
+            io::write_all(1, line);
+            return;
+        }
+        i += 1;
     }
 }

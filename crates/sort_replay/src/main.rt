@@ -1,13 +1,17 @@
-// Replays networks with the stored answers of Quaigh's topo_sort: standard input has how many there are, then for each 0 at a
-// loop, 1 where it was sorted and 2 where it is over our sizes, its input, gate, pin and output counts, its cells, and where it was sorted
-// the cells of the sorted network.
+// Sorts networks and prints the answers and the cells in use, in the notation of the stored answers of Quaigh's topo_sort. Standard input has
+// how many networks there are, then for each its input, gate, pin and output counts and its cells. Before a sort every new cell, and every
+// output beyond the counts, is all ones; one that is not in use and not so afterwards is told. What is told is shown first.
 use network::Counts;
 use network::GATE_CELLS;
+use replay::expect_each;
+use replay::print_cells;
+use replay::put_word;
 use replay::read_word;
 use sort::Attempt;
 use sort::Sorted;
 use sort::sort_network;
-ghost use Prim.Native.Nat.{_≤_};
+
+const ONES: u32 = 0xffff_ffff;
 
 // The next n numbers, as far as the cells have room.
 fn read_words(cells: &mut [u32], n: usize) {
@@ -17,21 +21,6 @@ fn read_words(cells: &mut [u32], n: usize) {
         }
         cells[i] = read_word();
     }
-}
-
-// Whether the next n numbers are the first cells, and the cells after them are zero.
-fn same_words(cells: &[u32], n: usize) -> bool {
-    let mut same = n <= cells.len();
-    for i in 0..cells.len() {
-        let mut stored = 0u32;
-        if i < n {
-            stored = read_word();
-        }
-        if cells[i] != stored {
-            same = false;
-        }
-    }
-    same
 }
 
 // The next four numbers as counts.
@@ -48,27 +37,65 @@ fn read_counts() -> Counts {
     }
 }
 
-// Whether the sort answers as is stored, with as many pins.
-fn same_answer(attempt: Attempt, stored: u32, pins: usize) -> bool {
+// A word and the first n cells; the others must be as before.
+fn print_part(word: &[u8], cells: &[u32], n: usize) {
+    print_cells(word, cells, n);
+    expect_each(cells, n, ONES, b"changed\n");
+}
+
+// The cells of gates, pins and outputs in use; the others must be as before.
+fn print_network(
+    new_gates: &[u32],
+    g: usize,
+    new_pins: &[u32],
+    p: usize,
+    outputs: &[u32],
+    o: usize,
+) {
+    print_part(b"gates", new_gates, g);
+    print_part(b"pins", new_pins, p);
+    print_part(b"outputs", outputs, o);
+}
+
+// The answer and the cells. Where there is no order, no new cell is in use, and the outputs are those lent.
+fn print_answer(
+    attempt: Attempt,
+    records: usize,
+    new_gates: &[u32],
+    new_pins: &[u32],
+    outputs: &[u32],
+    o: usize,
+) {
     match attempt {
-        Attempt::Refused => stored == 2,
+        Attempt::Refused => {
+            io::write_all(1, b"refused\n");
+            print_network(new_gates, 0, new_pins, 0, outputs, o);
+        }
         Attempt::Done(answer) => match answer {
-            Sorted::Order(n) => stored == 1 && n == pins,
-            Sorted::Loop => stored == 0,
+            Sorted::Order(n) => {
+                io::write_all(1, b"sorted\n");
+                print_network(new_gates, records, new_pins, n, outputs, o);
+            }
+            Sorted::Loop => {
+                io::write_all(1, b"loop\n");
+                print_network(new_gates, 0, new_pins, 0, outputs, o);
+            }
         },
     }
 }
 
-// Whether the sort's answer and cells for the next network are those stored.
-fn replay_network() -> bool {
-    let stored = read_word();
+// The next network: its number, then the sort's answer and cells.
+fn replay_network(number: u32) {
+    io::write_all(1, b"network ");
+    io::print_decimal(1, number as u64);
+    io::write_all(1, b"\n");
     let counts = read_counts();
     let records = counts.gates % 0x1_0000_0000 * GATE_CELLS;
     let mut gates = [0u32; 3075];
     let mut pins = [0u32; 16385];
-    let mut outputs = [0u32; 257];
-    let mut new_gates = [0u32; 3072];
-    let mut new_pins = [0u32; 16384];
+    let mut outputs = [ONES; 258];
+    let mut new_gates = [ONES; 3075];
+    let mut new_pins = [ONES; 16385];
     read_words(&mut gates, records);
     read_words(&mut pins, counts.pins);
     read_words(&mut outputs, counts.outputs);
@@ -80,37 +107,45 @@ fn replay_network() -> bool {
         &mut new_gates,
         &mut new_pins,
     );
-    if !same_answer(attempt, stored, counts.pins) {
-        return false;
-    }
-    if stored != 1 {
-        return true;
-    }
-    let same_gates = same_words(&new_gates, records);
-    let same_pins = same_words(&new_pins, counts.pins);
-    let same_outputs = same_words(&outputs, counts.outputs);
-    same_gates && same_pins && same_outputs
+    print_answer(
+        attempt,
+        records,
+        &new_gates,
+        &new_pins,
+        &outputs,
+        counts.outputs,
+    );
 }
 
-// One for true, zero for false.
-fn one_if(b: bool) -> u32
-    ensures { λ r. ⌜ r ≤ 1 ⌝ }
-{
-    if b {
-        return 1;
+// What is told of a network without cells in use: kind 0, 1 or 2 where the last cell of gates, pins or outputs is not as before, kind 3 where
+// more outputs are in use than are lent.
+fn show_kind(kind: u32) {
+    let mut gates = [ONES; 3075];
+    let mut pins = [ONES; 16385];
+    let mut outputs = [ONES; 258];
+    put_word(&mut gates, 3074, ONES ^ (kind == 0) as u32);
+    put_word(&mut pins, 16384, ONES ^ (kind == 1) as u32);
+    put_word(&mut outputs, 257, ONES ^ (kind == 2) as u32);
+    let mut o = 0;
+    if kind == 3 {
+        o = 259;
     }
-    0
+    print_network(&gates, 0, &pins, 0, &outputs, o);
+}
+
+// Every line that tells of something wrong, before the answers, none of which has one.
+fn show_told() {
+    io::write_all(1, b"told\n");
+    show_kind(0);
+    show_kind(1);
+    show_kind(2);
+    show_kind(3);
 }
 
 fn main() {
-    let cases = read_word();
-    let mut same = 0u32;
-    for i in 0..cases {
-        same += one_if(replay_network());
+    show_told();
+    let networks = read_word();
+    for i in 0..networks {
+        replay_network(i);
     }
-    io::write_all(1, b"networks ");
-    io::print_decimal(1, cases as u64);
-    io::write_all(1, b", as stored ");
-    io::print_decimal(1, same as u64);
-    io::write_all(1, b"\n");
 }

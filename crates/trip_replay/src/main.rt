@@ -1,12 +1,12 @@
-// Writes lent networks, reads them back and runs both for the same rows, all flip-flops from zero; prints the answers and the outputs of
-// the network read back, a line for each clock, in the notation of the stored answers. Standard input has how many networks there are,
+// Writes lent networks, reads them back and runs both for the same rows, all flip-flops from zero; prints the answers, and for each clock a
+// line with whether the bits settled and the outputs, of both networks, in the notation of the stored answers. Standard input has how many networks there are,
 // then for each its counts, how long the text's slice is, how many cells of each kind are lent, and the cells; where the network is
 // read back, how many rows there are follows, then each row's length and its bits as digits. Before a trip every cell to be filled is
-// all ones and every byte 165; one that should be zero afterwards and is not is told, and so is an output that differs.
-use lists::equal;
+// all ones and every byte 165; one that should be zero afterwards and is not is told. What is told is shown first.
 use network::Counts;
 use network::GATE_CELLS;
 use replay::WORD;
+use replay::expect_each;
 use replay::put_word;
 use replay::read_counts;
 use replay::read_word;
@@ -48,14 +48,7 @@ fn read_row(row: &mut [bool]) {
 
 // A line that no stored answer has, unless every cell from place n on is zero.
 fn expect_zero(cells: &[u32], n: usize) {
-    let mut i = n;
-    while i < cells.len() {
-        if cells[i] != 0 {
-            io::write_all(1, b"not zero\n");
-            return;
-        }
-        i += 1;
-    }
+    expect_each(cells, n, 0, b"not zero\n");
 }
 
 // The same for bytes.
@@ -70,46 +63,95 @@ fn expect_zero_bytes(bytes: &[u8], n: usize) {
     }
 }
 
-// A line that no stored answer has, unless the bits settled.
-fn expect_settled(settled: bool) {
-    if !settled {
-        io::write_all(1, b"not settled\n");
-    }
-}
-
 // A word and a number.
 fn print_number(word: &[u8], n: usize) {
     io::write_all(1, word);
     io::print_decimal(1, n as u64);
 }
 
-// A word, a refusal's number and the end of the line.
-fn print_refused(word: &[u8], number: u32) {
+// A word, a number and the end of the line.
+fn print_line(word: &[u8], number: u32) {
     print_number(word, number as usize);
     io::write_all(1, b"\n");
 }
 
+// How many cells of each kind and how many bytes of the text are in use.
+struct Used {
+    gates: usize,
+    pins: usize,
+    outputs: usize,
+    bytes: usize,
+}
+
+// A refusal's line; no cell is in use, and so many bytes.
+fn print_refused(word: &[u8], number: u32, bytes: usize) -> Used {
+    print_line(word, number);
+    Used {
+        gates: 0,
+        pins: 0,
+        outputs: 0,
+        bytes,
+    }
+}
+
 // The text's length and the counts of the network read back.
-fn print_counts(length: usize, counts: Counts) {
+fn print_back(length: usize, counts: Counts) -> Used {
     print_number(b"length=", length);
     print_number(b" counts ", counts.inputs);
     print_number(b" ", counts.gates);
     print_number(b" ", counts.pins);
     print_number(b" ", counts.outputs);
     io::write_all(1, b"\n");
+    Used {
+        gates: counts.gates % WORD * GATE_CELLS,
+        pins: counts.pins,
+        outputs: counts.outputs,
+        bytes: length,
+    }
 }
 
-// The outputs of the network read back; a line that no stored answer has, unless they are those of the network lent.
-fn print_outputs(lent: &[u8], back: &[u8], n: usize) {
-    if n > back.len() {
-        io::write_all(1, b"more than are lent\n");
+// An answer's line; what is in use after it. Where the text was written and not read, all of it may be.
+fn print_head(answer: TripAnswer, room: usize) -> Used {
+    match answer {
+        TripAnswer::NotWritten(k) => print_refused(b"not written=", k, 0),
+        TripAnswer::NotRead(k) => print_refused(b"not read=", k, room),
+        TripAnswer::ReadBack(n, back) => print_back(n, back),
+    }
+}
+
+// An answer; all cells and bytes that are not in use, and all working cells, must be zero.
+fn print_answer(
+    answer: TripAnswer,
+    text: &[u8],
+    gates: &[u32],
+    pins: &[u32],
+    outputs: &[u32],
+    work_gates: &[u32],
+    work_pins: &[u32],
+) {
+    let used = print_head(answer, text.len());
+    expect_zero_bytes(text, used.bytes);
+    expect_zero(gates, used.gates);
+    expect_zero(pins, used.pins);
+    expect_zero(outputs, used.outputs);
+    expect_zero(work_gates, 0);
+    expect_zero(work_pins, 0);
+}
+
+// The first n digits of a line.
+fn print_digits(line: &[u8], n: usize) {
+    if n > line.len() {
+        io::write_all(1, b"more than are lent");
         return;
     }
-    io::write_all(1, &back[..n]);
-    io::write_all(1, b"\n");
-    if !equal(lent, back) {
-        io::write_all(1, b"differs\n");
-    }
+    io::write_all(1, &line[..n]);
+}
+
+// Whether the bits settled, one or zero, and n outputs.
+fn print_clock(settled: bool, line: &[u8], n: usize) {
+    print_number(b"", settled as usize);
+    io::write_all(1, b" ");
+    print_digits(line, n);
 }
 
 // ---- a trip
@@ -132,8 +174,10 @@ fn run_row(
     let mut new_line = [0u8; 256];
     read_row(&mut row);
     let most = counts.gates % WORD + 2;
-    expect_settled(clock(counts, most, gates, pins, outputs, &row, held, &mut line));
-    expect_settled(clock(
+    let settled = clock(counts, most, gates, pins, outputs, &row, held, &mut line);
+    print_clock(settled, &line, counts.outputs);
+    io::write_all(1, b" ");
+    let back_settled = clock(
         back,
         2,
         new_gates,
@@ -142,8 +186,9 @@ fn run_row(
         &row,
         new_held,
         &mut new_line,
-    ));
-    print_outputs(&line, &new_line, back.outputs);
+    );
+    print_clock(back_settled, &new_line, back.outputs);
+    io::write_all(1, b"\n");
 }
 
 // The next rows, from zero.
@@ -176,22 +221,7 @@ fn run_rows(
     }
 }
 
-// Prints a refusal; every cell to be filled must be zero.
-fn answer_refused(word: &[u8], number: u32, gates: &[u32], pins: &[u32], outputs: &[u32]) {
-    print_refused(word, number);
-    expect_zero(gates, 0);
-    expect_zero(pins, 0);
-    expect_zero(outputs, 0);
-}
-
-// A line that no stored answer has, unless the cells beyond the counts are zero.
-fn expect_unused(counts: Counts, gates: &[u32], pins: &[u32], outputs: &[u32]) {
-    expect_zero(gates, counts.gates % WORD * GATE_CELLS);
-    expect_zero(pins, counts.pins);
-    expect_zero(outputs, counts.outputs);
-}
-
-// Prints a trip's answer, and where the network is read back the outputs for the next rows; what is not in use must be zero.
+// Prints a trip's answer, and where the network is read back what both do with the next rows.
 fn answer_trip(
     counts: Counts,
     gates: &[u32],
@@ -202,28 +232,29 @@ fn answer_trip(
     new_gates: &[u32],
     new_pins: &[u32],
     new_outputs: &[u32],
+    work_gates: &[u32],
+    work_pins: &[u32],
 ) {
-    match answer {
-        TripAnswer::NotWritten(k) => {
-            answer_refused(b"not written=", k, new_gates, new_pins, new_outputs);
-            expect_zero_bytes(text, 0);
-        }
-        TripAnswer::NotRead(k) => answer_refused(b"not read=", k, new_gates, new_pins, new_outputs),
-        TripAnswer::ReadBack(n, back) => {
-            print_counts(n, back);
-            expect_unused(back, new_gates, new_pins, new_outputs);
-            expect_zero_bytes(text, n);
-            run_rows(
-                counts,
-                gates,
-                pins,
-                outputs,
-                back,
-                new_gates,
-                new_pins,
-                new_outputs,
-            );
-        }
+    print_answer(
+        answer,
+        text,
+        new_gates,
+        new_pins,
+        new_outputs,
+        work_gates,
+        work_pins,
+    );
+    if let TripAnswer::ReadBack(_, back) = answer {
+        run_rows(
+            counts,
+            gates,
+            pins,
+            outputs,
+            back,
+            new_gates,
+            new_pins,
+            new_outputs,
+        );
     }
 }
 
@@ -246,8 +277,6 @@ fn trip(counts: Counts, gates: &[u32], pins: &[u32], outputs: &[u32], text: &mut
         &mut work_gates,
         &mut work_pins,
     );
-    expect_zero(&work_gates, 0);
-    expect_zero(&work_pins, 0);
     answer_trip(
         counts,
         gates,
@@ -258,6 +287,8 @@ fn trip(counts: Counts, gates: &[u32], pins: &[u32], outputs: &[u32], text: &mut
         &new_gates,
         &new_pins,
         &new_outputs,
+        &work_gates,
+        &work_pins,
     );
 }
 
@@ -277,7 +308,7 @@ fn trip_cells(
 
 // The next network: its number, then what the trip answers.
 fn replay_network(number: u32) {
-    print_refused(b"network ", number);
+    print_line(b"network ", number);
     let counts = read_counts();
     let l = read_word() as usize % 32801;
     let g = read_word() as usize % 3077;
@@ -296,7 +327,52 @@ fn replay_network(number: u32) {
     );
 }
 
+// What is told of a network without cells in use where the last byte of the text, or the last cell of a slice, is not zero.
+fn show_kind(kind: u32) {
+    let mut text = [0u8; 32800];
+    let mut gates = [0u32; 3072];
+    let mut pins = [0u32; 16384];
+    let mut outputs = [0u32; 256];
+    let mut work_gates = [0u32; 3072];
+    let mut work_pins = [0u32; 16384];
+    text[32799] = (kind == 0) as u8;
+    put_word(&mut gates, 3071, (kind == 1) as u32);
+    put_word(&mut pins, 16383, (kind == 2) as u32);
+    put_word(&mut outputs, 255, (kind == 3) as u32);
+    put_word(&mut work_gates, 3071, (kind == 4) as u32);
+    put_word(&mut work_pins, 16383, (kind == 5) as u32);
+    let counts = Counts {
+        inputs: 0,
+        gates: 0,
+        pins: 0,
+        outputs: 0,
+    };
+    print_answer(
+        TripAnswer::ReadBack(0, counts),
+        &text,
+        &gates,
+        &pins,
+        &outputs,
+        &work_gates,
+        &work_pins,
+    );
+}
+
+// Every line that tells of something wrong, before the answers, none of which has one.
+fn show_told() {
+    io::write_all(1, b"told\n");
+    show_kind(0);
+    show_kind(1);
+    show_kind(2);
+    show_kind(3);
+    show_kind(4);
+    show_kind(5);
+    print_clock(false, b"", 1);
+    io::write_all(1, b"\n");
+}
+
 fn main() {
+    show_told();
     let networks = read_word();
     for i in 0..networks {
         replay_network(i);

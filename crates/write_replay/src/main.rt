@@ -1,7 +1,7 @@
 // Writes lent networks as texts and prints the answers, in the notation of the stored answers of Quaigh's write_blif. Standard input
 // has how many networks there are, then for each its counts, how long the output slice is, how many cells of each kind are lent, and
 // the cells. Before a write every byte of the output slice is 165; a byte behind the text, or one after a refusal, that is not zero is
-// told, and so is a cell that has changed.
+// told, and so is a cell that has changed. What is told is shown first.
 use blif_write::WriteAnswer;
 use blif_write::write_blif;
 use lists::cell_at;
@@ -64,6 +64,26 @@ fn print_refused(out: &[u8], number: u32) {
     expect_zero(out);
 }
 
+// An answer; every lent cell must be as it was.
+fn print_answer(
+    answer: WriteAnswer,
+    out: &[u8],
+    gates: &[u32],
+    kept_gates: &[u32],
+    pins: &[u32],
+    kept_pins: &[u32],
+    outputs: &[u32],
+    kept_outputs: &[u32],
+) {
+    match answer {
+        WriteAnswer::Written(n) => print_written(out, n),
+        WriteAnswer::Refused(number) => print_refused(out, number),
+    }
+    expect_same(gates, kept_gates);
+    expect_same(pins, kept_pins);
+    expect_same(outputs, kept_outputs);
+}
+
 // Reads the cells of a network, writes it and prints the answer.
 fn replay_cells(
     counts: Counts,
@@ -79,13 +99,16 @@ fn replay_cells(
     read_words(pins, kept);
     read_words(outputs, &mut kept_outputs);
     let answer = write_blif(counts, gates, pins, outputs, out);
-    match answer {
-        WriteAnswer::Written(n) => print_written(out, n),
-        WriteAnswer::Refused(number) => print_refused(out, number),
-    }
-    expect_same(gates, &kept_gates);
-    expect_same(pins, kept);
-    expect_same(outputs, &kept_outputs);
+    print_answer(
+        answer,
+        out,
+        gates,
+        &kept_gates,
+        pins,
+        kept,
+        outputs,
+        &kept_outputs,
+    );
 }
 
 // The next network: its number, then what writing answers.
@@ -111,7 +134,49 @@ fn replay_network(number: u32) {
     );
 }
 
+// What is told of a text without bytes and of a refusal: kind 0 where the last byte is not zero, kind 1, 2 or 3 where the last cell of gates,
+// pins or outputs has changed, kind 4 where the text is longer than the slice.
+fn show_kind(kind: u32) {
+    let mut gates = [0u32; 3076];
+    let mut pins = [0u32; 16386];
+    let mut outputs = [0u32; 258];
+    let mut out = [0u8; 32800];
+    let kept_gates = [0u32; 3076];
+    let kept_pins = [0u32; 16386];
+    let kept_outputs = [0u32; 258];
+    out[32799] = (kind == 0) as u8;
+    put_word(&mut gates, 3075, (kind == 1) as u32);
+    put_word(&mut pins, 16385, (kind == 2) as u32);
+    put_word(&mut outputs, 257, (kind == 3) as u32);
+    let mut length = 0;
+    if kind == 4 {
+        length = 32801;
+    }
+    print_answer(
+        WriteAnswer::Written(length),
+        &out,
+        &gates,
+        &kept_gates,
+        &pins,
+        &kept_pins,
+        &outputs,
+        &kept_outputs,
+    );
+    print_refused(&out, 20);
+}
+
+// Every line that tells of something wrong, before the answers, none of which has one.
+fn show_told() {
+    io::write_all(1, b"told\n");
+    show_kind(0);
+    show_kind(1);
+    show_kind(2);
+    show_kind(3);
+    show_kind(4);
+}
+
 fn main() {
+    show_told();
     let networks = read_word();
     for i in 0..networks {
         replay_network(i);

@@ -11,6 +11,9 @@ Inv-loop texts i₀ i = Unit {0}
 abbrev μ-loop : tie.MeasureT-loop
 μ-loop texts i₀ i = texts - i
 
+show-told-requires : tie.Need-show-told-requires Inv-loop μ-loop
+show-told-requires c κs = search needs
+
 read-word-requires : tie.Need-read-word-requires Inv-loop μ-loop
 read-word-requires c κs = search needs
 
@@ -33,7 +36,7 @@ replay-short-requires : tie.Need-replay-short-requires Inv-loop μ-loop
 replay-short-requires c κs = search needs
 
 returns : tie.Need-returns Inv-loop μ-loop
-returns c = tt
+returns c = search needs
 
 pub main-spec : {M : Type 1} → statement M
 main-spec =
@@ -41,6 +44,7 @@ main-spec =
     (tie.spec
     Inv-loop
     μ-loop
+    show-told-requires
     read-word-requires
     loop-holds
     replay-text-requires

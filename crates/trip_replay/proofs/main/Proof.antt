@@ -1,7 +1,7 @@
 -- `main` is safe and ends. Assumes nothing.
 use Prim.Native.Nat.{_-_}
-use borrow.Author.Needs.{needs}
 use native.Mathlib.Omega.{arith}
+use borrow.Author.Needs.{needs}
 use Rattle.trip_replay.proofs.main.Statement.{statement}
 use Rattle.trip_replay.proofs.main.Tie as tie
 
@@ -10,6 +10,9 @@ Inv-loop networks i₀ i = Unit {0}
 
 abbrev μ-loop : tie.MeasureT-loop
 μ-loop networks i₀ i = networks - i
+
+show-told-requires : tie.Need-show-told-requires Inv-loop μ-loop
+show-told-requires c κs = search needs
 
 read-word-requires : tie.Need-read-word-requires Inv-loop μ-loop
 read-word-requires c κs = search needs
@@ -30,7 +33,7 @@ loop-again : tie.Need-loop-again Inv-loop μ-loop
 loop-again c = tt
 
 returns : tie.Need-returns Inv-loop μ-loop
-returns c = tt
+returns c = search needs
 
 pub main-spec : {M : Type 1} → statement M
 main-spec =
@@ -38,6 +41,7 @@ main-spec =
     (tie.spec
     Inv-loop
     μ-loop
+    show-told-requires
     read-word-requires
     loop-holds
     replay-network-requires

@@ -5,11 +5,11 @@ use borrow.Author.Needs.{needs}
 use Rattle.trip_replay.proofs.replay_network.Statement.{statement}
 use Rattle.trip_replay.proofs.replay_network.Tie as tie
 
-slice-aggregate-print-refused : tie.Need-slice-aggregate-print-refused
-slice-aggregate-print-refused c = search needs
+slice-aggregate-print-line : tie.Need-slice-aggregate-print-line
+slice-aggregate-print-line c = search needs
 
-print-refused-requires : tie.Need-print-refused-requires
-print-refused-requires c κs = search needs
+print-line-requires : tie.Need-print-line-requires
+print-line-requires c κs = search needs
 
 read-counts-requires : tie.Need-read-counts-requires
 read-counts-requires c κs = search needs
@@ -72,8 +72,8 @@ pub replay-network-spec : {M : Type 1} → statement M
 replay-network-spec =
     tie.close
     (tie.spec
-    slice-aggregate-print-refused
-    print-refused-requires
+    slice-aggregate-print-line
+    print-line-requires
     read-counts-requires
     read-word-requires
     cast-l
