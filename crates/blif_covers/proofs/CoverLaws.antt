@@ -7,11 +7,13 @@ use native.Mathlib.Omega.{arith}
 use lib.ListN.{length, take, length-map}
 use lib.Seq.{slice, length-slice}
 use Rattle.lists.specs.Lists.{all, any}
+use Rattle.refusals.specs.Order.{_then_, when}
+use Rattle.refusals.specs.declared.Refusal.the-variants as refusal
 use Rattle.blif_text.specs.Places.{tokenOf, tokensOf}
 use Rattle.blif_text.specs.Walk.{rowsFrom}
 use Rattle.blif_text.specs.Decls.{isOne}
 use Rattle.blif_text.specs.Blocks.{defFrom}
-use Rattle.blif_model.specs.Read.{_then_, when, goodLine, coverFault}
+use Rattle.blif_model.specs.Read.{goodLine, coverFault}
 use Rattle.blif_covers.proofs.LineLaws.{linesFault}
 use Rattle.blif_covers.specs.Pass.{differ, linesIn}
 use Rattle.blif_covers.specs.declared.Outputs.{Outputs}
@@ -30,7 +32,7 @@ block-fault text tokens n first (suc k) lines h =
     let cs = slice first (first + suc k) tokens in
     let e : length (tokensOf text cs) - 1 ≡ k = omega (arith, length-map cs (tokenOf text), length-slice first (first + suc k) tokens h) in
     let p : k ≡ suc k - 1 = omega arith in
-    ap (λ (w : ℕ). when (not (all (goodLine w) ls)) 12 then when (any isOne ls && not (all isOne ls)) 13) (e ∙ p)
+    ap (λ (w : ℕ). when (not (all (goodLine w) ls)) refusal.WrongCubeLine then when (any isOne ls && not (all isOne ls)) refusal.OutputsDiffer) (e ∙ p)
 
 -- a latch has no line
 pub latch-none : (names lines : ℕ) → 0 < linesIn names lines → 0 < names
@@ -43,9 +45,9 @@ cover-lines zero lines h = absurd (omega arith)
 cover-lines (suc k) lines h = refl
 
 -- where no line is left, the outputs decide
-pub none-left : (w : ℕ) (met : Outputs) → linesFault w met [] ≡ when (differ met) 13
+pub none-left : (w : ℕ) (met : Outputs) → linesFault w met [] ≡ when (differ met) refusal.OutputsDiffer
 unfolding _then_ when
-none-left w met = ap (λ (b : Bool). when b 13) (both (met .one) (met .zero))
+none-left w met = ap (λ (b : Bool). when b refusal.OutputsDiffer) (both (met .one) (met .zero))
   where
     both : (a b : Bool) → ((a || false) && (b || false)) ≡ (b && a)
     both true true = refl

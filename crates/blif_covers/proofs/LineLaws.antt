@@ -11,20 +11,24 @@ use borrow.Author.Tests.{ltb-true, lt-ltb, le-ltb, ne-eqb}
 use Rattle.lists.specs.Lists.{if_then_else_, Bytes, same, all, any, elem, known}
 use Rattle.lists.proofs.Tests.{by-test, by-order, and-left, and-right}
 use Rattle.lists.proofs.Same.{same-is}
+use Rattle.refusals.specs.Order.{_then_, when}
+use Rattle.refusals.specs.declared.Refusal.the-variants as refusal
+use Rattle.refusals.specs.declared.Checked.{Checked}
+use Rattle.refusals.specs.declared.Checked.the-variants.{Fine, Refused}
 use Rattle.blif_text.specs.Places.{tokenOf, tokensOf}
 use Rattle.blif_text.specs.Decls.{columns, output, isOne}
 use Rattle.blif_text.proofs.ColumnLaws.{row-count, last-output}
-use Rattle.blif_model.specs.Read.{_then_, when, goodLine, isColumn}
+use Rattle.blif_model.specs.Read.{goodLine, isColumn}
 use Rattle.blif_covers.specs.Pass.{outputOf, withOutput, right, fits}
 use Rattle.blif_covers.specs.declared.Output.{Output}
 use Rattle.blif_covers.specs.declared.Output.the-variants.{Zero, One, Wrong}
 use Rattle.blif_covers.specs.declared.Outputs.{Outputs}
 
 -- the refusal of the lines left of a cover with w columns, after these outputs: 12 at a wrong one, else 13 where outputs differ
-abbrev pub linesFault : ℕ → Outputs → List (List Bytes) → ℕ
+abbrev pub linesFault : ℕ → Outputs → List (List Bytes) → Checked
 linesFault w met ls =
-    when (not (all (goodLine w) ls)) 12
-    then when ((met .one || any isOne ls) && (met .zero || not (all isOne ls))) 13
+    when (not (all (goodLine w) ls)) refusal.WrongCubeLine
+    then when ((met .one || any isOne ls) && (met .zero || not (all isOne ls))) refusal.OutputsDiffer
 
 -- ---- outputs
 
@@ -105,14 +109,8 @@ line-in text tokens at end h k =
 
 -- ---- refusals in order
 
--- of three the first counts, however they are grouped
-pub then-assoc : (a b c : ℕ) → ((a then b) then c) ≡ (a then (b then c))
-unfolding _then_
-then-assoc zero b c = refl
-then-assoc (suc a) b c = refl
-
 -- two tests in turn
-pub when-and : (a b : Bool) (x : ℕ) → (when (not (a && b)) 12 then x) ≡ (when (not a) 12 then (when (not b) 12 then x))
+pub when-and : (a b : Bool) (x : Checked) → (when (not (a && b)) refusal.WrongCubeLine then x) ≡ (when (not a) refusal.WrongCubeLine then (when (not b) refusal.WrongCubeLine then x))
 unfolding _then_ when
 when-and true b x = refl
 when-and false b x = refl
@@ -130,19 +128,19 @@ module _ {ts : List Bytes} {m : ℕ} {out : Bytes} (w : ℕ) (met : Outputs) (ls
   cols = columns ts
 
   -- a line that does not fit is refused
-  pub misfit : fits m (length cols) w (outputOf out) ≡ false → linesFault w met (ts ∷ ls) ≡ 12
+  pub misfit : fits m (length cols) w (outputOf out) ≡ false → linesFault w met (ts ∷ ls) ≡ Refused refusal.WrongCubeLine
   unfolding _then_ when
   misfit e = simp (good-is w l, e)
 
   -- of a line that fits the columns are left, and its output
   pub fitting : fits m (length cols) w (outputOf out) ≡ true
-      → linesFault w met (ts ∷ ls) ≡ (when (not (all isColumn cols)) 12 then linesFault w (withOutput met (outputOf out)) ls)
+      → linesFault w met (ts ∷ ls) ≡ (when (not (all isColumn cols)) refusal.WrongCubeLine then linesFault w (withOutput met (outputOf out)) ls)
   fitting e =
       let o = outputOf out in
       let r : right o ≡ true = and-right (ltb m 3 && eqb w (length cols)) (right o) e in
       ap₂
-      (λ (a b : Bool). when (not (a && all (goodLine w) ls)) 12 then when ((met .one || (b || any isOne ls)) && (met .zero || not (b && all isOne ls))) 13)
+      (λ (a b : Bool). when (not (a && all (goodLine w) ls)) refusal.WrongCubeLine then when ((met .one || (b || any isOne ls)) && (met .zero || not (b && all isOne ls))) refusal.OutputsDiffer)
       (good-is w l ∙ ap (λ (b : Bool). b && all isColumn cols) e)
       (one-of w l e)
       ∙ when-and (all isColumn cols) (all (goodLine w) ls) _
-      ∙ ap (λ (b : Bool). when (not (all isColumn cols)) 12 then (when (not (all (goodLine w) ls)) 12 then when b 13)) (more-differ o met (any isOne ls) (all isOne ls) r)
+      ∙ ap (λ (b : Bool). when (not (all isColumn cols)) refusal.WrongCubeLine then (when (not (all (goodLine w) ls)) refusal.WrongCubeLine then when b refusal.OutputsDiffer)) (more-differ o met (any isOne ls) (all isOne ls) r)

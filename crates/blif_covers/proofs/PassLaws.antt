@@ -14,25 +14,30 @@ use Rattle.lists.specs.Lists.{Bytes, all, range}
 use Rattle.lists.proofs.Places.{drop-next}
 use Rattle.lists.proofs.Range.{range-cons, range-end}
 use Rattle.lists.proofs.Tests.{by-order}
+use Rattle.refusals.specs.Order.{_then_, when}
+use Rattle.refusals.specs.declared.Refusal.the-variants as refusal
+use Rattle.refusals.specs.declared.Checked.{Checked}
+use Rattle.refusals.specs.declared.Checked.the-variants.{Fine, Refused}
+use Rattle.refusals.proofs.Order.{then-assoc}
 use Rattle.blif_text.specs.Places.{maxTokens, InText, tokenOf, tokensOf}
 use Rattle.blif_text.specs.Decls.{columns}
 use Rattle.blif_text.specs.PlacedStatements.{RowTo}
 use Rattle.blif_text.specs.Walk.{rowsFrom, Inside, RowsAt}
 use Rattle.blif_text.specs.Blocks.{firstName, nameCount, lineCount, defFrom, defAt, defsAt, BlockIn, Blocks}
 use Rattle.blif_text.proofs.RowWalk.{inside-less, rows-end, rows-next, rows-are}
-use Rattle.blif_model.specs.Read.{_then_, when, coverFault, coverFaults, isColumn}
+use Rattle.blif_model.specs.Read.{coverFault, coverFaults, isColumn}
 use Rattle.blif_covers.specs.Pass.{outputOf, withOutput, differ, fits, linesIn}
 use Rattle.blif_covers.specs.declared.Output.{Output}
 use Rattle.blif_covers.specs.declared.Outputs.{Outputs}
 use Rattle.blif_covers.proofs.CoverLaws.{noOutput, block-fault, latch-none, cover-lines, none-left}
-use Rattle.blif_covers.proofs.LineLaws.{linesFault, LineIn, line-in, misfit, fitting, then-assoc, when-and}
+use Rattle.blif_covers.proofs.LineLaws.{linesFault, LineIn, line-in, misfit, fitting, when-and}
 
 -- the refusal of the whole pass
-abbrev pub whole : Bytes → List ℕ → ℕ → List ℕ → ℕ → ℕ
+abbrev pub whole : Bytes → List ℕ → ℕ → List ℕ → ℕ → Checked
 whole text tokens n blocks g = coverFaults (defsAt text tokens n blocks g)
 
 -- the refusal of the covers from cover j on
-abbrev pub rest : Bytes → List ℕ → ℕ → List ℕ → ℕ → ℕ → ℕ
+abbrev pub rest : Bytes → List ℕ → ℕ → List ℕ → ℕ → ℕ → Checked
 rest text tokens n blocks g j = coverFaults (map (defAt text tokens n blocks) (range j (g - j)))
 
 -- covers from cover j on are left
@@ -63,7 +68,7 @@ pub record Columns (text tokens : List ℕ) (n : ℕ) (blocks : List ℕ) (g j n
   pub enough : lines - (k + 1) ≤ length (rowsFrom text tokens n end)
   pub is :
       whole text tokens n blocks g
-      ≡ (when (not (all isColumn (drop i cols))) 12
+      ≡ (when (not (all isColumn (drop i cols))) refusal.WrongCubeLine
       then (linesFault (names - 1) (withOutput met o) (take (lines - (k + 1)) (rowsFrom text tokens n end)) then rest text tokens n blocks g (j + 1)))
 
 -- the covers from cover j on: cover j, then the others
@@ -78,7 +83,7 @@ module _ {text tokens : List ℕ} {n : ℕ} {blocks : List ℕ} {g : ℕ} where
 
   module _ {j : ℕ} where
     -- the pass ends
-    pub end-pass : g ≤ j → Covers text tokens n blocks g j → 0 ≡ whole text tokens n blocks g
+    pub end-pass : g ≤ j → Covers text tokens n blocks g j → Fine ≡ whole text tokens n blocks g
     unfolding coverFaults
     end-pass h v = sym (v .is ∙ ap (λ (l : List ℕ). coverFaults (map (defAt text tokens n blocks) l)) (range-end g j h))
 
@@ -105,7 +110,7 @@ module _ {text tokens : List ℕ} {n : ℕ} {blocks : List ℕ} {g : ℕ} where
           is =
               v .is
               ∙ rest-is text tokens n blocks g j h
-              ∙ ap (λ (x : ℕ). x then rest text tokens n blocks g (j + 1))
+              ∙ ap (λ (x : Checked). x then rest text tokens n blocks g (j + 1))
               (sym (λ i. coverFault (defFrom text tokens n (e .0 i) (e .1 i) (e .2 i)))
               ∙ block-fault text tokens n first names lines (omega (arith, b .coverNames, v .places .places .room))
               ∙ ap (λ (m : ℕ). linesFault (names - 1) noOutput (take m (rowsFrom text tokens n (first + names)))) q);
@@ -118,16 +123,16 @@ module _ {text tokens : List ℕ} {n : ℕ} {blocks : List ℕ} {g : ℕ} where
           by-order n at (λ l. absurd (omega (arith, v .enough h, ap length (rows-end (v .rows h) l)))) (λ l. l)
 
       -- the outputs of the lines that are through
-      through : lines ≤ k → whole text tokens n blocks g ≡ (when (differ met) 13 then rest text tokens n blocks g (j + 1))
+      through : lines ≤ k → whole text tokens n blocks g ≡ (when (differ met) refusal.OutputsDiffer then rest text tokens n blocks g (j + 1))
       through h =
           v .is
           ∙ ap (λ (m : ℕ). linesFault (names - 1) met (take m (rowsFrom text tokens n at)) then rest text tokens n blocks g (j + 1)) (sub-eq-zero-of-le h)
-          ∙ ap (λ (x : ℕ). x then rest text tokens n blocks g (j + 1)) (none-left (names - 1) met)
+          ∙ ap (λ (x : Checked). x then rest text tokens n blocks g (j + 1)) (none-left (names - 1) met)
 
       -- the lines are through, and differ in output
-      pub lines-differ : lines ≤ k → {b : Bool} → b ≡ differ met → b ≡ true → 13 ≡ whole text tokens n blocks g
+      pub lines-differ : lines ≤ k → {b : Bool} → b ≡ differ met → b ≡ true → Refused refusal.OutputsDiffer ≡ whole text tokens n blocks g
       unfolding _then_ when
-      lines-differ h e t = sym (through h ∙ ap (λ (x : Bool). when x 13 then rest text tokens n blocks g (j + 1)) (sym e ∙ t))
+      lines-differ h e t = sym (through h ∙ ap (λ (x : Bool). when x refusal.OutputsDiffer then rest text tokens n blocks g (j + 1)) (sym e ∙ t))
 
       -- or agree
       pub lines-agree : lines ≤ k → {b : Bool} → b ≡ differ met → b ≡ false → Covers text tokens n blocks g (j + 1)
@@ -136,7 +141,7 @@ module _ {text tokens : List ℕ} {n : ℕ} {blocks : List ℕ} {g : ℕ} where
           record {
             places = v .places;
             within = omega (arith, v .cover);
-            is = through h ∙ ap (λ (x : Bool). when x 13 then rest text tokens n blocks g (j + 1)) (sym e ∙ t);
+            is = through h ∙ ap (λ (x : Bool). when x refusal.OutputsDiffer then rest text tokens n blocks g (j + 1)) (sym e ∙ t);
           }
 
       -- the line's tokens are places within the text
@@ -178,12 +183,12 @@ module _ {text tokens : List ℕ} {n : ℕ} {blocks : List ℕ} {g : ℕ} where
         line-left = v .is ∙ ap (λ (x : List (List Bytes)). linesFault (names - 1) met x then rest text tokens n blocks g (j + 1)) lines-are
 
         -- a line that does not fit ends the pass
-        pub line-misfits : not b ≡ true → 12 ≡ whole text tokens n blocks g
+        pub line-misfits : not b ≡ true → Refused refusal.WrongCubeLine ≡ whole text tokens n blocks g
         unfolding _then_
         line-misfits t =
             sym
             (line-left
-            ∙ ap (λ (x : ℕ). x then rest text tokens n blocks g (j + 1))
+            ∙ ap (λ (x : Checked). x then rest text tokens n blocks g (j + 1))
             (misfit (names - 1) met (take (lines - (k + 1)) (rowsFrom text tokens n end)) line (fits-is ∙ not-true b t)))
 
         -- of a line that fits, all columns are left
@@ -198,32 +203,32 @@ module _ {text tokens : List ℕ} {n : ℕ} {blocks : List ℕ} {g : ℕ} where
               enough = omega (arith, v .enough h, ap length (rows-are (v .rows h) (line-there h) w));
               is =
                   line-left
-                  ∙ ap (λ (x : ℕ). x then rest text tokens n blocks g (j + 1))
+                  ∙ ap (λ (x : Checked). x then rest text tokens n blocks g (j + 1))
                   (fitting (names - 1) met (take (lines - (k + 1)) (rowsFrom text tokens n end)) line (fits-is ∙ not-false b t)
                   ∙ ap₂
-                  (λ (c : Bytes) (x : Output). when (not (all isColumn c)) 12 then linesFault (names - 1) (withOutput met x) (take (lines - (k + 1)) (rowsFrom text tokens n end)))
+                  (λ (c : Bytes) (x : Output). when (not (all isColumn c)) refusal.WrongCubeLine then linesFault (names - 1) (withOutput met x) (take (lines - (k + 1)) (rowsFrom text tokens n end)))
                   (sym p)
                   (sym q))
-                  ∙ then-assoc (when (not (all isColumn cols)) 12) _ (rest text tokens n blocks g (j + 1));
+                  ∙ then-assoc (when (not (all isColumn cols)) refusal.WrongCubeLine) _ (rest text tokens n blocks g (j + 1));
             }
 
     module _ {names lines k end : ℕ} {met : Outputs} {cols : Bytes} {o : Output} {i : ℕ} (v : Columns text tokens n blocks g j names lines k end met cols o i) where
       -- what is behind the line
-      abbrev behind : ℕ
+      abbrev behind : Checked
       behind = linesFault (names - 1) (withOutput met o) (take (lines - (k + 1)) (rowsFrom text tokens n end)) then rest text tokens n blocks g (j + 1)
 
       -- the columns from column i on: column i, then the others
       columns-are : i < length cols
-          → whole text tokens n blocks g ≡ (when (not (isColumn (getD cols i 0))) 12 then (when (not (all isColumn (drop (i + 1) cols))) 12 then behind))
+          → whole text tokens n blocks g ≡ (when (not (isColumn (getD cols i 0))) refusal.WrongCubeLine then (when (not (all isColumn (drop (i + 1) cols))) refusal.WrongCubeLine then behind))
       columns-are h =
           v .is
-          ∙ ap (λ (x : Bytes). when (not (all isColumn x)) 12 then behind) (drop-next cols i 0 h)
+          ∙ ap (λ (x : Bytes). when (not (all isColumn x)) refusal.WrongCubeLine then behind) (drop-next cols i 0 h)
           ∙ when-and (isColumn (getD cols i 0)) (all isColumn (drop (i + 1) cols)) behind
 
       -- a wrong column ends the pass
-      pub bad-column : i < length cols → {b : Bool} → b ≡ isColumn (getD cols i 0) → not b ≡ true → 12 ≡ whole text tokens n blocks g
+      pub bad-column : i < length cols → {b : Bool} → b ≡ isColumn (getD cols i 0) → not b ≡ true → Refused refusal.WrongCubeLine ≡ whole text tokens n blocks g
       unfolding _then_ when
-      bad-column h {b} e t = sym (columns-are h ∙ ap (λ (x : Bool). when (not x) 12 then (when (not (all isColumn (drop (i + 1) cols))) 12 then behind)) (sym e ∙ not-true b t))
+      bad-column h {b} e t = sym (columns-are h ∙ ap (λ (x : Bool). when (not x) refusal.WrongCubeLine then (when (not (all isColumn (drop (i + 1) cols))) refusal.WrongCubeLine then behind)) (sym e ∙ not-true b t))
 
       -- the next column
       pub next-column : i < length cols → {b : Bool} → b ≡ isColumn (getD cols i 0) → not b ≡ false
@@ -237,7 +242,7 @@ module _ {text tokens : List ℕ} {n : ℕ} {blocks : List ℕ} {g : ℕ} where
             named = v .named;
             rows = v .rows;
             enough = v .enough;
-            is = columns-are h ∙ ap (λ (x : Bool). when (not x) 12 then (when (not (all isColumn (drop (i + 1) cols))) 12 then behind)) (sym e ∙ not-false b t);
+            is = columns-are h ∙ ap (λ (x : Bool). when (not x) refusal.WrongCubeLine then (when (not (all isColumn (drop (i + 1) cols))) refusal.WrongCubeLine then behind)) (sym e ∙ not-false b t);
           }
 
       -- the columns are through: the next line
@@ -253,7 +258,7 @@ module _ {text tokens : List ℕ} {n : ℕ} {blocks : List ℕ} {g : ℕ} where
             enough = λ l. v .enough;
             is =
                 v .is
-                ∙ ap (λ (x : Bytes). when (not (all isColumn x)) 12 then behind) (drop-of-length-le cols h)
+                ∙ ap (λ (x : Bytes). when (not (all isColumn x)) refusal.WrongCubeLine then behind) (drop-of-length-le cols h)
                 ∙ ap (λ (x : Outputs). linesFault (names - 1) x (take (lines - (k + 1)) (rowsFrom text tokens n end)) then rest text tokens n blocks g (j + 1)) (sym e);
           }
 

@@ -5,6 +5,8 @@ use blif_text::line_columns;
 use blif_text::row_end;
 use blif_text::token;
 use lists::equal;
+use refusals::Checked;
+use refusals::Refusal;
 ghost use mathlib.Core.Path.{_≡_};
 ghost use Prim.Native.Nat.{_-_, _<_};
 ghost use Rattle.blif_text.specs.Blocks.{defsAt, Blocks};
@@ -110,15 +112,15 @@ fn line_fits(tokens: usize, columns: usize, names: usize, output: Output) -> boo
     }
 }
 
-// The first refusal among the covers, or zero: the first wrong column of the first wrong line ends the whole pass.
-pub fn check_covers(text: &[u8], tokens: &[u32], n: usize, blocks: &[u32], g: usize) -> u32
+// The first refusal among the covers, if there is one: the first wrong column of the first wrong line ends the whole pass.
+pub fn check_covers(text: &[u8], tokens: &[u32], n: usize, blocks: &[u32], g: usize) -> Checked
     requires { ⌜ Blocks (now text) (now tokens) n (now blocks) g ⌝ }
     ensures { λ r. ⌜ r ≡ coverFaults (defsAt (now (text .entry)) (now (tokens .entry)) n (now (blocks .entry)) g) ⌝ }
 {
     let mut j: usize = 0;
-    let fault: u32 = 'pass: loop {
+    let fault: Checked = 'pass: loop {
         if j >= g {
-            break 'pass 0;
+            break 'pass Checked::Fine;
         }
         let block = block_at(blocks, j);
         let names = block.names;
@@ -131,12 +133,12 @@ pub fn check_covers(text: &[u8], tokens: &[u32], n: usize, blocks: &[u32], g: us
             let columns = line_columns(text, tokens, at, end);
             let output = output_of(token(text, tokens[end - 1]));
             if !line_fits(end - at, columns.len(), names, output) {
-                break 'pass 12;
+                break 'pass Checked::Refused(Refusal::WrongCubeLine);
             }
             let mut i: usize = 0;
             while i < columns.len() {
                 if !is_column(columns[i]) {
-                    break 'pass 12;
+                    break 'pass Checked::Refused(Refusal::WrongCubeLine);
                 }
                 i += 1;
             }
@@ -145,7 +147,7 @@ pub fn check_covers(text: &[u8], tokens: &[u32], n: usize, blocks: &[u32], g: us
             k += 1;
         }
         if differ(met) {
-            break 'pass 13;
+            break 'pass Checked::Refused(Refusal::OutputsDiffer);
         }
         j += 1;
     };

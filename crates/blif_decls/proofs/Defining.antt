@@ -16,16 +16,22 @@ use Rattle.blif_text.proofs.RowWalk.{inside-less}
 use Rattle.blif_text.proofs.RefusalLaws.{stmts-end}
 use Rattle.name_index.specs.Search.{Entry}
 use Rattle.name_index.specs.Index.{entriesOf, Index}
-use Rattle.blif_model.specs.Read.{when, naming}
+use Rattle.refusals.specs.Order.{_then_, when}
+use Rattle.refusals.specs.declared.Refusal.the-variants as refusal
+use Rattle.refusals.specs.declared.Checked.{Checked}
+use Rattle.refusals.specs.declared.Checked.the-variants.{Fine, Refused}
+use Rattle.blif_model.specs.Read.{naming}
 use Rattle.blif_sizes.specs.Rows.{names, RowIs, LinesAt}
 use Rattle.blif_decls.specs.Entries.{inputEntries}
-use Rattle.blif_decls.specs.Naming.{namesIn, InputsEntered, TablesTo, Going, Steps}
+use Rattle.blif_decls.specs.Naming.{namesIn, InputsEntered, stepOf, TablesTo, Going, Steps, stops, goes}
 use Rattle.blif_decls.specs.declared.Walk.{Walk}
+use Rattle.blif_decls.specs.declared.Step.{Step}
+use Rattle.blif_decls.specs.declared.Step.the-variants as step
 use Rattle.blif_sizes.proofs.RowStarts.{names-length, stmts-behind}
 use Rattle.blif_model.proofs.SizeLimits.{sizes-within}
 use Rattle.blif_sizes.proofs.Counting.{no-decls}
 use Rattle.blif_decls.proofs.Tabling.{inside-more, tabled-model, tabled-end, tabled-inputs, tabled-outputs, outputs-few}
-use Rattle.blif_decls.proofs.Refusing.{chain-stop, chain-go, naming-model, naming-end, naming-inputs, naming-outputs}
+use Rattle.blif_decls.proofs.Refusing.{naming-model, naming-end, naming-inputs, naming-outputs}
 
 -- ---- names of entries
 
@@ -81,15 +87,18 @@ module _ {text tokens : List ℕ} {n at r : ℕ} where
 
 -- ---- the walk goes on
 
+-- the step of a checked statement, of what the check gave
+pub step-is : {s : Step} {b k : Checked} (w : Walk) → s ≡ stepOf b w → b ≡ k → stepOf k w ≡ s
+step-is w e q = sym (e ∙ ap (λ (x : Checked). stepOf x w) q)
+
 module _ {text tokens : List ℕ} {n : ℕ} {index out blocks : List ℕ} {v : Walk} (c : Going text tokens n index out blocks v) where
   -- the walk at another place, with these tables
-  pub on : {index′ out′ blocks′ : List ℕ} (w : Walk) → w .refused ≡ 0 → StmtsAt text tokens n (w .at) → length out′ ≡ length out → length blocks′ ≡ length blocks
+  pub on : {index′ out′ blocks′ : List ℕ} (w : Walk) → StmtsAt text tokens n (w .at) → length out′ ≡ length out → length blocks′ ≡ length blocks
       → naming false [] (decls (stmtsFrom text tokens n 0)) ≡ naming (w .seen) (namesIn text index′ (w .inputs + w .gates)) (decls (stmtsFrom text tokens n (w .at)))
       → TablesTo (decls (stmtsFrom text tokens n 0)) (decls (stmtsFrom text tokens n (w .at))) text tokens n index′ out′ blocks′ (w .inputs) (w .gates) (w .outputs)
       → Going text tokens n index′ out′ blocks′ w
-  on w z r p q e t =
+  on w r p q e t =
       record {
-        fine = z;
         rest = r;
         few = c .few;
         small = c .small;
@@ -109,77 +118,75 @@ module _ {text tokens : List ℕ} {n : ℕ} {index out blocks : List ℕ} {v : W
       → naming false [] (decls (stmtsFrom text tokens n 0)) ≡ naming (v .seen) (namesIn text index (v .inputs + v .gates)) l
   left-as e = c .left ∙ ap (naming (v .seen) (namesIn text index (v .inputs + v .gates))) e
 
+  -- a statement is passed: its refusal counts, or the walk goes on
+  pub step-on : {index′ out′ blocks′ : List ℕ} (b rest : Checked) (w : Walk) → v .at < w .at → naming false [] (decls (stmtsFrom text tokens n 0)) ≡ (b then rest)
+      → (b ≡ Fine → naming false [] (decls (stmtsFrom text tokens n 0)) ≡ rest → Going text tokens n index′ out′ blocks′ w)
+      → Steps text tokens n index′ out′ blocks′ v (stepOf b w)
+  unfolding _then_
+  step-on Fine rest w h e g = goes h (g refl e)
+  step-on (Refused r) rest w h e g = stops e
+
   -- nothing is declared
   go-same : (at : ℕ) → v .at < at → StmtsAt text tokens n at → decls (stmtsFrom text tokens n (v .at)) ≡ decls (stmtsFrom text tokens n at)
-      → Steps text tokens n index out blocks v (record { at = at; refused = v .refused; seen = v .seen; inputs = v .inputs; gates = v .gates; outputs = v .outputs })
-  go-same at h r e =
-      record {
-        low = h;
-        refused = λ f. absurd (f (c .fine));
-        goes = λ z. on _ z r refl refl (left-as e) (tabled-as e);
-      }
+      → Steps text tokens n index out blocks v (step.Next (record { at = at; seen = v .seen; inputs = v .inputs; gates = v .gates; outputs = v .outputs }))
+  go-same at h r e = goes h (on _ r refl refl (left-as e) (tabled-as e))
 
   module _ {r : ℕ} where
     pub go-cube : {run : Run} → RowIs text tokens n (v .at) r (place.Cube run)
-        → Steps text tokens n index out blocks v (record { at = r; refused = v .refused; seen = v .seen; inputs = v .inputs; gates = v .gates; outputs = v .outputs })
+        → Steps text tokens n index out blocks v (step.Next (record { at = r; seen = v .seen; inputs = v .inputs; gates = v .gates; outputs = v .outputs }))
     go-cube w = go-same r (w .low) (w .rest) (cube-decls w)
 
     -- "`.exdc` stops naming and building"
     pub go-exdc : RowIs text tokens n (v .at) r place.Exdc
-        → Steps text tokens n index out blocks v (record { at = n; refused = v .refused; seen = v .seen; inputs = v .inputs; gates = v .gates; outputs = v .outputs })
+        → Steps text tokens n index out blocks v (step.Next (record { at = n; seen = v .seen; inputs = v .inputs; gates = v .gates; outputs = v .outputs }))
     go-exdc w =
         let b = stmts-behind (w .rest) in
         go-same n (omega (arith, w .low, w .rest .rows .high)) b (exdc-decls w ∙ sym (ap decls (stmts-end b (omega arith)) ∙ no-decls))
 
     -- "7 at a second `.model`"
-    pub go-model : {b : ℕ} → RowIs text tokens n (v .at) r place.Model → b ≡ when (v .seen) 7
-        → Steps text tokens n index out blocks v (record { at = r; refused = b; seen = true; inputs = v .inputs; gates = v .gates; outputs = v .outputs })
-    go-model {b} w e =
-        let q = left-as (model-decls w) ∙ naming-model (v .seen) (namesIn text index (v .inputs + v .gates)) (decls (stmtsFrom text tokens n r)) in
-        record {
-          low = w .low;
-          refused = λ f. chain-stop _ e f q;
-          goes = λ z. on _ z (w .rest) refl refl (chain-go _ e z q) (tabled-model (tabled-as (model-decls w)));
-        }
+    pub go-model : RowIs text tokens n (v .at) r place.Model
+        → Steps text tokens n index out blocks v
+        (stepOf (when (v .seen) refusal.SecondModel) (record { at = r; seen = true; inputs = v .inputs; gates = v .gates; outputs = v .outputs }))
+    go-model w =
+        let l = decls (stmtsFrom text tokens n r) in
+        let q = left-as (model-decls w) ∙ naming-model (v .seen) (namesIn text index (v .inputs + v .gates)) l in
+        step-on _ _ _ (w .low) q (λ z e. on _ (w .rest) refl refl e (tabled-model (tabled-as (model-decls w))))
 
     -- "8 at `.end` before any `.model`"
-    pub go-end : {b : ℕ} → RowIs text tokens n (v .at) r place.End → b ≡ when (not (v .seen)) 8
-        → Steps text tokens n index out blocks v (record { at = r; refused = b; seen = v .seen; inputs = v .inputs; gates = v .gates; outputs = v .outputs })
-    go-end {b} w e =
-        let q = left-as (end-decls w) ∙ naming-end (v .seen) (namesIn text index (v .inputs + v .gates)) (decls (stmtsFrom text tokens n r)) in
-        record {
-          low = w .low;
-          refused = λ f. chain-stop _ e f q;
-          goes = λ z. on _ z (w .rest) refl refl (chain-go _ e z q) (tabled-end (tabled-as (end-decls w)));
-        }
+    pub go-end : RowIs text tokens n (v .at) r place.End
+        → Steps text tokens n index out blocks v
+        (stepOf (when (not (v .seen)) refusal.EndBeforeModel) (record { at = r; seen = v .seen; inputs = v .inputs; gates = v .gates; outputs = v .outputs }))
+    go-end w =
+        let l = decls (stmtsFrom text tokens n r) in
+        let q = left-as (end-decls w) ∙ naming-end (v .seen) (namesIn text index (v .inputs + v .gates)) l in
+        step-on _ _ _ (w .low) q (λ z e. on _ (w .rest) refl refl e (tabled-end (tabled-as (end-decls w))))
 
     -- "10 when a name is defined twice by inputs"
-    pub go-inputs : {run : Run} {index′ : List ℕ} {b : ℕ} → RowIs text tokens n (v .at) r (place.Inputs run)
+    pub go-inputs : {run : Run} {index′ : List ℕ} {b : Checked} → RowIs text tokens n (v .at) r (place.Inputs run)
         → InputsEntered text tokens (v .at + 1) r index (v .inputs) (v .gates) index′ b
-        → Steps text tokens n index′ out blocks v (record { at = r; refused = b; seen = v .seen; inputs = v .inputs + (r - v .at - 1); gates = v .gates; outputs = v .outputs })
+        → Steps text tokens n index′ out blocks v
+        (stepOf b (record { at = r; seen = v .seen; inputs = v .inputs + (r - v .at - 1); gates = v .gates; outputs = v .outputs }))
     go-inputs {run} {index′} {b} w e =
         let ns = names text tokens (v .at) r in
         let l = decls (stmtsFrom text tokens n r) in
-        let m : r - (v .at + 1) ≡ r - v .at - 1 = omega arith in
         let k : v .inputs + (r - (v .at + 1)) + v .gates ≡ v .inputs + (r - v .at - 1) + v .gates = omega arith in
-        let q = left-as (inputs-decls w) ∙ naming-inputs (v .seen) (namesIn text index (v .inputs + v .gates)) l ns in
-        record {
-          low = w .low;
-          refused = λ f. chain-stop _ (e .refused) f q;
-          goes = λ z.
-              let a : entriesOf text index′ (v .inputs + (r - v .at - 1) + v .gates) ≡ entriesOf text index (v .inputs + v .gates) ++ inputEntries (v .inputs) ns =
-              ap (entriesOf text index′) (sym k) ∙ e .added z in
-              on _ z (w .rest) refl refl
-              (chain-go _ (e .refused) z q
-              ∙ ap (λ (x : List Bytes). naming (v .seen) x l)
-              (sym (names-more (entriesOf text index (v .inputs + v .gates)) (inputEntries (v .inputs) ns) a ∙ ap (λ (x : List Bytes). namesIn text index (v .inputs + v .gates) ++ x) (input-names (v .inputs) ns))))
-              (tabled-inputs (tabled-as (inputs-decls w)) (names-length w) (subst (Index text index′) k (e .index-is z)) a);
-        }
+        let rest = naming (v .seen) (namesIn text index (v .inputs + v .gates) ++ ns) l in
+        let q = left-as (inputs-decls w) ∙ naming-inputs (v .seen) (namesIn text index (v .inputs + v .gates)) l ns ∙ ap (λ (x : Checked). x then rest) (sym (e .refused)) in
+        step-on b rest _ (w .low) q
+        (λ z left.
+        let a : entriesOf text index′ (v .inputs + (r - v .at - 1) + v .gates) ≡ entriesOf text index (v .inputs + v .gates) ++ inputEntries (v .inputs) ns =
+        ap (entriesOf text index′) (sym k) ∙ e .added z in
+        on _ (w .rest) refl refl
+        (left
+        ∙ ap (λ (x : List Bytes). naming (v .seen) x l)
+        (sym (names-more (entriesOf text index (v .inputs + v .gates)) (inputEntries (v .inputs) ns) a ∙ ap (λ (x : List Bytes). namesIn text index (v .inputs + v .gates) ++ x) (input-names (v .inputs) ns))))
+        (tabled-inputs (tabled-as (inputs-decls w)) (names-length w) (subst (Index text index′) k (e .index-is z)) a))
 
     -- outputs define nothing
     pub go-outputs : {run : Run} {out′ : List ℕ} → RowIs text tokens n (v .at) r (place.Outputs run)
         → take (v .outputs + (r - (v .at + 1))) out′ ≡ take (v .outputs) out ++ slice (v .at + 1) r tokens → length out′ ≡ length out
-        → Steps text tokens n index out′ blocks v (record { at = r; refused = v .refused; seen = v .seen; inputs = v .inputs; gates = v .gates; outputs = v .outputs + (r - v .at - 1) })
+        → Steps text tokens n index out′ blocks v
+        (step.Next (record { at = r; seen = v .seen; inputs = v .inputs; gates = v .gates; outputs = v .outputs + (r - v .at - 1) }))
     go-outputs {run} {out′} w e p =
         let l = decls (stmtsFrom text tokens n r) in
         let cs = slice (v .at + 1) r tokens in
@@ -191,11 +198,7 @@ module _ {text tokens : List ℕ} {n : ℕ} {index out blocks : List ℕ} {v : W
         omega (arith, outputs-few t, names-length w, s .outputs, c .outputs-room, p) in
         let inside : Inside text out′ (v .outputs + (r - (v .at + 1))) =
         inside-more (inside-less (w .rest .rows .high) (w .rest .rows .places)) (omega (arith, w .low)) (t .outputs-in) e few in
-        record {
-          low = w .low;
-          refused = λ f. absurd (f (c .fine));
-          goes = λ z.
-              on _ z (w .rest) p refl (left-as (outputs-decls w) ∙ naming-outputs (v .seen) (namesIn text index (v .inputs + v .gates)) l (names text tokens (v .at) r))
-              (tabled-outputs cs t (length-slice (v .at + 1) r tokens h ∙ m) (subst (λ (k : ℕ). take (v .outputs + k) out′ ≡ take (v .outputs) out ++ cs) m e)
-              (subst (λ (k : ℕ). Inside text out′ (v .outputs + k)) m inside));
-        }
+        goes (w .low)
+        (on _ (w .rest) p refl (left-as (outputs-decls w) ∙ naming-outputs (v .seen) (namesIn text index (v .inputs + v .gates)) l (names text tokens (v .at) r))
+        (tabled-outputs cs t (length-slice (v .at + 1) r tokens h ∙ m) (subst (λ (k : ℕ). take (v .outputs + k) out′ ≡ take (v .outputs) out ++ cs) m e)
+        (subst (λ (k : ℕ). Inside text out′ (v .outputs + k)) m inside)))

@@ -21,7 +21,10 @@ use Rattle.blif_text.specs.declared.Block.{Block}
 use Rattle.blif_text.proofs.WordLaws.{slice-snoc}
 use Rattle.name_index.specs.Search.{Entry, entry}
 use Rattle.name_index.specs.Index.{entriesOf, Index, Entered}
-use Rattle.blif_model.specs.Read.{when, twice}
+use Rattle.refusals.specs.declared.Refusal.the-variants as refusal
+use Rattle.refusals.specs.declared.Checked.the-variants.{Fine, Refused}
+use Rattle.refusals.proofs.Order.{refused-ne-fine, when-yes, when-no}
+use Rattle.blif_model.specs.Read.{twice}
 use Rattle.blif_decls.specs.Entries.{inputEntries}
 use Rattle.blif_decls.specs.Naming.{namesIn, InputsFit, InputsEntered, GateFits, GateDefined}
 
@@ -52,15 +55,6 @@ twice-new earlier x xs e = ap (λ (b : Bool). b || twice (earlier ++ (x ∷ []))
 twice-known : (earlier : List Bytes) (x : Bytes) (xs : List Bytes) → known x earlier ≡ true → twice earlier (x ∷ xs) ≡ true
 unfolding twice
 twice-known earlier x xs e = ap (λ (b : Bool). b || twice (earlier ++ (x ∷ [])) xs) e
-
--- a refusal by a test
-pub when-yes : {b : Bool} (k : ℕ) → b ≡ true → k ≡ when b k
-unfolding when
-when-yes k e = sym (ap (λ (c : Bool). when c k) e)
-
-pub when-no : {b : Bool} (k : ℕ) → b ≡ false → 0 ≡ when b k
-unfolding when
-when-no k e = sym (ap (λ (c : Bool). when c k) e)
 
 -- ---- inputs
 
@@ -104,13 +98,13 @@ module _ {text tokens : List ℕ} {first end : ℕ} {index₀ : List ℕ} {input
 
   -- it is known
   pub entering-known : {index′ : List ℕ} {s : ℕ} {r : Bool} → Entered text index (i + gates) (getD tokens j 0) s index′ r → r ≡ false
-      → InputsEntered text tokens first end index₀ inputs gates index′ 10
+      → InputsEntered text tokens first end index₀ inputs gates index′ (Refused refusal.DefinedTwice)
   entering-known {index′} {s} {r} e z =
       let k : known (tokenOf text (getD tokens j 0)) (namesIn text index (i + gates)) ≡ true = not-false _ (sym (e .new) ∙ z) in
       record {
-        refused = when-yes 10 (c .left ∙ ap (twice (namesIn text index (i + gates))) names-next ∙ twice-known _ _ (tokensOf text (slice (j + 1) end tokens)) k);
-        index-is = λ y. absurd (omega arith);
-        added = λ y. absurd (omega arith);
+        refused = when-yes refusal.DefinedTwice (c .left ∙ ap (twice (namesIn text index (i + gates))) names-next ∙ twice-known _ _ (tokensOf text (slice (j + 1) end tokens)) k);
+        index-is = λ y. absurd (refused-ne-fine y);
+        added = λ y. absurd (refused-ne-fine y);
       }
 
   -- it is new
@@ -151,13 +145,13 @@ module _ {text tokens : List ℕ} {first end : ℕ} {index₀ : List ℕ} {input
 
 -- all are entered
 pub entering-done : {text tokens : List ℕ} {first end : ℕ} {index₀ : List ℕ} {inputs gates : ℕ} {index : List ℕ} {j i : ℕ}
-    → Entering text tokens first end index₀ inputs gates index j i → end ≤ j → InputsEntered text tokens first end index₀ inputs gates index 0
+    → Entering text tokens first end index₀ inputs gates index j i → end ≤ j → InputsEntered text tokens first end index₀ inputs gates index Fine
 entering-done {text} {tokens} {first} {end} {index₀} {inputs} {gates} {index} {j} {i} c h =
     let p : j ≡ end = omega (arith, c .high) in
     let q : i + gates ≡ inputs + (end - first) + gates = omega (arith, c .counted) in
     record {
       refused =
-          when-no 10 (c .left ∙ ap (λ (m : ℕ). twice (namesIn text index (i + gates)) (tokensOf text (slice m end tokens))) p
+          when-no refusal.DefinedTwice (c .left ∙ ap (λ (m : ℕ). twice (namesIn text index (i + gates)) (tokensOf text (slice m end tokens))) p
           ∙ ap (λ (x : List ℕ). twice (namesIn text index (i + gates)) (tokensOf text x)) (slice-empty end tokens) ∙ twice-none (namesIn text index (i + gates)));
       index-is = λ z. subst (Index text index) q (c .index-is);
       added = λ z.
@@ -210,22 +204,22 @@ module _ {tokens : List ℕ} {first end : ℕ} {out₀ : List ℕ} {outputs : �
 module _ {text index : List ℕ} {i g cell : ℕ} {block : Block} {blocks : List ℕ} {index′ : List ℕ} {s : ℕ} {r : Bool}
     (f : GateFits text index i g cell block blocks) (e : Entered text index (i + g) cell s index′ r) where
   -- its name is known
-  pub gate-known : {blocks′ : List ℕ} → r ≡ false → GateDefined text index i g (tokenOf text cell) block blocks index′ blocks′ 10
+  pub gate-known : {blocks′ : List ℕ} → r ≡ false → GateDefined text index i g (tokenOf text cell) block blocks index′ blocks′ (Refused refusal.DefinedTwice)
   gate-known z =
       record {
-        refused = when-yes 10 (not-false _ (sym (e .new) ∙ z));
-        index-is = λ y. absurd (omega arith);
-        added = λ y. absurd (omega arith);
-        block-is = λ y. absurd (omega arith);
+        refused = when-yes refusal.DefinedTwice (not-false _ (sym (e .new) ∙ z));
+        index-is = λ y. absurd (refused-ne-fine y);
+        added = λ y. absurd (refused-ne-fine y);
+        block-is = λ y. absurd (refused-ne-fine y);
       }
 
   -- its name is new
   pub gate-new : {blocks′ : List ℕ} → r ≡ true → s ≡ gateCell g → blocks′ ≡ overAt (g * blockWidth) (block .first ∷ block .names ∷ block .lines ∷ []) blocks
-      → GateDefined text index i g (tokenOf text cell) block blocks index′ blocks′ 0
+      → GateDefined text index i g (tokenOf text cell) block blocks index′ blocks′ Fine
   gate-new z q b =
       let p : i + g + 1 ≡ i + (g + 1) = omega arith in
       record {
-        refused = when-no 10 (not-true _ (sym (e .new) ∙ z));
+        refused = when-no refusal.DefinedTwice (not-true _ (sym (e .new) ∙ z));
         index-is = λ y. subst (Index text index′) p (e .index z);
         added = λ y.
             ap (entriesOf text index′) (sym p) ∙ e .added z

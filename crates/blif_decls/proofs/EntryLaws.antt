@@ -15,6 +15,7 @@ use Rattle.lists.proofs.Tests.{by-test}
 use Rattle.lists.proofs.Known.{known-mem}
 use Rattle.lists.proofs.Every.{Every, every-nil, every-cons, every-append}
 use Rattle.lists.proofs.Places.{place-lt, mem-place, place-right, map-place}
+use Rattle.refusals.specs.declared.Checked.the-variants.{Fine}
 use Rattle.signal.specs.Signal.{Signal, Input, Gated, plain}
 use Rattle.signal.specs.Cell.{sigCell}
 use Rattle.blif_text.specs.Decls.{Def, Decl, model, end, inputs, outputs, gate, insOf, defsOf, ins, defs, defines}
@@ -77,7 +78,7 @@ entries-known x (gate d ∷ ds) i g =
 
 -- ---- each entry has the signal of its name
 
-module _ (all : List Decl) (named : naming false [] all ≡ 0) where
+module _ (all : List Decl) (named : naming false [] all ≡ Fine) where
   -- input i is input signal i
   input-at : (i : ℕ) (x : Bytes) → getElem? (ins all) i ≡ some x → look all x ≡ plain (Input i)
   input-at i x e = looks byte-names (modelOf all) (once-of all named) .inputAt i x e
@@ -118,14 +119,14 @@ module _ (all : List Decl) (named : naming false [] all ≡ 0) where
 -- ---- the laws
 
 -- the entries found are the signals of the definition's search
-pub entry-signal : (ds : List Decl) → naming false [] ds ≡ 0 → (x : Bytes)
+pub entry-signal : (ds : List Decl) → naming false [] ds ≡ Fine → (x : Bytes)
     → signalIn (entries 0 0 ds) x ≡ cond (known x (ins ds ++ map defines (defs ds))) (sigCell (look ds x)) 0
 entry-signal ds e x =
     signal-known (λ (y : Bytes). sigCell (look ds y)) (entries 0 0 ds) x (right-entries ds e ds [] [] 0 0 refl refl refl refl)
     ∙ ap (λ (b : Bool). cond b (sigCell (look ds x)) 0) (entries-known x ds 0 0 ∙ sym (known-append x (ins ds) (map defines (defs ds))))
 
 -- a defined name's signal is not the constant zero
-defined-cell : (ds : List Decl) → naming false [] ds ≡ 0 → tooLarge ds ≡ false → (x : Bytes) → List·Memᴰ x (ins ds ++ map defines (defs ds))
+defined-cell : (ds : List Decl) → naming false [] ds ≡ Fine → tooLarge ds ≡ false → (x : Bytes) → List·Memᴰ x (ins ds ++ map defines (defs ds))
     → 0 < sigCell (look ds x)
 defined-cell ds e s x m =
     ⊎-elim
@@ -140,7 +141,7 @@ defined-cell ds e s x m =
     (List·Memᴰ·append-cases (ins ds) m)
 
 -- a name that is defined is found: zero is no name's signal
-pub entry-found : (ds : List Decl) → naming false [] ds ≡ 0 → tooLarge ds ≡ false → (x : Bytes) → known x (ins ds ++ map defines (defs ds)) ≡ true
+pub entry-found : (ds : List Decl) → naming false [] ds ≡ Fine → tooLarge ds ≡ false → (x : Bytes) → known x (ins ds ++ map defines (defs ds)) ≡ true
     → not (eqb 0 (signalIn (entries 0 0 ds) x)) ≡ true
 entry-found ds e s x k =
     let d = defined-cell ds e s x (known-mem x (ins ds ++ map defines (defs ds)) k) in

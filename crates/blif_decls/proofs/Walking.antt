@@ -6,6 +6,8 @@ use Prim.Native.Nat.{ℕ, _+_, _-_, _*_, _≤_, _<_}
 use native.Mathlib.Omega.{arith}
 use lib.ListN.{length, take}
 use Rattle.lists.specs.Lists.{Bytes, zeros}
+use Rattle.refusals.specs.declared.Refusal.{Refusal}
+use Rattle.refusals.specs.declared.Checked.the-variants.{Fine, Refused}
 use Rattle.network.specs.Cells.{maxGates, maxOutputs}
 use Rattle.blif_text.specs.Decls.{Def, cover, Decl, gate, cubes, decls, ins, outs, defs}
 use Rattle.blif_text.specs.Places.{maxTokens, tokensOf}
@@ -19,9 +21,11 @@ use Rattle.name_index.specs.Index.{indexCells, entriesOf, Index}
 use Rattle.name_index.proofs.IndexLaws.{index-empty}
 use Rattle.blif_model.specs.Read.{tooLarge, naming}
 use Rattle.blif_sizes.specs.Rows.{names, RowIs}
-use Rattle.blif_decls.specs.Naming.{namesIn, InputsFit, CoverFits, LatchFits, TablesTo, Going}
+use Rattle.blif_decls.specs.Naming.{namesIn, InputsFit, CoverFits, LatchFits, TablesTo, Going, Steps, stops, goes}
 use Rattle.blif_decls.specs.Tables.{Tables, DefinedBy}
 use Rattle.blif_decls.specs.declared.Walk.{Walk}
+use Rattle.blif_decls.specs.declared.Step.the-variants as step
+use Rattle.blif_decls.specs.declared.Defined.the-variants as defined
 use Rattle.blif_sizes.proofs.RowStarts.{names-length}
 use Rattle.blif_model.proofs.SizeLimits.{sizes-within}
 use Rattle.blif_sizes.proofs.Counting.{no-decls}
@@ -108,10 +112,9 @@ module _ {text tokens : List ℕ} {n : ℕ} {index out blocks : List ℕ} {v : W
 -- before the first statement
 pub going-start : {text tokens : List ℕ} {n : ℕ} {index out blocks : List ℕ} → StmtsAt text tokens n 0 → n ≤ maxTokens
     → tooLarge (decls (stmtsFrom text tokens n 0)) ≡ false → index ≡ zeros indexCells → maxOutputs ≤ length out → maxGates * blockWidth ≤ length blocks
-    → Going text tokens n index out blocks (record { at = 0; refused = 0; seen = false; inputs = 0; gates = 0; outputs = 0 })
+    → Going text tokens n index out blocks (record { at = 0; seen = false; inputs = 0; gates = 0; outputs = 0 })
 going-start {text} {tokens} {n} {index} {out} {blocks} c h s e o b =
     record {
-      fine = refl;
       rest = c;
       few = h;
       small = s;
@@ -132,8 +135,18 @@ going-start {text} {tokens} {n} {index} {out} {blocks} c h s e o b =
           };
     }
 
+-- the walk behind a statement
+pub going-next : {text tokens : List ℕ} {n : ℕ} {index out blocks : List ℕ} {v w : Walk} → Steps text tokens n index out blocks v (step.Next w)
+    → (v .at < w .at) × Going text tokens n index out blocks w
+going-next (goes h g) = (h, g)
+
+-- the refusal of a statement
+pub going-stop : {text tokens : List ℕ} {n : ℕ} {index out blocks : List ℕ} {v : Walk} {r : Refusal} → Steps text tokens n index out blocks v (step.Refused r)
+    → naming false [] (decls (stmtsFrom text tokens n 0)) ≡ Refused r
+going-stop (stops e) = e
+
 -- no declaration, no refusal
-naming-none : {l : List Decl} → l ≡ [] → (seen : Bool) (earlier : List Bytes) → naming seen earlier l ≡ 0
+naming-none : {l : List Decl} → l ≡ [] → (seen : Bool) (earlier : List Bytes) → naming seen earlier l ≡ Fine
 unfolding naming
 naming-none e seen earlier = ap (naming seen earlier) e
 
@@ -160,10 +173,7 @@ tables-all {ds} {text} {tokens} {n} {index} {out} {blocks} {i} {g} {o} t =
 -- behind the last statement
 pub going-done : {text tokens : List ℕ} {n : ℕ} {index out blocks : List ℕ} {w : Walk} → Going text tokens n index out blocks w → n ≤ w .at
     → DefinedBy (decls (stmtsFrom text tokens n 0)) text tokens n index out blocks
-    (record { refused = 0; inputs = w .inputs; gates = w .gates; outputs = w .outputs })
+    (defined.Names (record { inputs = w .inputs; gates = w .gates; outputs = w .outputs }))
 going-done {text} {tokens} {n} {index} {out} {blocks} {w} c h =
     let e : decls (stmtsFrom text tokens n (w .at)) ≡ [] = ap decls (stmts-end (c .rest) h) ∙ no-decls in
-    record {
-      refused = sym (c .left ∙ naming-none e (w .seen) (namesIn text index (w .inputs + w .gates)));
-      tables = λ z. tables-all (tabled-as c e);
-    }
+    (c .left ∙ naming-none e (w .seen) (namesIn text index (w .inputs + w .gates)), tables-all (tabled-as c e))

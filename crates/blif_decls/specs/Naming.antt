@@ -7,6 +7,11 @@ use Prim.Native.Nat.{ℕ, _+_, _-_, _*_, _≤_, _<_}
 use lib.ListN.{length, getD, take}
 use lib.Seq.{slice}
 use Rattle.lists.specs.Lists.{Bytes, known, overAt}
+use Rattle.refusals.specs.Order.{when}
+use Rattle.refusals.specs.declared.Refusal.{Refusal}
+use Rattle.refusals.specs.declared.Refusal.the-variants as refusal
+use Rattle.refusals.specs.declared.Checked.{Checked}
+use Rattle.refusals.specs.declared.Checked.the-variants.{Fine, Refused}
 use Rattle.signal.specs.Signal.{Gated, plain}
 use Rattle.signal.specs.Cell.{sigCell}
 use Rattle.network.specs.Cells.{maxInputs, maxGates, maxOutputs}
@@ -17,10 +22,12 @@ use Rattle.blif_text.specs.Blocks.{blockWidth, defsAt, Blocks}
 use Rattle.blif_text.specs.declared.Block.{Block}
 use Rattle.name_index.specs.Search.{Entry, entry}
 use Rattle.name_index.specs.Index.{entriesOf, Index}
-use Rattle.blif_model.specs.Read.{when, tooLarge, twice, naming}
+use Rattle.blif_model.specs.Read.{tooLarge, twice, naming}
 use Rattle.blif_sizes.specs.Rows.{LinesAt}
 use Rattle.blif_decls.specs.Entries.{inputEntries, entries}
 use Rattle.blif_decls.specs.declared.Walk.{Walk}
+use Rattle.blif_decls.specs.declared.Step.{Step}
+use Rattle.blif_decls.specs.declared.Step.the-variants as step
 
 -- the names of the first k entries
 abbrev pub namesIn : Bytes → List ℕ → ℕ → List Bytes
@@ -39,14 +46,14 @@ pub record InputsFit (text tokens : List ℕ) (first end : ℕ) (index : List �
   -- "1,024 gates"
   pub gates : g ≤ maxGates
 
--- the names from first to end are entered as inputs, or r is 10: one "is defined twice"
-pub record InputsEntered (text tokens : List ℕ) (first end : ℕ) (index : List ℕ) (i g : ℕ) (index′ : List ℕ) (r : ℕ) : Type 0 where
+-- the names from first to end are entered as inputs, or one "is defined twice"
+pub record InputsEntered (text tokens : List ℕ) (first end : ℕ) (index : List ℕ) (i g : ℕ) (index′ : List ℕ) (r : Checked) : Type 0 where
   -- "10 when a name is defined twice"
-  pub refused : r ≡ when (twice (namesIn text index (i + g)) (tokensOf text (slice first end tokens))) 10
+  pub refused : r ≡ when (twice (namesIn text index (i + g)) (tokensOf text (slice first end tokens))) refusal.DefinedTwice
   -- the index has them now
-  pub index-is : r ≡ 0 → Index text index′ (i + (end - first) + g)
+  pub index-is : r ≡ Fine → Index text index′ (i + (end - first) + g)
   -- behind the others
-  pub added : r ≡ 0 → entriesOf text index′ (i + (end - first) + g) ≡ entriesOf text index (i + g) ++ inputEntries i (tokensOf text (slice first end tokens))
+  pub added : r ≡ Fine → entriesOf text index′ (i + (end - first) + g) ≡ entriesOf text index (i + g) ++ inputEntries i (tokensOf text (slice first end tokens))
 
 -- gate g can be defined by the name at a cell
 pub record GateFits (text index : List ℕ) (i g cell : ℕ) (block : Block) (blocks : List ℕ) : Type 0 where
@@ -67,16 +74,16 @@ pub record GateFits (text index : List ℕ) (i g cell : ℕ) (block : Block) (bl
   -- its lines
   pub lines : block .lines ≤ maxTokens
 
--- gate g is defined by the name x and its block, or r is 10: the name "is defined twice"
-pub record GateDefined (text index : List ℕ) (i g : ℕ) (x : Bytes) (block : Block) (blocks index′ blocks′ : List ℕ) (r : ℕ) : Type 0 where
+-- gate g is defined by the name x and its block, or the name "is defined twice"
+pub record GateDefined (text index : List ℕ) (i g : ℕ) (x : Bytes) (block : Block) (blocks index′ blocks′ : List ℕ) (r : Checked) : Type 0 where
   -- "10 when a name is defined twice"
-  pub refused : r ≡ when (known x (namesIn text index (i + g))) 10
+  pub refused : r ≡ when (known x (namesIn text index (i + g))) refusal.DefinedTwice
   -- the index has it now
-  pub index-is : r ≡ 0 → Index text index′ (i + (g + 1))
+  pub index-is : r ≡ Fine → Index text index′ (i + (g + 1))
   -- behind the others
-  pub added : r ≡ 0 → entriesOf text index′ (i + (g + 1)) ≡ entriesOf text index (i + g) ++ (entry x (sigCell (plain (Gated g))) ∷ [])
+  pub added : r ≡ Fine → entriesOf text index′ (i + (g + 1)) ≡ entriesOf text index (i + g) ++ (entry x (sigCell (plain (Gated g))) ∷ [])
   -- and its record is written
-  pub block-is : r ≡ 0 → blocks′ ≡ overAt (g * blockWidth) (block .first ∷ block .names ∷ block .lines ∷ []) blocks
+  pub block-is : r ≡ Fine → blocks′ ≡ overAt (g * blockWidth) (block .first ∷ block .names ∷ block .lines ∷ []) blocks
 
 -- gate g can be defined by a cover of these names
 pub record CoverFits (text tokens index : List ℕ) (i g first names : ℕ) (blocks : List ℕ) : Type 0 where
@@ -93,10 +100,10 @@ pub record CoverFits (text tokens index : List ℕ) (i g first names : ℕ) (blo
   -- its names
   pub few : first + names ≤ maxTokens
 
--- gate g is defined by a cover's last name, or r is 9: "`.names` is empty", or 10
-pub record CoverDefined (text tokens index : List ℕ) (i g : ℕ) (block : Block) (blocks index′ blocks′ : List ℕ) (r : ℕ) : Type 0 where
+-- gate g is defined by a cover's last name, or "`.names` is empty"
+pub record CoverDefined (text tokens index : List ℕ) (i g : ℕ) (block : Block) (blocks index′ blocks′ : List ℕ) (r : Checked) : Type 0 where
   -- "9 when `.names` is empty"
-  pub empty : block .names ≡ 0 → r ≡ 9
+  pub empty : block .names ≡ 0 → r ≡ Refused refusal.NamesEmpty
   -- its last name defines it
   pub last : (block .names ≡ 0 → ⊥)
       → GateDefined text index i g (tokenOf text (getD tokens (block .first + block .names - 1) 0)) block blocks index′ blocks′ r
@@ -110,9 +117,13 @@ abbrev pub coverBlock : ℕ → ℕ → ℕ → Block
 coverBlock at end lines = record { first = at + 1; names = end - at - 1; lines = lines }
 
 -- the walk behind a gate
-abbrev pub gateWalk : Walk → ℕ → ℕ → Walk
-gateWalk w at refused =
-    record { at = at; refused = refused; seen = w .seen; inputs = w .inputs; gates = w .gates + 1; outputs = w .outputs }
+abbrev pub gateWalk : Walk → ℕ → Walk
+gateWalk w at = record { at = at; seen = w .seen; inputs = w .inputs; gates = w .gates + 1; outputs = w .outputs }
+
+-- the walk goes on where nothing is refused
+abbrev pub stepOf : Checked → Walk → Step
+stepOf Fine w = step.Next w
+stepOf (Refused r) w = step.Refused r
 
 -- a latch stands at the walk's place
 pub record LatchFits (text tokens index blocks : List ℕ) (w : Walk) : Type 0 where
@@ -122,22 +133,28 @@ pub record LatchFits (text tokens index blocks : List ℕ) (w : Walk) : Type 0 w
   pub gate : GateFits text index (w .inputs) (w .gates) (getD tokens (w .at + 2) 0) (latchBlock (w .at)) blocks
 
 -- a latch is passed
-pub record LatchStep (text tokens index blocks index′ blocks′ : List ℕ) (w : Walk) (end : ℕ) (r : Walk) : Type 0 where
-  -- the walk goes on behind it
-  pub walk : r ≡ gateWalk w end (r .refused)
+pub record LatchStep (text tokens index blocks index′ blocks′ : List ℕ) (w : Walk) (end : ℕ) (s : Step) : Type 0 where
+  -- its refusal, if it has one
+  pub checked : Checked
+  -- else the walk goes on behind it
+  pub walk : s ≡ stepOf checked (gateWalk w end)
   -- its second name defines a gate
-  pub gate : GateDefined text index (w .inputs) (w .gates) (tokenOf text (getD tokens (w .at + 2) 0)) (latchBlock (w .at)) blocks index′ blocks′ (r .refused)
+  pub gate : GateDefined text index (w .inputs) (w .gates) (tokenOf text (getD tokens (w .at + 2) 0)) (latchBlock (w .at)) blocks index′ blocks′ checked
 
 -- a cover and its lines are passed
-pub record CoverStep (text tokens : List ℕ) (n : ℕ) (index blocks index′ blocks′ : List ℕ) (w : Walk) (end : ℕ) (r : Walk) : Type 0 where
+pub record CoverStep (text tokens : List ℕ) (n : ℕ) (index blocks index′ blocks′ : List ℕ) (w : Walk) (end : ℕ) (s : Step) : Type 0 where
   -- how many lines
   pub count : ℕ
+  -- the place behind them
+  pub behind : ℕ
   -- the lines
-  pub lines : LinesAt text tokens n end count (r .at)
-  -- the walk goes on behind them
-  pub walk : r ≡ gateWalk w (r .at) (r .refused)
+  pub lines : LinesAt text tokens n end count behind
+  -- its refusal, if it has one
+  pub checked : Checked
+  -- else the walk goes on behind the lines
+  pub walk : s ≡ stepOf checked (gateWalk w behind)
   -- its last name defines a gate
-  pub cover : CoverDefined text tokens index (w .inputs) (w .gates) (coverBlock (w .at) end count) blocks index′ blocks′ (r .refused)
+  pub cover : CoverDefined text tokens index (w .inputs) (w .gates) (coverBlock (w .at) end count) blocks index′ blocks′ checked
 
 -- the tables so far: those of the declarations ds before `left`, with i inputs, g gates and o outputs
 pub record TablesTo (ds left : List Decl) (text tokens : List ℕ) (n : ℕ) (index outNames blocks : List ℕ) (i g o : ℕ) : Type 0 where
@@ -162,8 +179,6 @@ pub record TablesTo (ds left : List Decl) (text tokens : List ℕ) (n : ℕ) (in
 
 -- no refusal so far: the tables, and the refusal of what is left
 pub record Going (text tokens : List ℕ) (n : ℕ) (index outNames blocks : List ℕ) (w : Walk) : Type 0 where
-  -- no refusal
-  pub fine : w .refused ≡ 0
   -- statements stand at the place
   pub rest : StmtsAt text tokens n (w .at)
   -- no more tokens than a text may have
@@ -179,11 +194,9 @@ pub record Going (text tokens : List ℕ) (n : ℕ) (index outNames blocks : Lis
   -- the tables so far
   pub tabled : TablesTo (decls (stmtsFrom text tokens n 0)) (decls (stmtsFrom text tokens n (w .at))) text tokens n index outNames blocks (w .inputs) (w .gates) (w .outputs)
 
--- a statement or more is passed: a refusal, or the walk goes on
-pub record Steps (text tokens : List ℕ) (n : ℕ) (index outNames blocks : List ℕ) (v w : Walk) : Type 0 where
-  -- a row is passed
-  pub low : v .at < w .at
+-- a statement or more is passed
+pub data Steps (text tokens : List ℕ) (n : ℕ) (index outNames blocks : List ℕ) (v : Walk) : Step → Type 0 where
   -- the first refusal counts
-  pub refused : (w .refused ≡ 0 → ⊥) → w .refused ≡ naming false [] (decls (stmtsFrom text tokens n 0))
-  -- the walk goes on
-  pub goes : w .refused ≡ 0 → Going text tokens n index outNames blocks w
+  stops : {r : Refusal} → naming false [] (decls (stmtsFrom text tokens n 0)) ≡ Refused r → Steps text tokens n index outNames blocks v (step.Refused r)
+  -- or the walk goes on
+  goes : {w : Walk} → v .at < w .at → Going text tokens n index outNames blocks w → Steps text tokens n index outNames blocks v (step.Next w)

@@ -5,6 +5,8 @@ use mathlib.Core.Bool.{false}
 use mathlib.Core.List.{List, []}
 use Prim.Native.Nat.{ℕ, _+_}
 use lib.ListN.{length, take}
+use Rattle.lists.specs.Lists.{Bytes}
+use Rattle.refusals.specs.declared.Checked.the-variants.{Fine, Refused}
 use Rattle.blif_text.specs.Decls.{Decl, ins, outs, defs}
 use Rattle.blif_text.specs.Places.{tokensOf}
 use Rattle.blif_text.specs.Walk.{Inside}
@@ -13,6 +15,7 @@ use Rattle.name_index.specs.Index.{entriesOf, Index}
 use Rattle.blif_model.specs.Read.{naming}
 use Rattle.blif_decls.specs.Entries.{entries}
 use Rattle.blif_decls.specs.declared.Defined.{Defined}
+use Rattle.blif_decls.specs.declared.Defined.the-variants as defined
 
 -- the index and the blocks of declarations, with i inputs, g gates and o outputs
 pub record Named (ds : List Decl) (text tokens : List ℕ) (n : ℕ) (index blocks : List ℕ) (i g o : ℕ) : Type 0 where
@@ -40,9 +43,8 @@ pub record Tables (ds : List Decl) (text tokens : List ℕ) (n : ℕ) (index out
   -- each within the text
   pub outputs-in : Inside text outNames o
 
--- a refusal of 7 to 10, or the tables
-pub record DefinedBy (ds : List Decl) (text tokens : List ℕ) (n : ℕ) (index outNames blocks : List ℕ) (r : Defined) : Type 0 where
-  -- "7 at a second `.model`; 8 ..; 9 ..; 10 .."
-  pub refused : r .refused ≡ naming false [] ds
-  -- the tables, where there is none
-  pub tables : r .refused ≡ 0 → Tables ds text tokens n index outNames blocks (r .inputs) (r .gates) (r .outputs)
+-- "7 at a second `.model`; 8 ..; 9 ..; 10 ..", or the tables
+abbrev pub DefinedBy : List Decl → Bytes → List ℕ → ℕ → List ℕ → List ℕ → List ℕ → Defined → Type 0
+DefinedBy ds text tokens n index outNames blocks (defined.Refused r) = naming false [] ds ≡ Refused r
+DefinedBy ds text tokens n index outNames blocks (defined.Names d) =
+    (naming false [] ds ≡ Fine) × Tables ds text tokens n index outNames blocks (d .inputs) (d .gates) (d .outputs)

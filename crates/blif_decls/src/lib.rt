@@ -6,9 +6,12 @@ use blif_text::Block;
 use blif_text::Statement;
 use blif_text::put_block;
 use name_index::enter_name;
+use refusals::Checked;
+use refusals::Refusal;
+use refusals::when;
 use signal::Signal;
 ghost use mathlib.Core.Path.{_≡_};
-ghost use mathlib.Core.Bool.{false, not};
+ghost use mathlib.Core.Bool.{false};
 ghost use mathlib.Core.List.{_++_};
 ghost use Prim.Native.Nat.{_+_, _-_, _*_, _≤_, _<_};
 ghost use lib.ListN.{length, take};
@@ -20,50 +23,50 @@ ghost use Rattle.blif_text.specs.Places.{maxTokens, tokenOf};
 ghost use Rattle.blif_text.specs.Walk.{stmtsFrom, StmtsAt};
 ghost use Rattle.blif_text.specs.Blocks.{blockWidth};
 ghost use Rattle.name_index.specs.Index.{indexCells};
-ghost use Rattle.blif_model.specs.Read.{when, tooLarge};
-ghost use Rattle.blif_decls.specs.Naming.{InputsFit, InputsEntered, GateFits, GateDefined, CoverFits, CoverDefined, LatchFits, LatchStep, CoverStep, Going, Steps};
+ghost use Rattle.blif_model.specs.Read.{tooLarge};
+ghost use Rattle.blif_decls.specs.Naming.{InputsFit, InputsEntered, GateFits, GateDefined, CoverFits, CoverDefined, stepOf, LatchFits, LatchStep, CoverStep, Going, Steps};
 ghost use Rattle.blif_decls.specs.Tables.{DefinedBy};
 
-// A refusal of 7 to 10, or zero, and how many inputs, gates and outputs are declared.
-pub struct Defined {
-    pub refused: u32,
+// How many inputs, gates and outputs are declared.
+pub struct Declared {
     pub inputs: usize,
     pub gates: usize,
     pub outputs: usize,
 }
 
-// A walk that enters names: its place, a refusal of 7 to 10 or zero, whether there was a `.model`, and how many inputs, gates
-// and outputs the statements before the place declare.
+// The names are entered, or a refusal of 7 to 10.
+pub enum Defined {
+    Names(Declared),
+    Refused(Refusal),
+}
+
+// A walk that enters names: its place, whether there was a `.model`, and how many inputs, gates and outputs the statements before the
+// place declare.
 struct Walk {
     at: usize,
-    refused: u32,
     seen: bool,
     inputs: usize,
     gates: usize,
     outputs: usize,
 }
 
-// 7 at a second `.model`.
-fn model_refusal(seen: bool) -> u32
-    ensures { λ r. ⌜ r ≡ when seen 7 ⌝ }
-{
-    if seen {
-        return 7;
-    }
-    0
+// The walk behind a statement, or the statement's refusal.
+enum Step {
+    Next(Walk),
+    Refused(Refusal),
 }
 
-// 8 at `.end` before any `.model`.
-fn end_refusal(seen: bool) -> u32
-    ensures { λ r. ⌜ r ≡ when (not seen) 8 ⌝ }
+// The walk goes on where nothing is refused.
+fn step_of(checked: Checked, next: Walk) -> Step
+    ensures { λ r. ⌜ r ≡ stepOf checked next ⌝ }
 {
-    if seen {
-        return 0;
+    match checked {
+        Checked::Fine => Step::Next(next),
+        Checked::Refused(r) => Step::Refused(r),
     }
-    8
 }
 
-// Enters the names from first to end as inputs; 10 where one is defined twice.
+// Enters the names from first to end as inputs, unless one is defined twice.
 fn enter_inputs(
     text: &[u8],
     tokens: &[u32],
@@ -72,7 +75,7 @@ fn enter_inputs(
     index: &mut [u32],
     inputs: usize,
     gates: usize,
-) -> u32
+) -> Checked
     requires { ⌜ InputsFit (now text) (now tokens) first end (now index) inputs gates ⌝ }
     ensures { λ r. ⌜ InputsEntered (now (text .entry)) (now (tokens .entry)) first end (now (index .entry)) inputs gates (now (index .exit)) r ⌝ }
 {
@@ -81,12 +84,12 @@ fn enter_inputs(
     while j < end {
         let signal = Signal::from_input(i as u32);
         if !enter_name(text, index, i + gates, tokens[j], signal.a) {
-            return 10;
+            return Checked::Refused(Refusal::DefinedTwice);
         }
         j += 1;
         i += 1;
     }
-    0
+    Checked::Fine
 }
 
 // Copies the tokens from first to end behind the names of so many outputs.
@@ -103,7 +106,7 @@ fn copy_outputs(tokens: &[u32], first: usize, end: usize, out_names: &mut [u32],
     }
 }
 
-// Defines a gate by the name at a cell, and places its block; 10 where the name is defined twice.
+// Defines a gate by the name at a cell, and places its block, unless the name is defined twice.
 fn define_gate(
     text: &[u8],
     index: &mut [u32],
@@ -112,19 +115,19 @@ fn define_gate(
     gates: usize,
     cell: u32,
     block: Block,
-) -> u32
+) -> Checked
     requires { ⌜ GateFits (now text) (now index) inputs gates cell block (now blocks) ⌝ }
     ensures { λ r. ⌜ GateDefined (now (text .entry)) (now (index .entry)) inputs gates (tokenOf (now (text .entry)) cell) block (now (blocks .entry)) (now (index .exit)) (now (blocks .exit)) r ⌝ }
 {
     let signal = Signal::from_var(gates as u32);
     if !enter_name(text, index, inputs + gates, cell, signal.a) {
-        return 10;
+        return Checked::Refused(Refusal::DefinedTwice);
     }
     put_block(blocks, gates, block);
-    0
+    Checked::Fine
 }
 
-// Defines a cover's gate by its last name; 9 where it has no name, 10 where the name is defined twice.
+// Defines a cover's gate by its last name, unless it has none or the name is defined twice.
 fn define_last(
     text: &[u8],
     tokens: &[u32],
@@ -133,12 +136,12 @@ fn define_last(
     inputs: usize,
     gates: usize,
     block: Block,
-) -> u32
+) -> Checked
     requires { ⌜ CoverFits (now text) (now tokens) (now index) inputs gates (block .first) (block .names) (now blocks) × (block .lines ≤ maxTokens) ⌝ }
     ensures { λ r. ⌜ CoverDefined (now (text .entry)) (now (tokens .entry)) (now (index .entry)) inputs gates block (now (blocks .entry)) (now (index .exit)) (now (blocks .exit)) r ⌝ }
 {
     if block.names == 0 {
-        return 9;
+        return Checked::Refused(Refusal::NamesEmpty);
     }
     let last = block.first + block.names - 1;
     define_gate(text, index, blocks, inputs, gates, tokens[last], block)
@@ -152,7 +155,7 @@ fn define_latch(
     blocks: &mut [u32],
     w: Walk,
     end: usize,
-) -> Walk
+) -> Step
     requires { ⌜ LatchFits (now text) (now tokens) (now index) (now blocks) w ⌝ }
     ensures { λ r. ⌜ LatchStep (now (text .entry)) (now (tokens .entry)) (now (index .entry)) (now (blocks .entry)) (now (index .exit)) (now (blocks .exit)) w end r ⌝ }
 {
@@ -165,9 +168,9 @@ fn define_latch(
     let name = tokens[at + 2];
     let mut next = w;
     next.at = end;
-    next.refused = define_gate(text, index, blocks, w.inputs, w.gates, name, block);
     next.gates += 1;
-    next
+    let checked = define_gate(text, index, blocks, w.inputs, w.gates, name, block);
+    step_of(checked, next)
 }
 
 // Passes the `.names` from the walk's place to end, and its cube lines: its last name defines a gate.
@@ -179,7 +182,7 @@ fn define_cover(
     blocks: &mut [u32],
     w: Walk,
     end: usize,
-) -> Walk
+) -> Step
     requires { ⌜ CoverFits (now text) (now tokens) (now index) (w .inputs) (w .gates) (w .at + 1) (end - w .at - 1) (now blocks) ⌝ }
     requires { ⌜ StmtsAt (now text) (now tokens) n end × (n ≤ maxTokens) × (w .at < end) ⌝ }
     ensures { λ r. ⌜ CoverStep (now (text .entry)) (now (tokens .entry)) n (now (index .entry)) (now (blocks .entry)) (now (index .exit)) (now (blocks .exit)) w end r ⌝ }
@@ -193,9 +196,9 @@ fn define_cover(
     };
     let mut next = w;
     next.at = lines.end;
-    next.refused = define_last(text, tokens, index, blocks, w.inputs, w.gates, block);
     next.gates += 1;
-    next
+    let checked = define_last(text, tokens, index, blocks, w.inputs, w.gates, block);
+    step_of(checked, next)
 }
 
 // Passes a statement, and a cover's lines: enters the names that it defines, or copies those of outputs.
@@ -207,7 +210,7 @@ fn define_row(
     out_names: &mut [u32],
     blocks: &mut [u32],
     w: Walk,
-) -> Walk
+) -> Step
     requires { ⌜ Going (now text) (now tokens) n (now index) (now «out_names») (now blocks) w × (w .at < n) ⌝ }
     ensures { λ r. ⌜ Steps (now (text .entry)) (now (tokens .entry)) n (now (index .exit)) (now («out_names» .exit)) (now (blocks .exit)) w r ⌝ }
 {
@@ -218,25 +221,29 @@ fn define_row(
     next.at = end;
     match statement {
         Statement::Model => {
-            next.refused = model_refusal(w.seen);
             next.seen = true;
+            step_of(when(w.seen, Refusal::SecondModel), next)
         }
-        Statement::End => next.refused = end_refusal(w.seen),
+        Statement::End => step_of(when(!w.seen, Refusal::EndBeforeModel), next),
         Statement::Inputs(_) => {
-            next.refused = enter_inputs(text, tokens, w.at + 1, end, index, w.inputs, w.gates);
             next.inputs += end - w.at - 1;
+            let checked = enter_inputs(text, tokens, w.at + 1, end, index, w.inputs, w.gates);
+            step_of(checked, next)
         }
         Statement::Outputs(_) => {
-            copy_outputs(tokens, w.at + 1, end, out_names, w.outputs);
             next.outputs += end - w.at - 1;
+            copy_outputs(tokens, w.at + 1, end, out_names, w.outputs);
+            Step::Next(next)
         }
-        Statement::Latch(_) => next = define_latch(text, tokens, index, blocks, w, end),
-        Statement::Names(_) => next = define_cover(text, tokens, n, index, blocks, w, end),
-        Statement::Exdc => next.at = n,
-        Statement::Cube(_) => {}
-        Statement::Refused(_) => {}
+        Statement::Latch(_) => define_latch(text, tokens, index, blocks, w, end),
+        Statement::Names(_) => define_cover(text, tokens, n, index, blocks, w, end),
+        Statement::Exdc => {
+            next.at = n;
+            Step::Next(next)
+        }
+        Statement::Cube(_) => Step::Next(next),
+        Statement::Refused(_) => Step::Next(next),
     }
-    next
 }
 
 // Enters every name that is defined into the index, and places the outputs' names and the blocks.
@@ -255,27 +262,21 @@ pub fn build_name_to_sig(
 {
     let mut w = Walk {
         at: 0,
-        refused: 0,
         seen: false,
         inputs: 0,
         gates: 0,
         outputs: 0,
     };
     while w.at < n {
-        w = define_row(text, tokens, n, index, out_names, blocks, w);
-        if w.refused != 0 {
-            return Defined {
-                refused: w.refused,
-                inputs: 0,
-                gates: 0,
-                outputs: 0,
-            };
+        let step = define_row(text, tokens, n, index, out_names, blocks, w);
+        match step {
+            Step::Next(next) => w = next,
+            Step::Refused(r) => return Defined::Refused(r),
         }
     }
-    Defined {
-        refused: 0,
+    Defined::Names(Declared {
         inputs: w.inputs,
         gates: w.gates,
         outputs: w.outputs,
-    }
+    })
 }

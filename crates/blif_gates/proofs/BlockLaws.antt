@@ -1,5 +1,5 @@
 -- The gates of one block: a latch, or a cover by its places. Assumes nothing.
-use mathlib.Core.Path.{_≡_, refl, sym, ap, _∙_, subst}
+use mathlib.Core.Path.{_≡_, sym, ap, _∙_, subst}
 use mathlib.Core.Bool.{true, not}
 use mathlib.Core.List.{List}
 use Prim.Native.Nat.{ℕ, zero, suc, _+_, _-_, _≤_, _<_}
@@ -15,7 +15,9 @@ use Rattle.blif_text.specs.Walk.{rowsFrom}
 use Rattle.blif_text.specs.Blocks.{firstName, nameCount, lineCount, defFrom, defAt, BlockIn, Blocks}
 use Rattle.blif_text.proofs.BlockLaws.{cover-from}
 use Rattle.blif_model.specs.Read.{goodLine, added, coverFault}
-use Rattle.blif_model.proofs.Passed.{then-left, when-no}
+use Rattle.refusals.specs.declared.Refusal.the-variants as refusal
+use Rattle.refusals.specs.declared.Checked.the-variants.{Fine}
+use Rattle.refusals.proofs.Order.{then-left, fine-when}
 use Rattle.blif_gates.specs.Steps.{GoodRows, CoverRoom, CoverBuilt, BlockRoom, BlockBuilt}
 use Rattle.blif_gates.proofs.GateLaws.{kept-none}
 
@@ -35,7 +37,7 @@ latch-stays text tokens n first zero lines e =
     record {
       kept = kept-none;
       counted = omega arith;
-      few = omega arith;
+      end = omega arith;
       main = λ look g. g;
       more = λ look g i y q. absurd (let z : _≡_ {A = ℕ} 0 1 = cc in omega arith);
     }
@@ -47,9 +49,9 @@ latch-built text tokens n blocks {first} {names} {lines} {j} {next} {at} {gates}
     subst (λ (d : Def). BlockBuilt d j next at gates pinsIn gates pinsIn next at) (sym (def-is text tokens n blocks j first names lines e)) (latch-stays text tokens n first names lines z)
 
 -- no refusal 12
-cover-good : (ns : List Bytes) (ls : List (List Bytes)) → coverFault (cover ns ls) ≡ 0 → all (goodLine (length ns - 1)) ls ≡ true
+pub cover-good : (ns : List Bytes) (ls : List (List Bytes)) → coverFault (cover ns ls) ≡ Fine → all (goodLine (length ns - 1)) ls ≡ true
 unfolding coverFault
-cover-good ns ls e = not-false (all (goodLine (length ns - 1)) ls) (when-no (not (all (goodLine (length ns - 1)) ls)) 11 (then-left _ _ e))
+cover-good ns ls e = not-false (all (goodLine (length ns - 1)) ls) (fine-when (not (all (goodLine (length ns - 1)) ls)) refusal.WrongCubeLine (then-left _ _ e))
 
 module _ {text tokens : List ℕ} {n : ℕ} {blocks : List ℕ} {g j first names lines next at : ℕ} {gates pinsIn : List ℕ} (some-names : names ≡ 0 → ⊥) (low : j < g)
     (bs : Blocks text tokens n blocks g) (e : Cells blocks j first names lines) (room : BlockRoom (defAt text tokens n blocks j) j next at gates pinsIn) where
@@ -103,7 +105,7 @@ module _ {text tokens : List ℕ} {n : ℕ} {blocks : List ℕ} {g j first names
       (record {
         kept = c .kept;
         counted = ap (λ (k : ℕ). next + k) (a ∙ ap added (sym lines-are));
-        few = rw (here .counted) at (c .few);
+        end = c .end;
         main = λ look g. c .main _ g;
         more = λ look g i y q. c .more _ g i y q;
       })

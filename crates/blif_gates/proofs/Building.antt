@@ -18,9 +18,10 @@ use Rattle.blif_model.specs.Model.{blockOf}
 use Rattle.blif_model.specs.Working.{GateIn, GatesIn, placed}
 use Rattle.blif_model.proofs.Reading.{mains-length}
 use Rattle.blif_gates.specs.declared.Built.{Built}
+use Rattle.blif_gates.specs.Pins.{builtPins}
 use Rattle.blif_gates.specs.Covers.{Buildable, BuiltBy}
 use Rattle.blif_gates.specs.Steps.{addedOf, addedPins, BlockRoom, BlockBuilt}
-use Rattle.blif_gates.proofs.Counting.{placed-long, mains-append, extras-append, extras-long, take-next, sum-next, sum-part, pins-split, gates-split, no-fault}
+use Rattle.blif_gates.proofs.Counting.{placed-long, mains-append, extras-append, extras-long, take-next, sum-next, sum-part, pins-split, gates-split, no-fault, built-few}
 use Rattle.blif_gates.proofs.LinesLaws.{append-place, one-place}
 
 -- the gates of the first j definitions are built, the others stand as they were placed first
@@ -35,7 +36,7 @@ pub record Building (ds : List Def) (gates₀ pins₀ : List ℕ) (used g j next
   pub same-gates : length gates ≡ length gates₀
   pub same-pins : length pinsIn ≡ length pins₀
   pub counted : next ≡ g + sumOf addedOf (take j ds)
-  pub few : at ≤ used + sumOf addedPins (take j ds)
+  pub end : at ≡ used + sumOf builtPins (take j ds)
   pub stands : (look : Bytes → Signal) → GatesIn gates₀ pins₀ used (map (placed look) ds) → Standing look ds g j at gates pinsIn
 
 pub building-start : {ds : List Def} {gates pinsIn : List ℕ} {used g : ℕ} → Building ds gates pinsIn used g 0 g used gates pinsIn
@@ -45,7 +46,7 @@ building-start {ds} {gates} {pinsIn} {used} {g} =
       same-gates = refl;
       same-pins = refl;
       counted = omega arith;
-      few = omega arith;
+      end = omega arith;
       stands = λ look first.
           record {
             mainsIn = λ h x e. absurd (let z : _≡_ {A = ℕ} 0 1 = cc in omega arith);
@@ -71,7 +72,7 @@ module _ {ds : List Def} {gates₀ pins₀ : List ℕ} {used g j next at : ℕ} 
         good = no-fault ds j d (b .good) this;
         counted = a .count ∙ long;
         sources = omega (arith, a .within, long);
-        fits = omega (arith, w .few, sum-next addedPins ds j d this, sum-part addedPins (j + 1) ds, b .start, pins-split ds, b .fewPins);
+        fits = omega (arith, w .end, built-few j ds (b .good), sum-next addedPins ds j d this, sum-part addedPins (j + 1) ds, b .start, pins-split ds, b .fewPins);
         before = omega (arith, low, w .counted);
         low = omega (arith, w .counted, sum-next addedOf ds j d this, sum-part addedOf (j + 1) ds, gates-split ds, size, b .fewGates);
       }
@@ -135,7 +136,7 @@ module _ {ds : List Def} {gates₀ pins₀ : List ℕ} {used g j next at : ℕ} 
           same-gates = sg ∙ w .same-gates;
           same-pins = sp ∙ w .same-pins;
           counted = omega (arith, p .counted, w .counted, sum-next addedOf ds j d this);
-          few = omega (arith, p .few, w .few, sum-next addedPins ds j d this);
+          end = omega (arith, p .end, w .end, sum-next builtPins ds j d this);
           stands = λ look first.
               let s = w .stands look first in
               record { mainsIn = next-mains look s; placedIn = next-placed look s; extrasIn = next-extras look s };
@@ -148,7 +149,8 @@ pub building-done : {ds : List Def} {gates₀ pins₀ : List ℕ} {used g j : �
 building-done {ds} {gates₀} {pins₀} {used} {g} {j} {gates} {pinsIn} r size b w h =
     let t : take j ds ≡ ds = take-all j ds (omega arith) in
     let next : r .gates ≡ g + sumOf addedOf ds = rw t at (w .counted) in
-    let at : r .pins ≤ used + sumOf addedPins ds = rw t at (w .few) in
+    let end : r .pins ≡ used + sumOf builtPins ds = rw t at (w .end) in
+    let few : sumOf builtPins ds ≤ sumOf addedPins ds = rw t at (built-few j ds (b .good)) in
     let main-count : (look : Bytes → Signal) → length (mains look (length (map blockOf ds)) (map blockOf ds)) ≡ length ds =
     λ look. mains-length look (length (map blockOf ds)) (map blockOf ds) ∙ length-map ds blockOf in
     record {
@@ -156,8 +158,9 @@ building-done {ds} {gates₀} {pins₀} {used} {g} {j} {gates} {pinsIn} r size b
           next
           ∙ ap₂ (λ (a c : ℕ). a + c) (sym (main-count look ∙ size)) (sym (extras-long look ds))
           ∙ sym (length-append (mains look (length (map blockOf ds)) (map blockOf ds)) (extras look (map blockOf ds)));
+      pins = end;
       fewGates = omega (arith, next, gates-split ds, size, b .fewGates);
-      fewPins = omega (arith, at, pins-split ds, b .start, b .fewPins);
+      fewPins = omega (arith, end, few, pins-split ds, b .start, b .fewPins);
       gates-in = λ look first k x e.
           let s = w .stands look first in
           ⊎-elim

@@ -21,9 +21,13 @@ use Rattle.blif_model.specs.Build.{lineGate, lineGates, blockGate, moreGates, m
 use Rattle.blif_model.specs.Read.{gateCount, pinCount, added, coverFault, coverFaults}
 use Rattle.blif_model.specs.Model.{lineOf, blockOf}
 use Rattle.blif_model.specs.Working.{placed, placedCount}
-use Rattle.blif_model.proofs.Passed.{then-left, then-right}
+use Rattle.refusals.specs.declared.Checked.the-variants.{Fine}
+use Rattle.refusals.proofs.Order.{then-left, then-right}
+use Rattle.blif_gates.specs.Pins.{builtPins}
 use Rattle.blif_gates.specs.Steps.{addedOf, addedPins}
+use Rattle.blif_gates.proofs.PinLaws.{cover-few}
 use Rattle.blif_gates.proofs.CoverLaws.{added-many}
+use Rattle.blif_gates.proofs.BlockLaws.{cover-good}
 
 -- the pins of the gate placed first
 pub placed-long : (look : Bytes → Signal) (d : Def) → length (pins (placed look d)) ≡ placedCount d
@@ -67,11 +71,26 @@ gates-split [] = refl
 gates-split (d ∷ ds) = omega (arith, gates-one d, gates-split ds)
 
 -- no definition has a fault
-pub no-fault : (ds : List Def) (j : ℕ) (d : Def) → coverFaults ds ≡ 0 → getElem? ds j ≡ some d → coverFault d ≡ 0
+pub no-fault : (ds : List Def) (j : ℕ) (d : Def) → coverFaults ds ≡ Fine → getElem? ds j ≡ some d → coverFault d ≡ Fine
 unfolding coverFaults
 no-fault [] j d f e = absurd (let z : _≡_ {A = ℕ} 0 1 = cc in omega arith)
 no-fault (x ∷ ds) zero d f e = let s : x ≡ d = cc in ap coverFault (sym s) ∙ then-left (coverFault x) (coverFaults ds) f
 no-fault (x ∷ ds) (suc j) d f e = no-fault ds j d (then-right (coverFault x) (coverFaults ds) f) e
+
+-- ---- pins
+
+added-few : (d : Def) → coverFault d ≡ Fine → builtPins d ≤ addedPins d
+added-few (latch d q) e = omega arith
+added-few (cover ns ls) e = cover-few (length ns - 1) ls (cover-good ns ls e)
+
+-- the first j definitions add no more pins than they may
+pub built-few : (j : ℕ) (ds : List Def) → coverFaults ds ≡ Fine → sumOf builtPins (take j ds) ≤ sumOf addedPins (take j ds)
+unfolding coverFaults
+built-few zero ds e = omega arith
+built-few (suc j) [] e = omega arith
+built-few (suc j) (d ∷ ds) e =
+    omega
+    (arith, added-few d (then-left (coverFault d) (coverFaults ds) e), built-few j ds (then-right (coverFault d) (coverFaults ds) e))
 
 -- ---- gates
 

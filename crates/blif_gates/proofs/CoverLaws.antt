@@ -2,9 +2,8 @@
 use mathlib.Core.Path.{_≡_, refl, sym, ap, ap₂, _∙_, subst}
 use mathlib.Core.Bool.{Bool, true, false, cond}
 use mathlib.Core.List.{List, [], _∷_, map}
-use Prim.Native.Nat.{ℕ, zero, suc, _+_, _-_, _*_, _≤_, _<_}
+use Prim.Native.Nat.{ℕ, suc, _+_, _-_, _*_, _≤_, _<_}
 use native.Mathlib.Omega.{arith}
-use native.Mathlib.Nat.{mul-suc}
 use lib.ListN.{length, getD, getElem?, take, drop, set, length-map}
 use lib.Seq.{drop-cons, length-take-le}
 use borrow.Author.Tests.{lt-ltb}
@@ -29,7 +28,8 @@ use Rattle.blif_gates.specs.Steps.{joinForm, LineRoom, LinePut, rowToken
 use Rattle.blif_gates.proofs.CellLaws.{run-front}
 use Rattle.blif_gates.proofs.JoinLaws.{joinCells, run-long}
 use Rattle.blif_gates.proofs.RowLaws.{row-wide}
-use Rattle.blif_gates.proofs.GateLaws.{three, gate-put, kept-put, kept-then, kept-some, room-wide, line-kept, line-end, line-gate}
+use Rattle.blif_gates.proofs.GateLaws.{three, gate-put, kept-put, kept-then, kept-some, room-wide, line-kept, line-gate}
+use Rattle.blif_gates.proofs.PinLaws.{line-pins, join-pins, many-lines}
 
 -- ---- the first row of a cover's lines
 
@@ -87,10 +87,6 @@ join-lines ss (l ∷ m ∷ ls) h = refl
 join-form : (b : Bool) (ps : List Signal) → joinForm b ≡ formCell (Comb (cond b OrN AndN) ps)
 join-form true ps = refl
 join-form false ps = refl
-
--- room for so many lines and their joins
-join-pins : (k m : ℕ) → k * (m + 2) ≡ k * (m + 1) + k
-join-pins k m = let e : m + 2 ≡ suc (m + 1) = omega arith in ap (λ (x : ℕ). k * x) e ∙ mul-suc k (m + 1)
 
 module _ {text tokens : List ℕ} {n row count j next at : ℕ} {gates pinsIn : List ℕ} (big : 1 < count)
     (g : GoodRows text tokens n row count (countAt gates j)) (room : CoverRoom count j next at gates pinsIn) where
@@ -154,9 +150,7 @@ module _ {text tokens : List ℕ} {n row count j next at : ℕ} {gates pinsIn : 
       joined-built =
           record {
             kept = kept-then (kept-some (λ h k. k .0) joins-kept) (kept-some (λ h k. k .1) (p .kept));
-            few =
-                let k : inputs + 1 ≡ countAt gates j + 1 = omega arith in
-                rw (lines-long g) (omega (arith, rw (lines-long g, k) at (p .few), join-pins count (countAt gates j)));
+            end = omega (arith, p .end, lines-long g, many-lines lines (omega (arith, lines-long g)));
             main = λ ss a. joining ss;
             more = λ ss a i y q.
                 p .each ss (sources ss a) i y
@@ -176,7 +170,7 @@ none-built rows {count} {j} {next} {at} {x} {gates} {pinsIn} {gates′} room z e
     rw (t, ep, eg)
     (record {
       kept = kept-some (λ h k. k .0) (kept-put gates pinsIn (0 ∷ []) at (at + 1) j (formNumber Buf) at 1 (omega arith));
-      few = omega arith;
+      end = omega arith;
       main = λ ss a. gate-put gates pinsIn at (Comb Buf (zeroS ∷ [])) refl refl refl refl refl refl there fit;
       more = λ ss a i y q. absurd (let z : _≡_ {A = ℕ} 0 1 = cc in omega arith);
     })
@@ -217,7 +211,7 @@ module _ {text tokens : List ℕ} {n row count j next at : ℕ} {gates pinsIn : 
           rw lines-one
           (record {
             kept = kept-some (λ h k. k .0) (line-kept p);
-            few = omega (arith, line-end p, wide, ei);
+            end = line-pins ts (omega (arith, wide, one-room .sources, one-room .fits, room .room .pinRoom)) p;
             main = λ ss a.
                 line-gate p (room-wide (sym wide) one-room) ss
                 (ap₂ (λ (k b : ℕ). take k (drop b pinsIn)) (wide ∙ ei) es ∙ a .run);

@@ -130,7 +130,7 @@ module _ {columns : Bytes} {one : Bool} {source at h : ℕ} {gates pinsIn gates�
       )
 
   -- no more pins than columns, or one
-  pub line-end : r ≤ at + length columns + 1
+  line-end : r ≤ at + length columns + 1
   line-end =
       let sources = take (length columns) (drop source pinsIn) in
       omega (arith, p .end, literals-few columns sources, line-few one (literalCells columns sources))

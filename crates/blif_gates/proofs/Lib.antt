@@ -3,8 +3,10 @@ pub mod LiteralLaws
 pub mod JoinLaws
 pub mod RowLaws
 pub mod GateLaws
+pub mod PinLaws
 pub mod LinesLaws
 pub mod CoverLaws
 pub mod BlockLaws
 pub mod Counting
+pub mod BuiltPins
 pub mod Building

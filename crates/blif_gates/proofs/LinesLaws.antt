@@ -7,9 +7,10 @@ use Prim.Native.Nat.{ℕ, zero, suc, _+_, _*_, _≤_, _<_}
 use native.Mathlib.Omega.{arith}
 use native.Mathlib.Numerals.{add-one}
 use native.Mathlib.Nat.{zero-add, add-mul, mul-le-mul-right}
-use lib.ListN.{length, getD, getElem?, take, drop, length-append, length-map}
-use lib.Seq.{take-suc, drop-cons, length-take-le}
-use Rattle.lists.specs.Lists.{Bytes}
+use lib.ListN.{length, getD, getElem?, take, drop, length-map}
+use lib.Seq.{take-suc, take-take, drop-cons, length-take-le}
+use Rattle.lists.specs.Lists.{Bytes, sumOf}
+use Rattle.lists.proofs.Counting.{sum-append}
 use Rattle.lists.proofs.Places.{place-lt, place-mem, place-getD, take-place}
 use Rattle.lists.proofs.Range.{all-mem}
 use Rattle.signal.specs.Signal.{Signal}
@@ -23,10 +24,12 @@ use Rattle.blif_model.specs.Build.{lineGate}
 use Rattle.blif_model.specs.Read.{goodLine}
 use Rattle.blif_model.specs.Model.{lineOf}
 use Rattle.blif_model.specs.Working.{GateIn}
+use Rattle.blif_gates.specs.Pins.{linePins}
 use Rattle.blif_gates.specs.Steps.{LineRoom, LinePut, rowTokens, GoodRow, GoodRows, LinesRoom, LinesPut}
 use Rattle.blif_gates.proofs.CellLaws.{run-front}
 use Rattle.blif_gates.proofs.RowLaws.{row-wide}
-use Rattle.blif_gates.proofs.GateLaws.{kept-none, kept-then, kept-some, room-wide, line-kept, line-same, line-end, line-gate}
+use Rattle.blif_gates.proofs.GateLaws.{kept-none, kept-then, kept-some, room-wide, line-kept, line-same, line-gate}
+use Rattle.blif_gates.proofs.PinLaws.{line-pins, lines-few}
 
 -- a place of two lists is one of the first, or of the second
 pub append-place : {A : Type 0} (l m : List A) (i : ℕ) (y : A) → getElem? (l ++ m) i ≡ some y
@@ -42,7 +45,7 @@ one-place x (suc k) y e = absurd (let z : _≡_ {A = ℕ} 0 1 = cc in omega arit
 
 -- no line yet
 pub lines-none : {inputs source at next : ℕ} {gates pinsIn : List ℕ} → LinesPut [] inputs source at next gates pinsIn gates pinsIn at
-lines-none = record { kept = kept-none; few = omega arith; each = λ ss e i y q. absurd (let z : _≡_ {A = ℕ} 0 1 = cc in omega arith) }
+lines-none = record { kept = kept-none; end = omega arith; each = λ ss e i y q. absurd (let z : _≡_ {A = ℕ} 0 1 = cc in omega arith) }
 
 -- one line more
 module _ {ls : List (List Bytes)} {inputs source start next at r : ℕ} {gates₀ pins₀ gates pinsIn gates′ pinsIn′ : List ℕ} (x : List Bytes) (before : source + inputs ≤ start)
@@ -58,10 +61,9 @@ module _ {ls : List (List Bytes)} {inputs source start next at r : ℕ} {gates�
   lines-more =
       record {
         kept = kept-then (w .kept) (kept-some (λ h l z. omega arith) (line-kept p));
-        few =
-            let n : length (ls ++ (x ∷ [])) ≡ length ls + 1 = length-append ls (x ∷ []) in
-            let m : (length ls + 1) * (inputs + 1) ≡ length ls * (inputs + 1) + 1 * (inputs + 1) = add-mul (length ls) 1 (inputs + 1) in
-            rw n (omega (arith, m, w .few, line-end p, wide));
+        end =
+            let fit : source + length (columns x) ≤ length pinsIn = omega (arith, room .sources, room .fits, room .room .pinRoom) in
+            omega (arith, w .end, line-pins x fit p, sum-append linePins ls (x ∷ []));
         each = λ ss e i y q.
             let s : map (lineGate ss) (map lineOf (ls ++ (x ∷ []))) ≡ map (lineGate ss) (map lineOf ls) ++ (lineGate ss (lineOf x) ∷ []) =
             ap (map (lineGate ss)) (map-append lineOf ls (x ∷ [])) ∙ map-append (lineGate ss) (map lineOf ls) (lineOf x ∷ []) in
@@ -116,11 +118,11 @@ module _ {text tokens : List ℕ} {n first count inputs : ℕ} {gates₀ : List 
     pub putting-room : LineRoom inputs source at (next + i) gates pinsIn
     putting-room =
         let m : (i + 1) * (inputs + 1) ≤ count * (inputs + 1) = mul-le-mul-right (inputs + 1) (omega arith) in
-        let f : at ≤ start + i * (inputs + 1) = rw done at (w .put .few) in
+        let few : sumOf linePins (take i all-rows) ≤ i * (inputs + 1) = rw (take-take i count all-rows (w .within)) at (lines-few inputs i (take count all-rows) (g .good)) in
         record {
           room = record { gateRoom = omega (arith, room .room .gateRoom, w .same-gates); pinRoom = omega (arith, room .room .pinRoom, w .same-pins) };
           sources = omega (arith, room .sources, w .put .kept .low);
-          fits = omega (arith, m, add-mul i 1 (inputs + 1), f, room .fits);
+          fits = omega (arith, m, add-mul i 1 (inputs + 1), w .put .end, few, room .fits);
           low = omega (arith, room .low);
         }
 

@@ -1,2 +1,3 @@
+pub mod Pins
 pub mod Covers
 pub mod Steps

@@ -8,7 +8,8 @@ use Prim.Native.Nat.{ℕ, zero, suc, _+_, _-_, _*_, _%_, _≤_, _<_}
 use lib.Dec.{eqb}
 use lib.ListN.{length, getElem?, take, drop}
 use lib.Seq.{slice}
-use Rattle.lists.specs.Lists.{Bytes, all, overAt}
+use Rattle.lists.specs.Lists.{Bytes, all, sumOf, overAt}
+use Rattle.refusals.specs.declared.Checked.the-variants.{Fine}
 use Rattle.signal.specs.Signal.{Signal}
 use Rattle.signal.specs.Cell.{bitOf, sigCell}
 use Rattle.gates.specs.Gate.{AndN, OrN, NandN, Buf, Gate, Comb}
@@ -21,6 +22,7 @@ use Rattle.blif_model.specs.Build.{lineGate, coverGate, lineGates, blockGate, m
 use Rattle.blif_model.specs.Read.{goodLine, added, coverFault}
 use Rattle.blif_model.specs.Model.{lineOf, blockOf}
 use Rattle.blif_model.specs.Working.{GateIn, placed, placedCount, WorkRoom}
+use Rattle.blif_gates.specs.Pins.{linePins, coverPins, builtPins}
 
 -- ---- cells of literals
 
@@ -140,8 +142,8 @@ pub record LinesRoom (inputs count source at next : ℕ) (gates pinsIn : List �
 pub record LinesPut (ls : List (List Bytes)) (inputs source at next : ℕ) (gates pinsIn gates′ pinsIn′ : List ℕ) (at′ : ℕ) : Type 0 where
   -- the gates before stay
   pub kept : GatesKept (λ h. h < next) gates pinsIn at gates′ pinsIn′ at′
-  -- not too many pins
-  pub few : at′ ≤ at + length ls * (inputs + 1)
+  -- the pins' end
+  pub end : at′ ≡ at + sumOf linePins ls
   -- each line has its gate
   pub each : (ss : List Signal) → take inputs (drop source pinsIn) ≡ map sigCell ss → (i : ℕ) (y : Gate)
       → getElem? (map (lineGate ss) (map lineOf ls)) i ≡ some y → GateIn gates′ pinsIn′ at′ (next + i) y
@@ -165,8 +167,8 @@ pub record CoverRoom (count j next at : ℕ) (gates pinsIn : List ℕ) : Type 0 
 pub record CoverBuilt (ls : List (List Bytes)) (j next at : ℕ) (gates pinsIn gates′ pinsIn′ : List ℕ) (at′ : ℕ) : Type 0 where
   -- the other gates stay
   pub kept : GatesKept (λ h. (h ≡ j → ⊥) × (h < next)) gates pinsIn at gates′ pinsIn′ at′
-  -- not too many pins
-  pub few : at′ ≤ at + (length ls * (countAt gates j + 2) + 2)
+  -- the pins' end
+  pub end : at′ ≡ at + coverPins ls
   -- the cover's gate
   pub main : (ss : List Signal) → GateIn gates pinsIn at j (Comb AndN ss) → GateIn gates′ pinsIn′ at′ j (coverGate next ss (map lineOf ls))
   -- the lines' gates
@@ -188,7 +190,7 @@ pub record BlockRoom (d : Def) (j next at : ℕ) (gates pinsIn : List ℕ) : Typ
   -- the working cells
   pub room : WorkRoom gates pinsIn
   -- good lines
-  pub good : coverFault d ≡ 0
+  pub good : coverFault d ≡ Fine
   -- its pin count
   pub counted : countAt gates j ≡ placedCount d
   -- its pins are in use
@@ -206,8 +208,8 @@ pub record BlockBuilt (d : Def) (j next at : ℕ) (gates pinsIn gates′ pinsIn�
   pub kept : GatesKept (λ h. (h ≡ j → ⊥) × (h < next)) gates pinsIn at gates′ pinsIn′ at′
   -- the gates are counted
   pub counted : next′ ≡ next + addedOf d
-  -- not too many pins
-  pub few : at′ ≤ at + addedPins d
+  -- the pins' end
+  pub end : at′ ≡ at + builtPins d
   -- its gate
   pub main : (look : Bytes → Signal) → GateIn gates pinsIn at j (placed look d) → GateIn gates′ pinsIn′ at′ j (blockGate look next (blockOf d))
   -- its lines' gates

@@ -4,11 +4,16 @@ use mathlib.Core.Bool.{Bool}
 use mathlib.Core.List.{List, Memᴰ·of-map}
 use mathlib.Core.Option.{Option, none, some}
 use mathlib.Core.Logic.{_↔_}
-use Prim.Native.Nat.{ℕ, zero, suc}
+use Prim.Native.Nat.{ℕ}
 use native.Mathlib.Omega.{arith}
 use lib.Dec.{leb, ltb}
 use lib.ListN.{length}
 use Rattle.lists.specs.Lists.{Bytes, any}
+use Rattle.refusals.specs.Order.{_then_, when}
+use Rattle.refusals.specs.declared.Refusal.the-variants as refusal
+use Rattle.refusals.specs.declared.Checked.{Checked}
+use Rattle.refusals.specs.declared.Checked.the-variants.{Fine, Refused}
+use Rattle.refusals.proofs.Order.{then-right}
 use Rattle.network.specs.Net.{Net}
 use Rattle.network.specs.Settle.{run}
 use Rattle.sort_order.specs.Sorted.{sorted}
@@ -19,10 +24,10 @@ use Rattle.blif_model.specs.Blif.{BlifRuns}
 use Rattle.blif_model.specs.Build.{build, GoodBlock}
 use Rattle.blif_model.specs.Lookup.{byte-names}
 use Rattle.blif_model.specs.Model.{blockOf, modelOf, modelOfText}
-use Rattle.blif_model.specs.Read.{_then_, when, declFault, readFault, read, answer, look, builtFrom, readText}
+use Rattle.blif_model.specs.Read.{declFault, readFault, read, answer, look, builtFrom, readText}
 use Rattle.blif_model.specs.Demand.{Accepts}
 use Rattle.blif_model.proofs.Meaning.{builtOf, sorted-means}
-use Rattle.blif_model.proofs.Passed.{then-right, Passed, passed, passed-valid, closed-of, once-of, good-of, goods-of}
+use Rattle.blif_model.proofs.Passed.{Passed, passed, passed-valid, closed-of, once-of, good-of, goods-of}
 
 -- ---- what is accepted and sorted
 
@@ -33,19 +38,19 @@ pub record Reads (text : Bytes) (new : Net) : Type 0 where
 
 -- ---- what is read
 
-read-zero : (f : ℕ) (o : Option Net) (new : Net) → answer f o ≡ read new → (f ≡ 0) × (o ≡ some new)
+read-fine : (f : Checked) (o : Option Net) (new : Net) → answer f o ≡ read new → (f ≡ Fine) × (o ≡ some new)
 unfolding answer
-read-zero zero none new e = absurd (let z : _≡_ {A = ℕ} 0 1 = cc in omega arith)
-read-zero zero (some n) new e = (refl, (let q : n ≡ new = cc in ap some q))
-read-zero (suc f) o new e = absurd (let z : _≡_ {A = ℕ} 0 1 = cc in omega arith)
+read-fine Fine none new e = absurd (let z : _≡_ {A = ℕ} 0 1 = cc in omega arith)
+read-fine Fine (some n) new e = (refl, (let q : n ≡ new = cc in ap some q))
+read-fine (Refused r) o new e = absurd (let z : _≡_ {A = ℕ} 0 1 = cc in omega arith)
 
 -- what is read passed every test, and is the sort of the gates as built
 pub passed-read : (s : Bytes) (new : Net) → readText s ≡ read new → Passed (declsOf s) × (sorted (builtFrom (declsOf s)) ≡ some new)
 unfolding readText readFault
 passed-read s new e =
-    let r : (readFault s ≡ 0) × (sorted (builtFrom (declsOf s)) ≡ some new) = read-zero (readFault s) (sorted (builtFrom (declsOf s))) new e in
-    let f₃ = then-right (when (ltb 32768 (length s)) 2) (when (any (leb 128) s) 3 then firstBad (parsed s) then declFault (declsOf s)) (r .0) in
-    let f₄ = then-right (when (any (leb 128) s) 3) (firstBad (parsed s) then declFault (declsOf s)) f₃ in
+    let r : (readFault s ≡ Fine) × (sorted (builtFrom (declsOf s)) ≡ some new) = read-fine (readFault s) (sorted (builtFrom (declsOf s))) new e in
+    let f₃ = then-right (when (ltb 32768 (length s)) refusal.TextTooLong) (when (any (leb 128) s) refusal.HighByte then firstBad (parsed s) then declFault (declsOf s)) (r .0) in
+    let f₄ = then-right (when (any (leb 128) s) refusal.HighByte) (firstBad (parsed s) then declFault (declsOf s)) f₃ in
     (passed (declsOf s) (then-right (firstBad (parsed s)) (declFault (declsOf s)) f₄), r .1)
 
 pub reads-of : (s : Bytes) (new : Net) → readText s ≡ read new → Reads s new

@@ -13,6 +13,7 @@ use Rattle.lists.proofs.Tests.{or-left, or-right}
 use Rattle.lists.proofs.Every.{every-place}
 use Rattle.lists.proofs.Places.{place-lt, lt-place, ext-place, map-map}
 use Rattle.lists.proofs.Range.{length-range, map-range}
+use Rattle.refusals.specs.declared.Checked.the-variants.{Fine}
 use Rattle.signal.specs.Signal.{Node, Signal}
 use Rattle.signal.specs.Cell.{sigCell, sigOf}
 use Rattle.signal.proofs.Cells.{Small}
@@ -60,7 +61,7 @@ pub gates-are : (ds : List Decl) → builtGates (look ds) (defs ds) ≡ builtFro
 unfolding builtFrom
 gates-are ds = refl
 
-module _ {ds : List Decl} {c : Counts} {gates pinsIn outsIn : List ℕ} {used : ℕ} (fault : declFault ds ≡ 0) (b : BuiltIn ds c gates pinsIn outsIn used) where
+module _ {ds : List Decl} {c : Counts} {gates pinsIn outsIn : List ℕ} {used : ℕ} (fault : declFault ds ≡ Fine) (b : BuiltIn ds c gates pinsIn outsIn used) where
   -- the gates in the cells
   abbrev built : List Gate
   built = builtGates (look ds) (defs ds)

@@ -26,5 +26,6 @@ pub mod BuiltNet
 pub mod Accepted
 pub mod ReadNet
 pub mod RoundTrip
+pub mod Refusals
 pub mod Summary
 pub mod WorkingLaws

@@ -12,6 +12,9 @@ use Rattle.lists.proofs.Places.{place-mem}
 use Rattle.lists.proofs.Range.{mem-all}
 use Rattle.lists.proofs.Known.{mem-known, out-unknown}
 use Rattle.lists.proofs.Once.{dup-left, dup-both}
+use Rattle.refusals.specs.Order.{_then_, when}
+use Rattle.refusals.specs.declared.Refusal.the-variants as refusal
+use Rattle.refusals.specs.declared.Checked.the-variants.{Fine}
 use Rattle.gates.specs.Gate.{FlipFlop, Dff}
 use Rattle.network.specs.Net.{Net, GateIs}
 use Rattle.signal.specs.Signal.{oneS, zeroS}
@@ -22,7 +25,7 @@ use Rattle.blif_model.specs.Lookup.{defined, byte-names}
 use Rattle.blif_model.specs.Write.{written}
 use Rattle.blif_model.specs.Names.{nameBytes}
 use Rattle.blif_model.specs.Render.{colByte, textOf}
-use Rattle.blif_model.specs.Read.{_then_, when, tooLarge, twice, naming, undefined, goodLine, coverFault, coverFaults, declFault, readFault}
+use Rattle.blif_model.specs.Read.{tooLarge, twice, naming, undefined, goodLine, coverFault, coverFaults, declFault, readFault}
 use Rattle.blif_model.specs.Demand.{Accepts}
 use Rattle.blif_model.proofs.BlocksSaid.{tok, tokOf, defOf, gateOf, last-at, cover-ins, cover-out, tok-columns, tok-one}
 use Rattle.blif_model.proofs.Rendered.{textDecls, text-ascii, text-sound, decls-of, ins-are, outs-are, defs-are}
@@ -43,12 +46,12 @@ not-twice earlier [] h = refl
 not-twice earlier (n ∷ ns) h = ap₂ (λ (a b : Bool). a || b) (met earlier n ns h) (not-twice (earlier ++ (n ∷ [])) ns (move earlier n ns h))
 
 name-one : (seen : Bool) (earlier : List Bytes) (xs : List Bytes) (y : Bytes) (ls : List (List Bytes)) (ds : List Decl)
-    → naming seen earlier (gate (cover (xs ++ (y ∷ [])) ls) ∷ ds) ≡ (when (known y earlier) 10 then naming seen (earlier ++ (y ∷ [])) ds)
+    → naming seen earlier (gate (cover (xs ++ (y ∷ [])) ls) ∷ ds) ≡ (when (known y earlier) refusal.DefinedTwice then naming seen (earlier ++ (y ∷ [])) ds)
 unfolding naming
-name-one seen earlier [] y ls ds = ap (λ (z : Bytes). when (known z earlier) 10 then naming seen (earlier ++ (z ∷ [])) ds) (cover-out [] y)
-name-one seen earlier (x ∷ xs) y ls ds = ap (λ (z : Bytes). when (known z earlier) 10 then naming seen (earlier ++ (z ∷ [])) ds) (cover-out (x ∷ xs) y)
+name-one seen earlier [] y ls ds = ap (λ (z : Bytes). when (known z earlier) refusal.DefinedTwice then naming seen (earlier ++ (z ∷ [])) ds) (cover-out [] y)
+name-one seen earlier (x ∷ xs) y ls ds = ap (λ (z : Bytes). when (known z earlier) refusal.DefinedTwice then naming seen (earlier ++ (z ∷ [])) ds) (cover-out (x ∷ xs) y)
 
-names-once : (seen : Bool) (earlier : List Bytes) (bs : List (Block Bytes)) → (Dup (earlier ++ map target bs) → ⊥) → naming seen earlier (map gateOf bs) ≡ 0
+names-once : (seen : Bool) (earlier : List Bytes) (bs : List (Block Bytes)) → (Dup (earlier ++ map target bs) → ⊥) → naming seen earlier (map gateOf bs) ≡ Fine
 unfolding naming when _then_
 names-once seen earlier [] h = refl
 names-once seen earlier (Latch f q ∷ bs) h =
@@ -127,13 +130,13 @@ one-kind : (n : ℕ) (o : Bool) (ls : List Line) → GoodLines n o ls → (any i
 one-kind n true ls g = ap (λ (b : Bool). any isOne (map tokOf ls) && not b) (all-ones n ls g) ∙ and-false (any isOne (map tokOf ls))
 one-kind n false ls g = ap (λ (b : Bool). b && not (all isOne (map tokOf ls))) (no-ones n ls g)
 
-cover-good : (b : Block Bytes) → GoodBlock b → coverFault (defOf b) ≡ 0
+cover-good : (b : Block Bytes) → GoodBlock b → coverFault (defOf b) ≡ Fine
 unfolding coverFault when _then_
 cover-good (Latch f q) g = refl
 cover-good (Cover xs y ls) g =
     rw (last-at xs y, lines-good (length xs) (g .0) ls (g .1), one-kind (length xs) (g .0) ls (g .1))
 
-covers-good : (bs : List (Block Bytes)) → ((b : Block Bytes) → List·Memᴰ b bs → GoodBlock b) → coverFaults (map defOf bs) ≡ 0
+covers-good : (bs : List (Block Bytes)) → ((b : Block Bytes) → List·Memᴰ b bs → GoodBlock b) → coverFaults (map defOf bs) ≡ Fine
 unfolding coverFaults _then_
 covers-good [] h = refl
 covers-good (b ∷ bs) h = rw (cover-good b (h b (List·Memᴰ·head refl))) (covers-good bs (λ c m. h c (List·Memᴰ·tail m)))
@@ -147,7 +150,7 @@ module _ (net : Net) (plainFlops : (g : ℕ) (s : FlipFlop) → GateIs net g (Df
   abbrev dl : List Decl
   dl = textDecls net plainFlops
 
-  no-naming : naming false [] dl ≡ 0
+  no-naming : naming false [] dl ≡ Fine
   unfolding naming when _then_
   no-naming =
       rw (not-twice [] (w .inputs) (λ d. acc .once (dup-left (w .inputs) (map target (w .blocks)) d)))
@@ -168,14 +171,14 @@ module _ (net : Net) (plainFlops : (g : ℕ) (s : FlipFlop) → GateIs net g (Df
       (λ i. not (all (λ (n : Bytes). known n (is i ++ (ap (map defines) gs ∙ defines-all (w .blocks)) i)) (os i ++ flatMap usedNames (gs i))))
       ∙ ap not (mem-all (λ (n : Bytes). known n (defined w)) (w .outputs ++ flatMap usedNames (map defOf (w .blocks))) all-known)
 
-  no-cover-fault : coverFaults (defs dl) ≡ 0
+  no-cover-fault : coverFaults (defs dl) ≡ Fine
   no-cover-fault = ap coverFaults (defs-are net plainFlops) ∙ covers-good (w .blocks) (acc .good)
 
   decls-are : declsOf (textOf net) ≡ dl
   decls-are = decls-of net plainFlops
 
   -- within our sizes: no refusal at all
-  pub no-fault : length (textOf net) ≤ 32768 → tooLarge (declsOf (textOf net)) ≡ false → readFault (textOf net) ≡ 0
+  pub no-fault : length (textOf net) ≤ 32768 → tooLarge (declsOf (textOf net)) ≡ false → readFault (textOf net) ≡ Fine
   unfolding readFault declFault when _then_
   no-fault short small =
       rw (le-ltb 32768 (length (textOf net)) short, text-ascii net plainFlops, text-sound net plainFlops, small)

@@ -4,7 +4,7 @@ use mathlib.Core.Path.{_≡_, refl, sym, ap, ap₂, _∙_, subst}
 use mathlib.Core.Bool.{Bool, true, false, not, _&&_}
 use mathlib.Core.List.{List, [], _∷_, _++_, map, flatMap, append-assoc, List·Memᴰ, List·Memᴰ·head, List·Memᴰ·tail, Memᴰ·cast, List·Memᴰ·not-nil, List·Memᴰ·cases-cons, List·Memᴰ·append-cases, List·Memᴰ·eq-of-singleton, Memᴰ·append-left, Memᴰ·append-right, Memᴰ·of-map}
 use mathlib.Core.Logic.{inl, inr, ⊎-elim}
-use Prim.Native.Nat.{ℕ, zero, suc, _-_}
+use Prim.Native.Nat.{ℕ, _-_}
 use native.Mathlib.Omega.{arith}
 use lib.Dec.{eqb}
 use lib.ListN.{length, length-map, length-take}
@@ -15,32 +15,19 @@ use Rattle.lists.proofs.Places.{mem-place, map-place}
 use Rattle.lists.proofs.Range.{all-mem, any-none}
 use Rattle.lists.proofs.Known.{known-mem, unknown-out}
 use Rattle.lists.proofs.Once.{once-nil, dup-left, dup-right, dup-both, dup-append}
+use Rattle.refusals.specs.Order.{_then_, when}
+use Rattle.refusals.specs.declared.Refusal.the-variants as refusal
+use Rattle.refusals.specs.declared.Checked.the-variants.{Fine}
+use Rattle.refusals.proofs.Order.{refused-ne-fine, then-left, then-right, fine-when}
 use Rattle.network.specs.Net.{Valid}
 use Rattle.blif_text.specs.Decls.{Def, latch, cover, Decl, model, end, inputs, outputs, gate, insOf, defsOf, ins, outs, defs, coverOut, coverIns, defines, usedNames, columns, output, isOne}
 use Rattle.blif_model.specs.Blif.{Model, target}
 use Rattle.blif_model.specs.Build.{sources, Defined, Closed, GoodLines, GoodBlock}
 use Rattle.blif_model.specs.Lookup.{defined, byte-names}
 use Rattle.blif_model.specs.Model.{colOfByte, lineOf, blockOf, modelOf}
-use Rattle.blif_model.specs.Read.{_then_, when, tooLarge, twice, naming, undefined, goodLine, coverFault, coverFaults, declFault, look, builtFrom}
+use Rattle.blif_model.specs.Read.{tooLarge, twice, naming, undefined, goodLine, coverFault, coverFaults, declFault, look, builtFrom}
 use Rattle.blif_model.proofs.Lookups.{looks}
 use Rattle.blif_model.proofs.BuiltValid.{built-valid}
-
--- ---- tests in a row
-
-pub then-left : (a b : ℕ) → (a then b) ≡ 0 → a ≡ 0
-unfolding _then_
-then-left zero b e = refl
-then-left (suc a) b e = e
-
-pub then-right : (a b : ℕ) → (a then b) ≡ 0 → b ≡ 0
-unfolding _then_
-then-right zero b e = e
-then-right (suc a) b e = absurd (omega arith)
-
-pub when-no : (c : Bool) (n : ℕ) → when c (suc n) ≡ 0 → c ≡ false
-unfolding when
-when-no true n e = absurd (omega arith)
-when-no false n e = refl
 
 -- ---- 10
 
@@ -83,23 +70,23 @@ fresh-twice [] l e = fresh-nil l
 fresh-twice (n ∷ ns) l e =
     fresh-append l (n ∷ []) ns (fresh-one l n (or-left (known n l) (twice (l ++ (n ∷ [])) ns) e)) (fresh-twice ns (l ++ (n ∷ [])) (or-right (known n l) (twice (l ++ (n ∷ [])) ns) e))
 
-fresh-named : (ds : List Decl) (seen : Bool) (l : List Bytes) → naming seen l ds ≡ 0 → Fresh l (declared ds)
+fresh-named : (ds : List Decl) (seen : Bool) (l : List Bytes) → naming seen l ds ≡ Fine → Fresh l (declared ds)
 unfolding naming defines
 fresh-named [] seen l e = fresh-nil l
-fresh-named (model ∷ ds) seen l e = fresh-named ds true l (then-right (when seen 7) (naming true l ds) e)
-fresh-named (end ∷ ds) seen l e = fresh-named ds seen l (then-right (when (not seen) 8) (naming seen l ds) e)
+fresh-named (model ∷ ds) seen l e = fresh-named ds true l (then-right (when seen refusal.SecondModel) (naming true l ds) e)
+fresh-named (end ∷ ds) seen l e = fresh-named ds seen l (then-right (when (not seen) refusal.EndBeforeModel) (naming seen l ds) e)
 fresh-named (inputs ns ∷ ds) seen l e =
-    fresh-append l ns (declared ds) (fresh-twice ns l (when-no (twice l ns) 9 (then-left (when (twice l ns) 10) (naming seen (l ++ ns) ds) e)))
-    (fresh-named ds seen (l ++ ns) (then-right (when (twice l ns) 10) (naming seen (l ++ ns) ds) e))
+    fresh-append l ns (declared ds) (fresh-twice ns l (fine-when (twice l ns) refusal.DefinedTwice (then-left (when (twice l ns) refusal.DefinedTwice) (naming seen (l ++ ns) ds) e)))
+    (fresh-named ds seen (l ++ ns) (then-right (when (twice l ns) refusal.DefinedTwice) (naming seen (l ++ ns) ds) e))
 fresh-named (outputs ns ∷ ds) seen l e = fresh-named ds seen l e
 fresh-named (gate (latch d q) ∷ ds) seen l e =
-    fresh-append l (q ∷ []) (declared ds) (fresh-one l q (when-no (known q l) 9 (then-left (when (known q l) 10) (naming seen (l ++ (q ∷ [])) ds) e)))
-    (fresh-named ds seen (l ++ (q ∷ [])) (then-right (when (known q l) 10) (naming seen (l ++ (q ∷ [])) ds) e))
-fresh-named (gate (cover [] ls) ∷ ds) seen l e = absurd (omega arith)
+    fresh-append l (q ∷ []) (declared ds) (fresh-one l q (fine-when (known q l) refusal.DefinedTwice (then-left (when (known q l) refusal.DefinedTwice) (naming seen (l ++ (q ∷ [])) ds) e)))
+    (fresh-named ds seen (l ++ (q ∷ [])) (then-right (when (known q l) refusal.DefinedTwice) (naming seen (l ++ (q ∷ [])) ds) e))
+fresh-named (gate (cover [] ls) ∷ ds) seen l e = absurd (refused-ne-fine e)
 fresh-named (gate (cover (n ∷ ns) ls) ∷ ds) seen l e =
     let q : Bytes = coverOut (n ∷ ns) in
-    fresh-append l (q ∷ []) (declared ds) (fresh-one l q (when-no (known q l) 9 (then-left (when (known q l) 10) (naming seen (l ++ (q ∷ [])) ds) e)))
-    (fresh-named ds seen (l ++ (q ∷ [])) (then-right (when (known q l) 10) (naming seen (l ++ (q ∷ [])) ds) e))
+    fresh-append l (q ∷ []) (declared ds) (fresh-one l q (fine-when (known q l) refusal.DefinedTwice (then-left (when (known q l) refusal.DefinedTwice) (naming seen (l ++ (q ∷ [])) ds) e)))
+    (fresh-named ds seen (l ++ (q ∷ [])) (then-right (when (known q l) refusal.DefinedTwice) (naming seen (l ++ (q ∷ [])) ds) e))
 
 abbrev inNames : List Decl → List Bytes
 inNames ds = flatMap insOf ds
@@ -193,7 +180,7 @@ module _ (ds : List Decl) where
             k x (Memᴰ·append-right (outs ds) (uses-in (defs ds) (t .0) x (t .1) (subst (List·Memᴰ x) (ap sources (sym (t .2)) ∙ sources-of (t .0)) v)));
       }
 
-  pub once-of : naming false [] ds ≡ 0 → Dup (defined m) → ⊥
+  pub once-of : naming false [] ds ≡ Fine → Dup (defined m) → ⊥
   unfolding ins defs
   once-of e d = fresh-named ds false [] e .once (dup-declared ds (subst (λ (l : List Bytes). Dup (flatMap insOf ds ++ l)) (targets-of (flatMap defsOf ds)) d))
 
@@ -223,17 +210,17 @@ ins-length : (ns : List Bytes) → length (coverIns ns) ≡ length ns - 1
 unfolding coverIns
 ins-length ns = length-take (length ns - 1) ns ∙ omega arith
 
-pub good-of : (g : Def) → coverFault g ≡ 0 → GoodBlock (blockOf g)
+pub good-of : (g : Def) → coverFault g ≡ Fine → GoodBlock (blockOf g)
 unfolding coverFault
 good-of (latch d q) e = tt
 good-of (cover ns ls) e =
     let a : Bool = not (all (goodLine (length ns - 1)) ls) in
     let b : Bool = any isOne ls && not (all isOne ls) in
-    let h : all (goodLine (length ns - 1)) ls ≡ true = not-false (all (goodLine (length ns - 1)) ls) (when-no a 11 (then-left (when a 12) (when b 13) e)) in
-    let k : b ≡ false = when-no b 12 (then-right (when a 12) (when b 13) e) in
+    let h : all (goodLine (length ns - 1)) ls ≡ true = not-false (all (goodLine (length ns - 1)) ls) (fine-when a refusal.WrongCubeLine (then-left (when a refusal.WrongCubeLine) (when b refusal.OutputsDiffer) e)) in
+    let k : b ≡ false = fine-when b refusal.OutputsDiffer (then-right (when a refusal.WrongCubeLine) (when b refusal.OutputsDiffer) e) in
     (any isOne ls, lines-of (length (coverIns ns)) (any isOne ls) ls (λ ts m. (good-length (length ns - 1) ts (all-mem (goodLine (length ns - 1)) ls h ts m) ∙ sym (ins-length ns), one-output ls k ts m)))
 
-pub goods-of : (gs : List Def) → coverFaults gs ≡ 0 → (g : Def) → List·Memᴰ g gs → coverFault g ≡ 0
+pub goods-of : (gs : List Def) → coverFaults gs ≡ Fine → (g : Def) → List·Memᴰ g gs → coverFault g ≡ Fine
 unfolding coverFaults
 goods-of _ e g (List·Memᴰ·head {x = h} {xs = gs} q) = ap coverFault q ∙ then-left (coverFault h) (coverFaults gs) e
 goods-of _ e g (List·Memᴰ·tail {x = h} {xs = gs} m) = goods-of gs (then-right (coverFault h) (coverFaults gs) e) g m
@@ -243,20 +230,20 @@ goods-of _ e g (List·Memᴰ·tail {x = h} {xs = gs} m) = goods-of gs (then-righ
 -- declarations that none of the tests of 6 to 13 refuses
 pub record Passed (ds : List Decl) : Type 0 where
   pub within : tooLarge ds ≡ false
-  pub named : naming false [] ds ≡ 0
+  pub named : naming false [] ds ≡ Fine
   pub used : undefined ds ≡ false
-  pub covered : coverFaults (defs ds) ≡ 0
+  pub covered : coverFaults (defs ds) ≡ Fine
 
-pub passed : (ds : List Decl) → declFault ds ≡ 0 → Passed ds
+pub passed : (ds : List Decl) → declFault ds ≡ Fine → Passed ds
 unfolding declFault
 passed ds e =
-    let f = then-right (when (tooLarge ds) 6) (naming false [] ds then when (undefined ds) 11 then coverFaults (defs ds)) e in
-    let g = then-right (naming false [] ds) (when (undefined ds) 11 then coverFaults (defs ds)) f in
+    let f = then-right (when (tooLarge ds) refusal.SizePassed) (naming false [] ds then when (undefined ds) refusal.Undefined then coverFaults (defs ds)) e in
+    let g = then-right (naming false [] ds) (when (undefined ds) refusal.Undefined then coverFaults (defs ds)) f in
     record {
-      within = when-no (tooLarge ds) 5 (then-left (when (tooLarge ds) 6) (naming false [] ds then when (undefined ds) 11 then coverFaults (defs ds)) e);
-      named = then-left (naming false [] ds) (when (undefined ds) 11 then coverFaults (defs ds)) f;
-      used = when-no (undefined ds) 10 (then-left (when (undefined ds) 11) (coverFaults (defs ds)) g);
-      covered = then-right (when (undefined ds) 11) (coverFaults (defs ds)) g;
+      within = fine-when (tooLarge ds) refusal.SizePassed (then-left (when (tooLarge ds) refusal.SizePassed) (naming false [] ds then when (undefined ds) refusal.Undefined then coverFaults (defs ds)) e);
+      named = then-left (naming false [] ds) (when (undefined ds) refusal.Undefined then coverFaults (defs ds)) f;
+      used = fine-when (undefined ds) refusal.Undefined (then-left (when (undefined ds) refusal.Undefined) (coverFaults (defs ds)) g);
+      covered = then-right (when (undefined ds) refusal.Undefined) (coverFaults (defs ds)) g;
     }
 
 -- the gates built for them have valid signals

@@ -12,6 +12,7 @@ use borrow.Author.Tests.{ltb-true}
 use Rattle.lists.specs.Lists.{Bytes, bytes, same, any, range}
 use Rattle.lists.proofs.Places.{flatMap-append}
 use Rattle.lists.proofs.Every.{Every, every-nil, every-cons, every-append, every-map}
+use Rattle.refusals.specs.declared.Checked.the-variants.{Fine}
 use Rattle.signal.specs.Signal.{Node, Const, Input, Gated, Signal, plain, turned, oneS, zeroS}
 use Rattle.gates.specs.Gate.{FlipFlop, Gate, Comb, Dff}
 use Rattle.network.specs.Net.{Net, GateIs}
@@ -199,7 +200,7 @@ module _ (net : Net) (plainFlops : (g : ℕ) (s : FlipFlop) → GateIs net g (Df
   text-ascii = lines-ascii (textLines net) text-single
 
   -- no refusal 4 or 5
-  pub text-sound : firstBad (parsed (textOf net)) ≡ 0
+  pub text-sound : firstBad (parsed (textOf net)) ≡ Fine
   text-sound = ap firstBad stmts-of ∙ none-bad textStmts
 
   -- the declarations of the text

@@ -1,40 +1,87 @@
 -- Document 01's "Netlists worked by hand", K1 to K13, as one table: what each text reads as and each network is written as.
 -- `proofs/Cases.antt` is the one proof over it. Assumes nothing: these are definitions.
-use mathlib.Core.Bool.{Bool, true, false, _&&_}
-use mathlib.Core.List.{List, [], _∷_, map}
-use Prim.Native.Nat.{ℕ}
+use mathlib.Core.Bool.{Bool, true, false, _&&_, Bool·beq}
+use mathlib.Core.List.{List, [], _∷_}
 use lib.Dec.{eqb}
 use Rattle.lists.specs.Lists.{Bytes, bytes, same, all}
-use Rattle.signal.specs.Signal.{Input, Gated, Signal, plain, zeroS, oneS, turned}
-use Rattle.signal.specs.Cell.{sigCell}
-use Rattle.gates.specs.Gate.{AndN, OrN, NandN, Buf, Comb}
+use Rattle.refusals.specs.Numbers.{numberOf}
+use Rattle.refusals.specs.declared.Refusal.the-variants as refusal
+use Rattle.signal.specs.Signal.{Node, Const, Input, Gated, Signal, plain, zeroS, oneS, turned}
+use Rattle.gates.specs.Gate.{AndN, OrN, NandN, Buf, Gate, Comb, pins}
+use Rattle.gates.specs.Forms.{formCell}
 use Rattle.network.specs.Net.{Net, netFrom}
-use Rattle.network.specs.Cells.{gateCells, pinCells}
+use Rattle.network.specs.Settle.{run}
 use Rattle.blif_model.specs.Render.{textOf}
 use Rattle.blif_model.specs.Read.{Result, read, refused, readText}
 
--- a text and what reading it gives; a network and the text that is written
-pub data Check : Type 0 where
-  reads : Bytes → Result → Check
-  writes : Net → Bytes → Check
+-- ---- equal networks
 
--- the same counts and the same cells
+-- the same lists, element by element
+unfoldable pub sameList : {A : Type 0} → (A → A → Bool) → List A → List A → Bool
+sameList p [] [] = true
+sameList p [] (y ∷ ys) = false
+sameList p (x ∷ xs) [] = false
+sameList p (x ∷ xs) (y ∷ ys) = p x y && sameList p xs ys
+
+-- the same node
+unfoldable pub sameNode : Node → Node → Bool
+sameNode Const Const = true
+sameNode (Input i) (Input j) = eqb i j
+sameNode (Gated g) (Gated h) = eqb g h
+sameNode Const (Input j) = false
+sameNode Const (Gated h) = false
+sameNode (Input i) Const = false
+sameNode (Input i) (Gated h) = false
+sameNode (Gated g) Const = false
+sameNode (Gated g) (Input j) = false
+
+-- the same signal
+unfoldable pub sameSignal : Signal → Signal → Bool
+sameSignal s t = sameNode (s .node) (t .node) && Bool·beq (s .inv) (t .inv)
+
+-- the same form and the same inputs
+unfoldable pub sameGate : Gate → Gate → Bool
+sameGate x y = eqb (formCell x) (formCell y) && sameList sameSignal (pins x) (pins y)
+
+-- the same inputs, gates and outputs
 unfoldable pub sameNet : Net → Net → Bool
-sameNet a b =
-    eqb (a .inputs) (b .inputs) && same (gateCells 0 (a .gates)) (gateCells 0 (b .gates))
-    && same (pinCells (a .gates)) (pinCells (b .gates)) && same (map sigCell (a .outputs)) (map sigCell (b .outputs))
+sameNet a b = eqb (a .inputs) (b .inputs) && sameList sameGate (a .gates) (b .gates) && sameList sameSignal (a .outputs) (b .outputs)
 
 -- the same network, or the same refusal
 unfoldable pub sameResult : Result → Result → Bool
 sameResult (read a) (read b) = sameNet a b
-sameResult (read a) (refused n) = false
-sameResult (refused m) (read b) = false
-sameResult (refused m) (refused n) = eqb m n
+sameResult (read a) (refused r) = false
+sameResult (refused q) (read b) = false
+sameResult (refused q) (refused r) = eqb (numberOf q) (numberOf r)
+
+-- ---- checks
+
+-- a text and what reading it gives; a network and the text that is written; a network, and what reading the text written for it gives; a
+-- text, rows of inputs and the rows of outputs that the network read gives
+pub data Check : Type 0 where
+  reads : Bytes → Result → Check
+  writes : Net → Bytes → Check
+  readsBack : Net → Result → Check
+  runs : Bytes → List (List Bool) → List (List Bool) → Check
+
+-- the network of a result; the empty one where it is a refusal
+abbrev pub netIn : Result → Net
+netIn (read net) = net
+netIn (refused r) = netFrom 0 [] []
+
+-- whether it is a network
+abbrev pub isRead : Result → Bool
+isRead (read net) = true
+isRead (refused r) = false
 
 -- the definitions give what the check says
 unfoldable pub holds : Check → Bool
 holds (reads t r) = sameResult (readText t) r
 holds (writes n t) = same (textOf n) t
+holds (readsBack n r) = sameResult (readText (textOf n)) r
+holds (runs t rows outs) = isRead (readText t) && sameList (sameList Bool·beq) (run (netIn (readText t)) rows) outs
+
+-- ---- the networks
 
 -- input 0
 abbrev pub i0 : Signal
@@ -76,6 +123,10 @@ table =
     -- K5
     ∷ (reads (bytes ".inputs a b\n.outputs y\n.names a b y\n00 0\n11 0\n")
     (read (netFrom 2 (Comb NandN (turned i0 ∷ turned i1 ∷ []) ∷ Comb NandN (i0 ∷ i1 ∷ []) ∷ Comb AndN (x0 ∷ x1 ∷ []) ∷ []) (x2 ∷ [])))
+    -- "one exactly when a and b differ"
+    ∷ runs (bytes ".inputs a b\n.outputs y\n.names a b y\n00 0\n11 0\n")
+    ((false ∷ false ∷ []) ∷ (false ∷ true ∷ []) ∷ (true ∷ false ∷ []) ∷ (true ∷ true ∷ []) ∷ [])
+    ((false ∷ []) ∷ (true ∷ []) ∷ (true ∷ []) ∷ (false ∷ []) ∷ [])
     ∷ [])
     -- K6
     ∷ (reads (bytes ".inputs a\\\nb\n") (read (netFrom 2 [] [])) ∷ [])
@@ -84,11 +135,11 @@ table =
     -- K8
     ∷ (reads (bytes ".names b a\n- 1\n.names a b\n1 1\n") (read (netFrom 0 (Comb Buf (oneS ∷ []) ∷ Comb Buf (x0 ∷ []) ∷ []) [])) ∷ [])
     -- K9
-    ∷ (reads (bytes ".names b a\n1 1\n.names a b\n1 1\n") (refused 14) ∷ [])
+    ∷ (reads (bytes ".names b a\n1 1\n.names a b\n1 1\n") (refused refusal.CombinationalLoop) ∷ [])
     -- K10
     ∷ (reads (bytes ".model m\n.end\n.inputs a\n") (read (netFrom 1 [] [])) ∷ [])
     -- K11
-    ∷ (reads (bytes ".exdc\n.names\n") (read (netFrom 0 [] [])) ∷ reads (bytes ".exdc\n.names\n.gate\n") (refused 5) ∷ [])
+    ∷ (reads (bytes ".exdc\n.names\n") (read (netFrom 0 [] [])) ∷ reads (bytes ".exdc\n.names\n.gate\n") (refused refusal.Unsupported) ∷ [])
     -- K12
     ∷ (writes (netFrom 2 (Comb Buf (i0 ∷ []) ∷ []) (turned x0 ∷ turned i0 ∷ turned i1 ∷ []))
     (bytes "# .blif file\n# Generated by quaigh\n\n.model quaigh\n\n.inputs i0 i1\n\n.outputs x0_n i0_n i1_n\n\n\n.names i0 x0\n1 1\n.names x0 x0_n\n0 1\n.names i1 i1_n\n0 1\n.names i0 i0_n\n0 1\n.names vdd\n1\n.names gnd\n")
@@ -96,6 +147,7 @@ table =
     -- K13
     ∷ (writes (netFrom 0 (Comb OrN [] ∷ []) (x0 ∷ []))
     (bytes "# .blif file\n# Generated by quaigh\n\n.model quaigh\n\n.inputs\n\n.outputs x0\n\n\n.names x0\n 0\n.names vdd\n1\n.names gnd\n")
-    ∷ reads (bytes ".outputs x0\n.names x0\n 0\n") (read (netFrom 0 (Comb Buf (zeroS ∷ []) ∷ []) (x0 ∷ [])))
+    ∷ readsBack (netFrom 0 (Comb OrN [] ∷ []) (x0 ∷ []))
+    (read (netFrom 0 (Comb Buf (zeroS ∷ []) ∷ Comb Buf (oneS ∷ []) ∷ Comb Buf (zeroS ∷ []) ∷ []) (x0 ∷ [])))
     ∷ [])
     ∷ []

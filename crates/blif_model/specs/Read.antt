@@ -3,10 +3,15 @@
 use mathlib.Core.Bool.{Bool, true, false, _&&_, _||_, not}
 use mathlib.Core.List.{List, [], _∷_, _++_, map, flatMap}
 use mathlib.Core.Option.{Option, none, some}
-use Prim.Native.Nat.{ℕ, zero, suc, _+_, _-_, _*_}
+use Prim.Native.Nat.{ℕ, _+_, _-_, _*_}
 use lib.Dec.{eqb, leb, ltb}
 use lib.ListN.{length}
 use Rattle.lists.specs.Lists.{if_then_else_, Bytes, all, any, sumOf, elem, known}
+use Rattle.refusals.specs.Order.{_then_, when}
+use Rattle.refusals.specs.declared.Refusal.{Refusal}
+use Rattle.refusals.specs.declared.Refusal.the-variants as refusal
+use Rattle.refusals.specs.declared.Checked.{Checked}
+use Rattle.refusals.specs.declared.Checked.the-variants.{Fine, Refused}
 use Rattle.signal.specs.Signal.{Signal}
 use Rattle.network.specs.Net.{Net}
 use Rattle.network.specs.Cells.{maxInputs, maxOutputs, maxGates, maxPins}
@@ -17,18 +22,6 @@ use Rattle.blif_text.specs.Decls.{Def, latch, cover, Decl, model, end, inputs, 
 use Rattle.blif_model.specs.Lookup.{lookup, byte-names}
 use Rattle.blif_model.specs.Build.{build}
 use Rattle.blif_model.specs.Model.{modelOf}
-
--- ---- a refusal's number, or 0 for none: the first one counts
-
-infixr 20 _then_
--- the first, or else the second
-unfoldable pub _then_ : ℕ → ℕ → ℕ
-zero then b = b
-suc a then b = suc a
-
--- the number where the test holds
-unfoldable pub when : Bool → ℕ → ℕ
-when c n = if c then n else 0
 
 -- ---- 6: sizes
 
@@ -63,16 +56,16 @@ twice earlier (n ∷ ns) = known n earlier || twice (earlier ++ (n ∷ [])) ns
 
 -- "7 at a second `.model`; 8 at `.end` before any `.model`; 9 when `.names` is empty; 10 when a name is defined twice by inputs,
 -- latch outputs or covers"; `seen` says that there was a `.model`, `earlier` lists the names defined so far
-unfoldable pub naming : Bool → List Bytes → List Decl → ℕ
-naming seen earlier [] = 0
-naming seen earlier (model ∷ ds) = when seen 7 then naming true earlier ds
-naming seen earlier (end ∷ ds) = when (not seen) 8 then naming seen earlier ds
-naming seen earlier (inputs ns ∷ ds) = when (twice earlier ns) 10 then naming seen (earlier ++ ns) ds
+unfoldable pub naming : Bool → List Bytes → List Decl → Checked
+naming seen earlier [] = Fine
+naming seen earlier (model ∷ ds) = when seen refusal.SecondModel then naming true earlier ds
+naming seen earlier (end ∷ ds) = when (not seen) refusal.EndBeforeModel then naming seen earlier ds
+naming seen earlier (inputs ns ∷ ds) = when (twice earlier ns) refusal.DefinedTwice then naming seen (earlier ++ ns) ds
 naming seen earlier (outputs ns ∷ ds) = naming seen earlier ds
-naming seen earlier (gate (latch d q) ∷ ds) = when (known q earlier) 10 then naming seen (earlier ++ (q ∷ [])) ds
-naming seen earlier (gate (cover [] ls) ∷ ds) = 9
+naming seen earlier (gate (latch d q) ∷ ds) = when (known q earlier) refusal.DefinedTwice then naming seen (earlier ++ (q ∷ [])) ds
+naming seen earlier (gate (cover [] ls) ∷ ds) = Refused refusal.NamesEmpty
 naming seen earlier (gate (cover (n ∷ ns) ls) ∷ ds) =
-    when (known (coverOut (n ∷ ns)) earlier) 10 then naming seen (earlier ++ (coverOut (n ∷ ns) ∷ [])) ds
+    when (known (coverOut (n ∷ ns)) earlier) refusal.DefinedTwice then naming seen (earlier ++ (coverOut (n ∷ ns) ∷ [])) ds
 
 -- ---- 11: uses
 
@@ -94,37 +87,45 @@ goodLine n ts =
     && known (output ts) ((48 ∷ []) ∷ (49 ∷ []) ∷ [])
 
 -- "13 when its lines are all good but differ in output"
-unfoldable pub coverFault : Def → ℕ
-coverFault (latch d q) = 0
+unfoldable pub coverFault : Def → Checked
+coverFault (latch d q) = Fine
 coverFault (cover ns ls) =
-    when (not (all (goodLine (length ns - 1)) ls)) 12
-    then when (any isOne ls && not (all isOne ls)) 13
+    when (not (all (goodLine (length ns - 1)) ls)) refusal.WrongCubeLine
+    then when (any isOne ls && not (all isOne ls)) refusal.OutputsDiffer
 
 -- "Then cover by cover": "The first wrong column of the first wrong cube line ends the whole pass"
-unfoldable pub coverFaults : List Def → ℕ
-coverFaults [] = 0
+unfoldable pub coverFaults : List Def → Checked
+coverFaults [] = Fine
 coverFaults (g ∷ gs) = coverFault g then coverFaults gs
 
 -- ---- reading
 
 -- 6 to 13
-unfoldable pub declFault : List Decl → ℕ
-declFault ds = when (tooLarge ds) 6 then naming false [] ds then when (undefined ds) 11 then coverFaults (defs ds)
+unfoldable pub declFault : List Decl → Checked
+declFault ds =
+    when (tooLarge ds) refusal.SizePassed
+    then naming false [] ds
+    then when (undefined ds) refusal.Undefined
+    then coverFaults (defs ds)
 
 -- "2 when the text is over 32,768 bytes. 3 when it has a byte of 128 or more", then 4 and 5, then 6 to 13
-unfoldable pub readFault : Bytes → ℕ
-readFault s = when (ltb maxText (length s)) 2 then when (any (leb 128) s) 3 then firstBad (parsed s) then declFault (declsOf s)
+unfoldable pub readFault : Bytes → Checked
+readFault s =
+    when (ltb maxText (length s)) refusal.TextTooLong
+    then when (any (leb 128) s) refusal.HighByte
+    then firstBad (parsed s)
+    then declFault (declsOf s)
 
--- a network, or a refusal's number
+-- a network, or a refusal
 pub data Result : Type 0 where
   read : Net → Result
-  refused : ℕ → Result
+  refused : Refusal → Result
 
 -- "14 at a combinational loop among the gates as built"
-unfoldable pub answer : ℕ → Option Net → Result
-answer zero none = refused 14
-answer zero (some n) = read n
-answer (suc f) n = refused (suc f)
+unfoldable pub answer : Checked → Option Net → Result
+answer Fine none = refused refusal.CombinationalLoop
+answer Fine (some n) = read n
+answer (Refused r) n = refused r
 
 -- the signal of a name that these declarations define
 abbrev pub look : List Decl → Bytes → Signal

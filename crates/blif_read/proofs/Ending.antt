@@ -10,6 +10,10 @@ use lib.ListN.{length, take, length-map}
 use lib.Seq.{length-take-le}
 use Rattle.lists.specs.Lists.{Bytes, any, over, range}
 use Rattle.lists.proofs.Range.{length-range}
+use Rattle.refusals.specs.Order.{when}
+use Rattle.refusals.specs.declared.Refusal.the-variants as refusal
+use Rattle.refusals.specs.declared.Checked.the-variants.{Fine}
+use Rattle.refusals.proofs.Order.{then-right}
 use Rattle.signal.specs.Cell.{sigCell, sigOf}
 use Rattle.network.specs.Net.{Net}
 use Rattle.network.specs.Cells.{gateWidth, gateCells, pinCells, lent, netOf, countsOf, Laid}
@@ -25,7 +29,7 @@ use Rattle.blif_text.specs.Statements.{parsed, firstBad}
 use Rattle.blif_text.specs.Places.{maxText}
 use Rattle.blif_text.specs.Decls.{Def, outs, declsOf}
 use Rattle.blif_text.specs.Blocks.{defsAt}
-use Rattle.blif_model.specs.Read.{when, declFault, readFault, Result, read, refused, answer, look, builtFrom, readText}
+use Rattle.blif_model.specs.Read.{declFault, readFault, Result, read, refused, answer, look, builtFrom, readText}
 use Rattle.blif_model.specs.Working.{GatesIn, placed, builtGates, WorkRoom}
 use Rattle.blif_gates.specs.Covers.{Buildable, BuiltBy}
 use Rattle.blif_gates.specs.declared.Built.{Built}
@@ -33,18 +37,18 @@ use Rattle.blif_read.specs.Stages.{Holds, Placing}
 use Rattle.blif_read.specs.declared.ReadAnswer.{ReadAnswer}
 use Rattle.blif_read.specs.declared.ReadAnswer.the-variants.{Read, Refused}
 use Rattle.blif_model.proofs.BuiltNet.{BuiltIn}
-use Rattle.blif_model.proofs.Passed.{then-right, passed}
+use Rattle.blif_model.proofs.Passed.{passed}
 use Rattle.blif_model.proofs.SizeLimits.{sizes-within}
 use Rattle.blif_model.proofs.BuiltNet.{built-net, built-sortable}
 use Rattle.blif_read.proofs.Refusing.{sorted-or-loop}
 
 -- ---- no refusal took the text
 
-decls-none : (text : Bytes) → readFault text ≡ 0 → declFault (declsOf text) ≡ 0
+decls-none : (text : Bytes) → readFault text ≡ Fine → declFault (declsOf text) ≡ Fine
 unfolding readFault
 decls-none text e =
     then-right (firstBad (parsed text)) (declFault (declsOf text))
-    (then-right (when (any (leb 128) text) 3) _ (then-right (when (ltb maxText (length text)) 2) _ e))
+    (then-right (when (any (leb 128) text) refusal.HighByte) _ (then-right (when (ltb maxText (length text)) refusal.TextTooLong) _ e))
 
 -- ---- what the sort answers
 
@@ -69,7 +73,7 @@ orderPins (Order k) = k
 orderPins Loop = 0
 
 -- none at a loop
-loop-answer : (m : Option Net) (gs ps os : List ℕ) → sortInto m gs ps os .answer ≡ Loop → answer 0 m ≡ refused 14
+loop-answer : (m : Option Net) (gs ps os : List ℕ) → sortInto m gs ps os .answer ≡ Loop → answer Fine m ≡ refused refusal.CombinationalLoop
 unfolding sortInto answer isLoop
 loop-answer none gs ps os e = refl
 loop-answer (some x) gs ps os e = absurd (false≢true (ap isLoop e))
@@ -82,17 +86,18 @@ order-some none gs ps os k e = absurd (true≢false (ap isLoop e))
 order-some (some x) gs ps os k e = (x, refl, sym (ap orderPins e))
 
 -- which is what is read
-some-answer : {m : Option Net} {x : Net} → m ≡ some x → answer 0 m ≡ read x
+some-answer : {m : Option Net} {x : Net} → m ≡ some x → answer Fine m ≡ read x
 unfolding answer
-some-answer e = ap (answer 0) e
+some-answer e = ap (answer Fine) e
 
 -- ---- building
 
-module _ {text tokens : List ℕ} {n : ℕ} {blocks : List ℕ} {i g o : ℕ} {gates pinsIn os : List ℕ} {used : ℕ} (c : Placing text tokens n blocks i g o gates pinsIn os used) where
+module _ {text tokens : List ℕ} {n : ℕ} {blocks : List ℕ} {i g o : ℕ} {gates pinsIn os : List ℕ} {used : ℕ} (c : Placing text tokens n blocks i g o gates pinsIn os used)
+    (none : readFault text ≡ Fine) where
   -- what building asks
   pub buildable : WorkRoom gates pinsIn → Buildable (defsAt text tokens n blocks g) gates pinsIn used
   buildable w =
-      let p = passed (declsOf text) (decls-none text (c .none)) in
+      let p = passed (declsOf text) (decls-none text none) in
       let s = sizes-within (declsOf text) (p .within) in
       subst (λ (ds : List Def). Buildable ds gates pinsIn used) (sym (c .blocks-are))
       (record {
@@ -128,24 +133,24 @@ module _ {text tokens : List ℕ} {n : ℕ} {blocks : List ℕ} {i g o : ℕ} {g
 
     -- the outputs have room
     outs-room : o ≤ length os
-    outs-room = omega (arith, c .outputs, sizes-within (declsOf text) (passed (declsOf text) (decls-none text (c .none)) .within) .outputs, or)
+    outs-room = omega (arith, c .outputs, sizes-within (declsOf text) (passed (declsOf text) (decls-none text none) .within) .outputs, or)
 
     -- what the sort asks
     pub sortable : (newGates newPins : ℕ) → 3072 ≤ newGates → 16384 ≤ newPins → Sortable (lent counts gates′ pinsIn′ os) newGates newPins
-    sortable newGates newPins = built-sortable (decls-none text (c .none)) cells-built
+    sortable newGates newPins = built-sortable (decls-none text none) cells-built
 
     module _ (gs ps : List ℕ) {gs′ ps′ os′ : List ℕ} {r : Sorted} (ng : 3072 ≤ length gs) (np : 16384 ≤ length ps)
         (q : sortOutcome r gs′ ps′ os′ ≡ sortInto (sorted (netOf (lent counts gates′ pinsIn′ os))) gs ps os) where
       is-built : netOf (lent counts gates′ pinsIn′ os) ≡ builtFrom (declsOf text)
-      is-built = built-net (decls-none text (c .none)) cells-built
+      is-built = built-net (decls-none text none) cells-built
 
       sorts : sortOutcome r gs′ ps′ os′ ≡ sortInto (sorted (builtFrom (declsOf text))) gs ps os
       sorts = q ∙ ap (λ (x : Net). sortInto (sorted x) gs ps os) is-built
 
       -- "14 at a combinational loop among the gates as built"
-      pub loop-refused : r ≡ Loop → readText text ≡ refused 14
+      pub loop-refused : r ≡ Loop → readText text ≡ refused refusal.CombinationalLoop
       loop-refused e =
-          sorted-or-loop text (c .none)
+          sorted-or-loop text none
           ∙ loop-answer (sorted (builtFrom (declsOf text))) gs ps os (sym (ap (λ (x : SortOutcome Sorted). x .answer) sorts) ∙ e)
 
       -- the counts are the sorted network's
@@ -176,5 +181,5 @@ module _ {text tokens : List ℕ} {n : ℕ} {blocks : List ℕ} {i g o : ℕ} {g
           let laid : Laid new (lent (countsOf new) gs′ ps′ os′) =
           subst (Laid new) (λ j. lent (countsOf new) (pg j) (pp j) (po j)) (laid-over new gs ps os hg hp ho) in
           subst (λ (x : Result). Holds x (Read (record { inputs = i; gates = b .gates; pins = k; outputs = o })) gs′ ps′ os′)
-          (sym (sorted-or-loop text (c .none) ∙ some-answer (f .1)))
+          (sym (sorted-or-loop text none ∙ some-answer (f .1)))
           (counts-are new k kept (f .2), laid)

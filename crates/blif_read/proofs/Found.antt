@@ -6,6 +6,7 @@ use Prim.Native.Nat.{ℕ}
 use Rattle.lists.specs.Lists.{Bytes, all, known}
 use Rattle.lists.proofs.Range.{all-append}
 use Rattle.lists.proofs.Tests.{by-test, and-left, and-right, and-false}
+use Rattle.refusals.specs.declared.Checked.the-variants.{Fine}
 use Rattle.signal.specs.Cell.{sigCell}
 use Rattle.blif_text.specs.Decls.{Decl, ins, outs, defs, defines, usedNames}
 use Rattle.name_index.specs.Search.{signalIn}
@@ -31,7 +32,7 @@ map-where p f g h (x ∷ l) e = ap₂ (λ y (ys : List _). y ∷ ys) (h x (and-l
 
 -- ---- the index's answers
 
-module _ (ds : List Decl) (named : naming false [] ds ≡ 0) (sized : tooLarge ds ≡ false) where
+module _ (ds : List Decl) (named : naming false [] ds ≡ Fine) (sized : tooLarge ds ≡ false) where
   -- the cell of a name's signal in the index
   abbrev sig : Bytes → ℕ
   sig x = signalIn (entries 0 0 ds) x

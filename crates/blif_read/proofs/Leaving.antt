@@ -6,6 +6,7 @@ use Prim.Native.Nat.{ℕ, _*_, _^_, _≤_, _<_}
 use native.Mathlib.Omega.{arith}
 use lib.ListN.{length, take, length-take}
 use Rattle.lists.specs.Lists.{if_then_else_, Bytes, zeros, over}
+use Rattle.refusals.specs.declared.Refusal.the-variants as refusal
 use Rattle.network.specs.Cells.{countsOf}
 use Rattle.network.specs.declared.Counts.{Counts}
 use Rattle.network.proofs.Laying.{length-gateCells}
@@ -17,21 +18,21 @@ use Rattle.blif_read.specs.declared.ReadAnswer.the-variants.{Read, Refus
 
 -- ---- refusal 1
 
-pub few-refused : (text : Bytes) (n : Lengths) (gs ps os : List ℕ) → enough n ≡ false → Holds (answered text n) (Refused 1) gs ps os
+pub few-refused : (text : Bytes) (n : Lengths) (gs ps os : List ℕ) → enough n ≡ false → Holds (answered text n) (Refused refusal.TooFewCells) gs ps os
 few-refused text n gs ps os e =
-    subst (λ (r : Result). Holds r (Refused 1) gs ps os) (sym (ap (λ (b : Bool). if b then readText text else refused 1) e)) refl
+    subst (λ (r : Result). Holds r (Refused refusal.TooFewCells) gs ps os) (sym (ap (λ (b : Bool). if b then readText text else refused refusal.TooFewCells) e)) refl
 
 pub enough-answered : (text : Bytes) (n : Lengths) (a : ReadAnswer) (gs ps os : List ℕ) → enough n ≡ true → Holds (readText text) a gs ps os
     → Holds (answered text n) a gs ps os
 enough-answered text n a gs ps os e h =
-    subst (λ (r : Result). Holds r a gs ps os) (sym (ap (λ (b : Bool). if b then readText text else refused 1) e)) h
+    subst (λ (r : Result). Holds r a gs ps os) (sym (ap (λ (b : Bool). if b then readText text else refused refusal.TooFewCells) e)) h
 
 -- ---- the other cells cleared
 
 -- the result's cells are what the answer keeps
 pub kept-filled : (r : Result) (a : ReadAnswer) (gs ps os : List ℕ) (n : Lengths) → Holds r a gs ps os
     → leaving a (take (countsIn a .gates * 3) gs) (take (countsIn a .pins) ps) (take (countsIn a .outputs) os) n ≡ filled r n
-kept-filled (refused k) a gs ps os n h =
+kept-filled (refused r) a gs ps os n h =
     ap (λ (x : ReadAnswer). leaving x (take (countsIn x .gates * 3) gs) (take (countsIn x .pins) ps) (take (countsIn x .outputs) os) n) h
 kept-filled (read net) a gs ps os n h =
     ap (λ (x : ReadAnswer). leaving x (take (countsIn x .gates * 3) gs) (take (countsIn x .pins) ps) (take (countsIn x .outputs) os) n) (h .0)
@@ -39,7 +40,7 @@ kept-filled (read net) a gs ps os n h =
 
 -- the records that an answer counts are within the cells
 counts-within : (r : Result) (a : ReadAnswer) (gs ps os : List ℕ) → Holds r a gs ps os → countsIn a .gates * 3 ≤ length gs
-counts-within (refused k) a gs ps os h = subst (λ (x : ReadAnswer). countsIn x .gates * 3 ≤ length gs) (sym h) (omega arith)
+counts-within (refused r) a gs ps os h = subst (λ (x : ReadAnswer). countsIn x .gates * 3 ≤ length gs) (sym h) (omega arith)
 counts-within (read net) a gs ps os h =
     let e : length (take (length (net .gates) * 3) gs) ≡ length (net .gates) * 3 = ap length (h .1 .gatesLaid) ∙ length-gateCells 0 (net .gates) in
     subst (λ (x : ReadAnswer). countsIn x .gates * 3 ≤ length gs) (sym (h .0)) (omega (arith, e, length-take (length (net .gates) * 3) gs))

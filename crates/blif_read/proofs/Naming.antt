@@ -8,6 +8,9 @@ use lib.ListN.{length, take, length-map}
 use lib.Seq.{length-take-le, getD-take}
 use Rattle.lists.specs.Lists.{Bytes, all, known, over, sumOf}
 use Rattle.lists.proofs.Over.{take-over}
+use Rattle.refusals.specs.declared.Refusal.{Refusal}
+use Rattle.refusals.specs.declared.Refusal.the-variants as refusal
+use Rattle.refusals.specs.declared.Checked.the-variants.{Fine, Refused}
 use Rattle.signal.specs.Cell.{sigCell}
 use Rattle.network.specs.Cells.{maxPins}
 use Rattle.blif_text.specs.Decls.{Def, latch, cover, Decl, decls, ins, outs, defs, defines, usedNames, declsOf}
@@ -16,52 +19,47 @@ use Rattle.blif_text.specs.Walk.{stmtsFrom, Inside}
 use Rattle.blif_text.specs.Blocks.{defsAt}
 use Rattle.name_index.specs.Search.{Entry, signalIn}
 use Rattle.name_index.specs.Index.{entriesOf}
-use Rattle.blif_model.specs.Read.{_then_, when, pinCount, tooLarge, naming, undefined, coverFaults, readFault, refused, look, readText}
+use Rattle.blif_model.specs.Read.{pinCount, tooLarge, naming, undefined, coverFaults, readFault, refused, look, readText}
 use Rattle.blif_model.specs.Working.{GatesIn, placed, placedCount}
 use Rattle.blif_decls.specs.Entries.{entries}
-use Rattle.blif_decls.specs.Tables.{Tables, DefinedBy}
-use Rattle.blif_decls.specs.declared.Defined.{Defined}
-use Rattle.blif_uses.specs.Resolve.{isFound, Resolved, PlacedBy, Signals}
-use Rattle.blif_uses.specs.declared.Placed.{Placed}
-use Rattle.blif_read.specs.Stages.{Sized, Resolving, Placing}
+use Rattle.blif_decls.specs.Tables.{Tables}
+use Rattle.blif_decls.specs.declared.Declared.{Declared}
+use Rattle.blif_uses.specs.Resolve.{isFound, allFound, Resolved, PlacedBy, Signals}
+use Rattle.blif_uses.specs.declared.Placed.the-variants as answer
+use Rattle.blif_uses.proofs.Placing.{pins-found, refused-found}
+use Rattle.blif_read.specs.Stages.{Sized, Defining, Resolving, Placing}
 use Rattle.blif_model.proofs.SizeLimits.{sizes-within}
 use Rattle.blif_decls.proofs.DefiningGates.{defs-few}
-use Rattle.blif_read.proofs.Refusing.{refuses, refuses-when, goes-on, passes-when, refused-by}
+use Rattle.blif_read.proofs.Refusing.{refuses, refuses-when, goes-on, passes-when}
 use Rattle.blif_read.proofs.Found.{found-all, found-signals, found-signal, output-missing, use-missing, none-missing}
 
 -- ---- names
-
--- the names are in the index, and no refusal up to 10 takes the text
-pub record Naming (text tokens : List ℕ) (n : ℕ) (index outNames blocks : List ℕ) (i g o : ℕ) : Type 0 where
-  pub tables : Tables (declsOf text) text tokens n index outNames blocks i g o
-  pub sized : tooLarge (declsOf text) ≡ false
-  pub once : naming false [] (declsOf text) ≡ 0
-  pub left : readFault text ≡ (when (undefined (declsOf text)) 11 then coverFaults (defs (declsOf text)))
 
 module _ {text tokens : List ℕ} {n : ℕ} (c : Sized text tokens n) where
   -- what naming asks of the sizes
   pub sized-again : tooLarge (decls (stmtsFrom text tokens n 0)) ≡ false
   sized-again = sym (ap tooLarge (c .declared)) ∙ c .sized
 
-  module _ {index outNames blocks : List ℕ} {d : Defined} (h : DefinedBy (decls (stmtsFrom text tokens n 0)) text tokens n index outNames blocks d) where
-    refusal-is : d .refused ≡ naming false [] (declsOf text)
-    refusal-is = h .refused ∙ sym (ap (naming false []) (c .declared))
+  -- the refusals of 7 to 10 are the text's
+  naming-is : naming false [] (decls (stmtsFrom text tokens n 0)) ≡ naming false [] (declsOf text)
+  naming-is = sym (ap (naming false []) (c .declared))
 
-    -- a refusal of 7 to 10
-    pub name-refused : (d .refused ≡ 0 → ⊥) → readText text ≡ refused (d .refused)
-    name-refused f =
-        refuses text (d .refused) (when (undefined (declsOf text)) 11 then coverFaults (defs (declsOf text)))
-        (c .left ∙ ap (λ (k : ℕ). k then when (undefined (declsOf text)) 11 then coverFaults (defs (declsOf text))) (sym refusal-is)) f
+  -- a refusal of 7 to 10
+  pub name-refused : {r : Refusal} → naming false [] (decls (stmtsFrom text tokens n 0)) ≡ Refused r → readText text ≡ refused r
+  name-refused h = refuses text _ (c .left) (sym naming-is ∙ h)
 
+  module _ {index outNames blocks : List ℕ} where
     -- none
-    pub names-entered : d .refused ≡ 0 → Naming text tokens n index outNames blocks (d .inputs) (d .gates) (d .outputs)
-    names-entered z =
-        let e : naming false [] (declsOf text) ≡ 0 = sym refusal-is ∙ z in
+    pub names-entered : {d : Declared} → naming false [] (decls (stmtsFrom text tokens n 0)) ≡ Fine
+        → Tables (decls (stmtsFrom text tokens n 0)) text tokens n index outNames blocks (d .inputs) (d .gates) (d .outputs)
+        → Defining text tokens n index outNames blocks (d .inputs) (d .gates) (d .outputs)
+    names-entered {d} z h =
+        let e : naming false [] (declsOf text) ≡ Fine = sym naming-is ∙ z in
         record {
-          tables = subst (λ (ds : List Decl). Tables ds text tokens n index outNames blocks (d .inputs) (d .gates) (d .outputs)) (sym (c .declared)) (h .tables z);
+          tables = subst (λ (ds : List Decl). Tables ds text tokens n index outNames blocks (d .inputs) (d .gates) (d .outputs)) (sym (c .declared)) h;
           sized = c .sized;
           once = e;
-          left = goes-on text (naming false [] (declsOf text)) _ (c .left) e;
+          left = goes-on text _ (c .left) e;
         }
 
 -- the first places are within the text too
@@ -74,7 +72,7 @@ inside-first {text} {cells} o h =
           subst (InText text) (sym (getD-take o cells i 0 (omega (arith, e, l)))) (h .inside i (omega (arith, e, l)));
     }
 
-module _ {text tokens : List ℕ} {n : ℕ} {index outNames blocks : List ℕ} {i g o : ℕ} (c : Naming text tokens n index outNames blocks i g o) where
+module _ {text tokens : List ℕ} {n : ℕ} {index outNames blocks : List ℕ} {i g o : ℕ} (c : Defining text tokens n index outNames blocks i g o) where
   -- "256 outputs"
   pub few-outs : o ≤ 256
   few-outs = omega (arith, c .tables .named .outputs, sizes-within (declsOf text) (c .sized) .outputs)
@@ -96,9 +94,9 @@ module _ {text tokens : List ℕ} {n : ℕ} {index outNames blocks : List ℕ} {
     all-known = h .found ∙ ap (all isFound) asked ∙ found-all ds (c .once) (c .sized) (outs ds)
 
     -- an output is undefined
-    pub output-refused : r ≡ false → readText text ≡ refused 11
+    pub output-refused : r ≡ false → readText text ≡ refused refusal.Undefined
     output-refused e =
-        refuses-when text (undefined ds) 10 (coverFaults (defs ds)) (c .left) (output-missing ds (c .once) (c .sized) (sym all-known ∙ e))
+        refuses-when text (undefined ds) refusal.Undefined (coverFaults (defs ds)) (c .left) (output-missing ds (c .once) (c .sized) (sym all-known ∙ e))
 
     -- none is
     pub outputs-found : r ≡ true → 256 ≤ length os → Resolving text tokens n index os′ blocks i g o
@@ -144,47 +142,47 @@ module _ {text tokens : List ℕ} {n : ℕ} {index os blocks : List ℕ} {i g o 
   few-placed =
       omega (arith, ap (sumOf placedCount) (c .tables .blocks-are), placed-within (defs (declsOf text)), sizes-within (declsOf text) (c .sized) .pins)
 
-  module _ {gates pinsIn : List ℕ} {p : Placed} (h : PlacedBy (signalIn (entriesOf text index (i + g))) (defsAt text tokens n blocks g) gates pinsIn p) where
-    -- whether all uses are defined
-    uses-known : p .found ≡ all (λ (x : Bytes). known x (ins (declsOf text) ++ map defines (defs (declsOf text)))) (flatMap usedNames (defs (declsOf text)))
-    uses-known =
-        h .found
-        ∙ ap₂ (λ (es : List Entry) (xs : List Def). all isFound (map (signalIn es) (flatMap usedNames xs))) (c .tables .entries-are) (c .tables .blocks-are)
-        ∙ found-all (declsOf text) (c .once) (c .sized) (flatMap usedNames (defs (declsOf text)))
+  -- whether all uses are defined
+  uses-known : allFound (signalIn (entriesOf text index (i + g))) (defsAt text tokens n blocks g)
+      ≡ all (λ (x : Bytes). known x (ins (declsOf text) ++ map defines (defs (declsOf text)))) (flatMap usedNames (defs (declsOf text)))
+  uses-known =
+      ap₂ (λ (es : List Entry) (xs : List Def). allFound (signalIn es) xs) (c .tables .entries-are) (c .tables .blocks-are)
+      ∙ found-all (declsOf text) (c .once) (c .sized) (flatMap usedNames (defs (declsOf text)))
 
+  module _ {gates pinsIn : List ℕ} where
     -- one is undefined
-    pub use-refused : p .found ≡ false → readText text ≡ refused 11
-    use-refused e =
-        refuses-when text (undefined (declsOf text)) 10 (coverFaults (defs (declsOf text))) (c .left)
-        (use-missing (declsOf text) (c .once) (c .sized) (sym uses-known ∙ e))
+    pub use-refused : {r : Refusal} → PlacedBy (signalIn (entriesOf text index (i + g))) (defsAt text tokens n blocks g) gates pinsIn (answer.Refused r) → readText text ≡ refused r
+    use-refused h =
+        let f = refused-found _ _ (h .counted) in
+        refuses-when text (undefined (declsOf text)) refusal.Undefined (coverFaults (defs (declsOf text))) (c .left)
+        (use-missing (declsOf text) (c .once) (c .sized) (sym uses-known ∙ f .0))
+        ∙ ap refused (sym (f .1))
 
-    module _ (e : p .found ≡ true) where
-      covers-left : readFault text ≡ coverFaults (defs (declsOf text))
-      covers-left =
-          passes-when text (undefined (declsOf text)) 11 (coverFaults (defs (declsOf text))) (c .left)
-          (none-missing (declsOf text) (c .once) (c .sized) (c .outs-known) (sym uses-known ∙ e))
+    -- none is
+    pub gates-placed : {used : ℕ} → PlacedBy (signalIn (entriesOf text index (i + g))) (defsAt text tokens n blocks g) gates pinsIn (answer.Pins used)
+        → Placing text tokens n blocks i g o gates pinsIn os used
+    gates-placed {used} h =
+        let f = pins-found _ _ (h .counted) in
+        record {
+          inputs = c .tables .inputs;
+          outputs = c .tables .outputs;
+          blocks-in = c .tables .blocks-in;
+          blocks-are = c .tables .blocks-are;
+          left =
+              passes-when text (undefined (declsOf text)) refusal.Undefined (coverFaults (defs (declsOf text))) (c .left)
+              (none-missing (declsOf text) (c .once) (c .sized) (c .outs-known) (sym uses-known ∙ f .0));
+          used-is = f .1 ∙ ap (sumOf placedCount) (c .tables .blocks-are);
+          gates-in =
+              subst (λ (xs : List Def). GatesIn gates pinsIn used (map (placed (look (declsOf text))) xs)) (c .tables .blocks-are)
+              (subst (λ (k : ℕ). GatesIn gates pinsIn k (map (placed (look (declsOf text))) (defsAt text tokens n blocks g))) (sym (f .1))
+              (h .gates-in (f .0) (look (declsOf text))
+              (subst (λ (es : List Entry). Signals (signalIn es) (look (declsOf text))) (sym (c .tables .entries-are)) (found-signal (declsOf text) (c .once) (c .sized)))));
+          outs-are = c .outs-are;
+        }
 
-      module _ {b : ℕ} (q : b ≡ coverFaults (defsAt text tokens n blocks g)) where
-        fault-is : readFault text ≡ b
-        fault-is = covers-left ∙ sym (q ∙ ap coverFaults (c .tables .blocks-are))
+-- ---- covers
 
-        -- a cover is refused
-        pub cover-refused : (b ≡ 0 → ⊥) → readText text ≡ refused b
-        cover-refused f = refused-by text b fault-is f
-
-        -- none is
-        pub gates-placed : b ≡ 0 → Placing text tokens n blocks i g o gates pinsIn os (p .pins)
-        gates-placed z =
-            record {
-              inputs = c .tables .inputs;
-              outputs = c .tables .outputs;
-              blocks-in = c .tables .blocks-in;
-              blocks-are = c .tables .blocks-are;
-              none = fault-is ∙ z;
-              used-is = h .pins e ∙ ap (sumOf placedCount) (c .tables .blocks-are);
-              gates-in =
-                  subst (λ (xs : List Def). GatesIn gates pinsIn (p .pins) (map (placed (look (declsOf text))) xs)) (c .tables .blocks-are)
-                  (h .gates-in e (look (declsOf text))
-                  (subst (λ (es : List Entry). Signals (signalIn es) (look (declsOf text))) (sym (c .tables .entries-are)) (found-signal (declsOf text) (c .once) (c .sized))));
-              outs-are = c .outs-are;
-            }
+module _ {text tokens : List ℕ} {n : ℕ} {blocks : List ℕ} {i g o : ℕ} {gates pinsIn os : List ℕ} {used : ℕ} (c : Placing text tokens n blocks i g o gates pinsIn os used) where
+  -- what the covers are refused for, the text is
+  pub covers-left : readFault text ≡ coverFaults (defsAt text tokens n blocks g)
+  covers-left = c .left ∙ sym (ap coverFaults (c .blocks-are))

@@ -3,8 +3,9 @@ use mathlib.Core.Path.{_≡_, ap, _∙_}
 use mathlib.Core.Bool.{Bool, true}
 use mathlib.Core.List.{List}
 use mathlib.Core.Logic.{_↔_}
-use Prim.Native.Nat.{ℕ}
 use Rattle.lists.specs.Lists.{if_then_else_, Bytes}
+use Rattle.refusals.specs.declared.Refusal.{Refusal}
+use Rattle.refusals.specs.declared.Refusal.the-variants as refusal
 use Rattle.network.specs.Net.{Net}
 use Rattle.network.specs.Cells.{countsOf}
 use Rattle.network.specs.Settle.{run}
@@ -24,12 +25,12 @@ read-means = model.read-means
 -- with enough cells the answer and the cells are those of `readText`'s result
 pub read-answers : (text : Bytes) (n : Lengths) → enough n ≡ true → readInto text n ≡ filled (readText text) n
 unfolding readInto
-read-answers text n e = ap (λ (b : Bool). filled (if b then readText text else refused 1) n) e
+read-answers text n e = ap (λ (b : Bool). filled (if b then readText text else refused refusal.TooFewCells) n) e
 
 -- a network that is read is answered with its counts
 pub read-counts : (text : Bytes) (net : Net) (n : Lengths) → enough n ≡ true → readText text ≡ read net → readInto text n .answer ≡ Read (countsOf net)
 read-counts text net n e r = ap (λ (o : ReadOutcome). o .answer) (read-answers text n e ∙ ap (λ (x : Result). filled x n) r)
 
--- a refusal is answered with its number
-pub refusal-number : (text : Bytes) (k : ℕ) (n : Lengths) → enough n ≡ true → readText text ≡ refused k → readInto text n .answer ≡ Refused k
-refusal-number text k n e r = ap (λ (o : ReadOutcome). o .answer) (read-answers text n e ∙ ap (λ (x : Result). filled x n) r)
+-- a refusal is answered
+pub refusal-answered : (text : Bytes) (r : Refusal) (n : Lengths) → enough n ≡ true → readText text ≡ refused r → readInto text n .answer ≡ Refused r
+refusal-answered text r n e q = ap (λ (o : ReadOutcome). o .answer) (read-answers text n e ∙ ap (λ (x : Result). filled x n) q)

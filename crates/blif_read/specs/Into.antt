@@ -5,6 +5,7 @@ use mathlib.Core.List.{List, [], map}
 use Prim.Native.Nat.{ℕ, _*_}
 use lib.Dec.{leb}
 use Rattle.lists.specs.Lists.{if_then_else_, Bytes, zeros, over}
+use Rattle.refusals.specs.declared.Refusal.the-variants as refusal
 use Rattle.signal.specs.Cell.{sigCell}
 use Rattle.network.specs.Cells.{gateWidth, maxGates, maxPins, maxOutputs, gateCells, pinCells, countsOf}
 use Rattle.blif_model.specs.Read.{Result, read, refused, readText}
@@ -37,7 +38,7 @@ enough n =
 
 -- an answer, and what the five slices hold then
 pub record ReadOutcome : Type 0 where
-  -- what was answered: the counts, or a refusal's number
+  -- what was answered: the counts, or a refusal
   pub answer : ReadAnswer
   -- the gates' cells
   pub gates : List ℕ
@@ -62,12 +63,12 @@ leaving a gs ps os n =
 -- "A refusal gives its number; all lent cells are then zero. Success gives the input, gate, pin and output counts .. Pins here are the
 -- sorted gates' inputs, laid in gate order"
 abbrev pub filled : Result → Lengths → ReadOutcome
-filled (refused k) n = leaving (Refused k) [] [] [] n
+filled (refused r) n = leaving (Refused r) [] [] [] n
 filled (read net) n = leaving (Read (countsOf net)) (gateCells 0 (net .gates)) (pinCells (net .gates)) (map sigCell (net .outputs)) n
 
 -- the result for slices of these lengths: refusal 1 comes first
 abbrev pub answered : Bytes → Lengths → Result
-answered text n = if enough n then readText text else refused 1
+answered text n = if enough n then readText text else refused refusal.TooFewCells
 
 -- what reading a text answers and leaves in lent slices of these lengths
 unfoldable pub readInto : Bytes → Lengths → ReadOutcome

@@ -6,6 +6,9 @@ use mathlib.Core.List.{List, [], _++_, map}
 use Prim.Native.Nat.{ℕ, _*_, _≤_}
 use lib.ListN.{length, take}
 use Rattle.lists.specs.Lists.{Bytes, all, known, sumOf}
+use Rattle.refusals.specs.Order.{_then_, when}
+use Rattle.refusals.specs.declared.Refusal.the-variants as refusal
+use Rattle.refusals.specs.declared.Checked.the-variants.{Fine}
 use Rattle.signal.specs.Cell.{sigCell}
 use Rattle.network.specs.declared.Counts.{Counts}
 use Rattle.network.specs.Cells.{maxGates, maxPins, maxOutputs, gateWidth, lent, countsOf, Laid}
@@ -15,20 +18,20 @@ use Rattle.blif_text.specs.Decls as names
 use Rattle.blif_text.specs.Places.{maxText, maxTokens}
 use Rattle.blif_text.specs.Walk.{stmtsFrom, StmtsAt}
 use Rattle.blif_text.specs.Blocks.{Blocks, defsAt}
-use Rattle.blif_model.specs.Read.{_then_, when, tooLarge, naming, undefined, coverFaults, declFault, readFault, Result, read, refused, look, readText}
+use Rattle.blif_model.specs.Read.{tooLarge, naming, undefined, coverFaults, declFault, readFault, Result, read, refused, look, readText}
 use Rattle.blif_model.specs.Working.{GatesIn, placed, placedCount}
-use Rattle.blif_decls.specs.Tables.{Named}
+use Rattle.blif_decls.specs.Tables.{Named, Tables}
 use Rattle.blif_read.specs.declared.ReadAnswer.{ReadAnswer}
 use Rattle.blif_read.specs.declared.ReadAnswer.the-variants.{Read, Refused}
 
 -- the counts in an answer, none in a refusal
 abbrev pub countsIn : ReadAnswer → Counts
 countsIn (Read counts) = counts
-countsIn (Refused k) = record { inputs = 0; gates = 0; pins = 0; outputs = 0 }
+countsIn (Refused r) = record { inputs = 0; gates = 0; pins = 0; outputs = 0 }
 
 -- a result as an answer and cells: a network's cells in use are laid, a refusal says nothing of them
 abbrev pub Holds : Result → ReadAnswer → List ℕ → List ℕ → List ℕ → Type 0
-Holds (refused k) a gs ps os = a ≡ Refused k
+Holds (refused r) a gs ps os = a ≡ Refused r
 Holds (read net) a gs ps os = (a ≡ Read (countsOf net)) × Laid net (lent (countsOf net) gs ps os)
 
 -- as many cells are lent as refusal 1 asks for
@@ -62,7 +65,20 @@ pub record Sized (text tokens : List ℕ) (n : ℕ) : Type 0 where
   -- within the sizes
   pub sized : tooLarge (declsOf text) ≡ false
   -- what is left of the refusals
-  pub left : readFault text ≡ (naming false [] (declsOf text) then when (undefined (declsOf text)) 11 then coverFaults (defs (declsOf text)))
+  pub left :
+      readFault text
+      ≡ (naming false [] (declsOf text) then when (undefined (declsOf text)) refusal.Undefined then coverFaults (defs (declsOf text)))
+
+-- by no refusal up to 10; the names are in the index, and the outputs' names in the cells `outNames`
+pub record Defining (text tokens : List ℕ) (n : ℕ) (index outNames blocks : List ℕ) (i g o : ℕ) : Type 0 where
+  -- the tables are the text's
+  pub tables : Tables (declsOf text) text tokens n index outNames blocks i g o
+  -- within the sizes
+  pub sized : tooLarge (declsOf text) ≡ false
+  -- no name is defined twice
+  pub once : naming false [] (declsOf text) ≡ Fine
+  -- what is left of the refusals
+  pub left : readFault text ≡ (when (undefined (declsOf text)) refusal.Undefined then coverFaults (defs (declsOf text)))
 
 -- by no refusal up to 10, and no output is undefined; the names are in the index, and the outputs' signals in their cells
 pub record Resolving (text tokens : List ℕ) (n : ℕ) (index outs blocks : List ℕ) (i g o : ℕ) : Type 0 where
@@ -71,15 +87,15 @@ pub record Resolving (text tokens : List ℕ) (n : ℕ) (index outs blocks : Lis
   -- within the sizes
   pub sized : tooLarge (declsOf text) ≡ false
   -- no name is defined twice
-  pub once : naming false [] (declsOf text) ≡ 0
+  pub once : naming false [] (declsOf text) ≡ Fine
   -- every output is defined
   pub outs-known : all (λ (x : Bytes). known x (ins (declsOf text) ++ map defines (defs (declsOf text)))) (names.outs (declsOf text)) ≡ true
   -- the outputs' signals
   pub outs-are : take o outs ≡ map (λ (x : Bytes). sigCell (look (declsOf text) x)) (names.outs (declsOf text))
   -- what is left of the refusals
-  pub left : readFault text ≡ (when (undefined (declsOf text)) 11 then coverFaults (defs (declsOf text)))
+  pub left : readFault text ≡ (when (undefined (declsOf text)) refusal.Undefined then coverFaults (defs (declsOf text)))
 
--- by no refusal up to 13; the gates first placed stand in the working cells, and the outputs' signals in theirs
+-- by no refusal up to 11; the gates first placed stand in the working cells, and the outputs' signals in theirs
 pub record Placing (text tokens : List ℕ) (n : ℕ) (blocks : List ℕ) (i g o : ℕ) (gates pinsIn outs : List ℕ) (used : ℕ) : Type 0 where
   -- the inputs are counted
   pub inputs : i ≡ length (ins (declsOf text))
@@ -89,8 +105,8 @@ pub record Placing (text tokens : List ℕ) (n : ℕ) (blocks : List ℕ) (i g o
   pub blocks-in : Blocks text tokens n blocks g
   -- which are the latches and covers
   pub blocks-are : defsAt text tokens n blocks g ≡ defs (declsOf text)
-  -- no refusal takes the text
-  pub none : readFault text ≡ 0
+  -- what is left of the refusals
+  pub left : readFault text ≡ coverFaults (defs (declsOf text))
   -- the pins are counted
   pub used-is : used ≡ sumOf placedCount (defs (declsOf text))
   -- the gates

@@ -1,5 +1,6 @@
 // The BLIF reader (Quaigh's src/io/blif.rs: read_blif).
 use blif_covers::check_covers;
+use blif_decls::Declared;
 use blif_decls::Defined;
 use blif_decls::build_name_to_sig;
 use blif_gates::build_covers;
@@ -7,6 +8,7 @@ use blif_sizes::too_large;
 use blif_text::MAX_TEXT;
 use blif_text::first_bad;
 use blif_text::mark_tokens;
+use blif_uses::Placed;
 use blif_uses::place_gates;
 use blif_uses::resolve_names;
 use lists::fill_zero;
@@ -15,20 +17,23 @@ use network::GATE_CELLS;
 use network::MAX_GATES;
 use network::MAX_OUTPUTS;
 use network::MAX_PINS;
+use refusals::Checked;
+use refusals::Refusal;
 use sort::Sorted;
 use sort::topo_sort;
 ghost use mathlib.Core.Path.{_≡_};
 ghost use lib.Dec.{leb};
 ghost use lib.ListN.{length, take};
 ghost use Rattle.lists.specs.Lists.{any, over, zeros};
-ghost use Rattle.blif_model.specs.Read.{readText};
+ghost use Rattle.refusals.specs.declared.Checked.the-variants.{Fine};
+ghost use Rattle.blif_model.specs.Read.{readFault, readText};
 ghost use Rattle.blif_read.specs.Into.{lengths, enough, readOutcome, readInto, answered};
-ghost use Rattle.blif_read.specs.Stages.{countsIn, Holds, Enough, PlainText, Sized, Resolving, Placing};
+ghost use Rattle.blif_read.specs.Stages.{countsIn, Holds, Enough, PlainText, Sized, Defining, Resolving, Placing};
 
-// The network's counts, or a refusal's number.
+// The network's counts, or a refusal.
 pub enum ReadAnswer {
     Read(Counts),
-    Refused(u32),
+    Refused(Refusal),
 }
 
 // Whether slices of these lengths have as many cells as reading may need.
@@ -74,7 +79,7 @@ fn read_built(
     text: &[u8],
     n: usize,
     used: usize,
-    d: Defined,
+    d: Declared,
     gates: &mut [u32],
     pins: &mut [u32],
     outputs: &mut [u32],
@@ -82,7 +87,7 @@ fn read_built(
     work_pins: &mut [u32],
 ) -> ReadAnswer
     requires { ⌜ Enough (now gates) (now pins) (now outputs) (now «work_gates») (now «work_pins») ⌝ }
-    requires { ⌜ Placing (now text) (now pins) n (now gates) (d .inputs) (d .gates) (d .outputs) (now «work_gates») (now «work_pins») (now outputs) used ⌝ }
+    requires { ⌜ Placing (now text) (now pins) n (now gates) (d .inputs) (d .gates) (d .outputs) (now «work_gates») (now «work_pins») (now outputs) used × (readFault (now text) ≡ Fine) ⌝ }
     ensures { λ r. ⌜ Holds (readText (now (text .entry))) r (now (gates .exit)) (now (pins .exit)) (now (outputs .exit)) ⌝ }
 {
     let b = build_covers(text, pins, n, gates, d.gates, work_gates, work_pins, used);
@@ -93,7 +98,7 @@ fn read_built(
         outputs: d.outputs,
     };
     match topo_sort(counts, work_gates, work_pins, outputs, gates, pins) {
-        Sorted::Loop => ReadAnswer::Refused(14),
+        Sorted::Loop => ReadAnswer::Refused(Refusal::CombinationalLoop),
         Sorted::Order(used_pins) => ReadAnswer::Read(Counts {
             inputs: d.inputs,
             gates: b.gates,
@@ -103,12 +108,45 @@ fn read_built(
     }
 }
 
-// Places the gates and checks the covers: refusals 11 to 13.
+// Checks the covers: refusals 12 and 13.
+fn read_covers(
+    text: &[u8],
+    n: usize,
+    used: usize,
+    d: Declared,
+    gates: &mut [u32],
+    pins: &mut [u32],
+    outputs: &mut [u32],
+    work_gates: &mut [u32],
+    work_pins: &mut [u32],
+) -> ReadAnswer
+    requires { ⌜ Enough (now gates) (now pins) (now outputs) (now «work_gates») (now «work_pins») ⌝ }
+    requires { ⌜ Placing (now text) (now pins) n (now gates) (d .inputs) (d .gates) (d .outputs) (now «work_gates») (now «work_pins») (now outputs) used ⌝ }
+    ensures { λ r. ⌜ Holds (readText (now (text .entry))) r (now (gates .exit)) (now (pins .exit)) (now (outputs .exit)) ⌝ }
+{
+    let bad = check_covers(text, pins, n, gates, d.gates);
+    if let Checked::Refused(r) = bad {
+        return ReadAnswer::Refused(r);
+    }
+    read_built(
+        text,
+        n,
+        used,
+        d,
+        gates,
+        pins,
+        outputs,
+        work_gates,
+        work_pins,
+    )
+}
+
+// Places the gates: refusal 11.
 fn read_blocks(
     text: &[u8],
     n: usize,
     index: &[u32],
-    d: Defined,
+    d: Declared,
     gates: &mut [u32],
     pins: &mut [u32],
     outputs: &mut [u32],
@@ -131,17 +169,46 @@ fn read_blocks(
         work_gates,
         work_pins,
     );
-    if !placed.found {
-        return ReadAnswer::Refused(11);
+    match placed {
+        Placed::Refused(r) => ReadAnswer::Refused(r),
+        Placed::Pins(used) => read_covers(
+            text,
+            n,
+            used,
+            d,
+            gates,
+            pins,
+            outputs,
+            work_gates,
+            work_pins,
+        ),
     }
-    let bad = check_covers(text, pins, n, gates, g);
-    if bad != 0 {
-        return ReadAnswer::Refused(bad);
+}
+
+// Gives each output its signal: refusal 11.
+fn read_outputs(
+    text: &[u8],
+    n: usize,
+    index: &[u32],
+    d: Declared,
+    gates: &mut [u32],
+    pins: &mut [u32],
+    outputs: &mut [u32],
+    work_gates: &mut [u32],
+    work_pins: &mut [u32],
+) -> ReadAnswer
+    requires { ⌜ Enough (now gates) (now pins) (now outputs) (now «work_gates») (now «work_pins») ⌝ }
+    requires { ⌜ Defining (now text) (now pins) n (now index) (now «work_pins») (now gates) (d .inputs) (d .gates) (d .outputs) ⌝ }
+    ensures { λ r. ⌜ Holds (readText (now (text .entry))) r (now (gates .exit)) (now (pins .exit)) (now (outputs .exit)) ⌝ }
+{
+    let o = d.outputs;
+    if !resolve_names(text, index, d.inputs + d.gates, &work_pins[..o], outputs) {
+        return ReadAnswer::Refused(Refusal::Undefined);
     }
-    read_built(
+    read_blocks(
         text,
         n,
-        placed.pins,
+        index,
         d,
         gates,
         pins,
@@ -151,7 +218,7 @@ fn read_blocks(
     )
 }
 
-// Enters the names and gives each output its signal: refusals 7 to 11.
+// Enters the names: refusals 7 to 10.
 fn read_names(
     text: &[u8],
     n: usize,
@@ -166,25 +233,21 @@ fn read_names(
     ensures { λ r. ⌜ Holds (readText (now (text .entry))) r (now (gates .exit)) (now (pins .exit)) (now (outputs .exit)) ⌝ }
 {
     let mut index = [0u32; 6144];
-    let d = build_name_to_sig(text, pins, n, &mut index, work_pins, gates);
-    if d.refused != 0 {
-        return ReadAnswer::Refused(d.refused);
+    let defined = build_name_to_sig(text, pins, n, &mut index, work_pins, gates);
+    match defined {
+        Defined::Refused(r) => ReadAnswer::Refused(r),
+        Defined::Names(d) => read_outputs(
+            text,
+            n,
+            &index,
+            d,
+            gates,
+            pins,
+            outputs,
+            work_gates,
+            work_pins,
+        ),
     }
-    let o = d.outputs;
-    if !resolve_names(text, &index, d.inputs + d.gates, &work_pins[..o], outputs) {
-        return ReadAnswer::Refused(11);
-    }
-    read_blocks(
-        text,
-        n,
-        &index,
-        d,
-        gates,
-        pins,
-        outputs,
-        work_gates,
-        work_pins,
-    )
 }
 
 // Marks the tokens: refusals 4 to 6.
@@ -202,11 +265,11 @@ fn read_tokens(
 {
     let n = mark_tokens(text, pins);
     let bad = first_bad(text, pins, n);
-    if bad != 0 {
-        return ReadAnswer::Refused(bad);
+    if let Checked::Refused(r) = bad {
+        return ReadAnswer::Refused(r);
     }
     if too_large(text, pins, n) {
-        return ReadAnswer::Refused(6);
+        return ReadAnswer::Refused(Refusal::SizePassed);
     }
     read_names(text, n, gates, pins, outputs, work_gates, work_pins)
 }
@@ -224,10 +287,10 @@ fn read_text(
     ensures { λ r. ⌜ Holds (readText (now (text .entry))) r (now (gates .exit)) (now (pins .exit)) (now (outputs .exit)) ⌝ }
 {
     if text.len() > MAX_TEXT {
-        return ReadAnswer::Refused(2);
+        return ReadAnswer::Refused(Refusal::TextTooLong);
     }
     if has_high_byte(text) {
-        return ReadAnswer::Refused(3);
+        return ReadAnswer::Refused(Refusal::HighByte);
     }
     read_tokens(text, gates, pins, outputs, work_gates, work_pins)
 }
@@ -250,7 +313,7 @@ fn read_cells(
         work_gates.len(),
         work_pins.len(),
     ) {
-        return ReadAnswer::Refused(1);
+        return ReadAnswer::Refused(Refusal::TooFewCells);
     }
     read_text(text, gates, pins, outputs, work_gates, work_pins)
 }

@@ -4,12 +4,13 @@ use mathlib.Core.Bool.{true, false}
 use mathlib.Core.List.{List, [], _∷_, _++_, append-nil}
 use Prim.Native.Nat.{ℕ, _+_, _≤_}
 use native.Mathlib.Omega.{arith}
-use lib.ListN.{length, take, length-append}
-use lib.Seq.{slice, append-snoc, take-at}
-use Rattle.lists.specs.Lists.{Bytes}
+use lib.ListN.{length, take, length-append, length-map}
+use lib.Seq.{slice, append-snoc, take-at, length-slice}
+use Rattle.lists.specs.Lists.{Bytes, sumOf}
+use Rattle.lists.proofs.Counting.{sum-append}
 use Rattle.blif_text.specs.Decls.{cubes, decls}
 use Rattle.blif_text.specs.Statements.{Stmt}
-use Rattle.blif_text.specs.Places.{tokensOf}
+use Rattle.blif_text.specs.Places.{tokenOf, tokensOf}
 use Rattle.blif_text.specs.Walk.{rowsFrom, stmtsFrom, StmtsAt}
 use Rattle.blif_text.specs.declared.Statement.{Statement}
 use Rattle.blif_text.specs.declared.Statement.the-variants as place
@@ -63,6 +64,7 @@ no-lines = refl
 pub record Passed (text tokens : List ℕ) (n at count i : ℕ) : Type 0 where
   pub seen : List (List Bytes)
   pub low : at + count ≤ i
+  pub place : i ≡ at + sumOf length seen
   pub rest : StmtsAt text tokens n i
   pub rows : rowsFrom text tokens n at ≡ seen ++ rowsFrom text tokens n i
   pub lines : cubes (stmtsFrom text tokens n at) ≡ seen ++ cubes (stmtsFrom text tokens n i)
@@ -71,7 +73,7 @@ pub record Passed (text tokens : List ℕ) (n at count i : ℕ) : Type 0 where
 
 -- before the first
 pub passed-start : {text tokens : List ℕ} {n at : ℕ} → StmtsAt text tokens n at → Passed text tokens n at 0 at
-passed-start c = record { seen = []; low = omega arith; rest = c; rows = refl; lines = refl; counted = refl; same = refl }
+passed-start c = record { seen = []; low = omega arith; place = omega arith; rest = c; rows = refl; lines = refl; counted = refl; same = refl }
 
 module _ {text tokens : List ℕ} {n at count i : ℕ} (c : Passed text tokens n at count i) where
   -- one more
@@ -81,6 +83,14 @@ module _ {text tokens : List ℕ} {n at count i : ℕ} (c : Passed text tokens n
       record {
         seen = c .seen ++ (row ∷ []);
         low = omega (arith, c .low, w .low);
+        place =
+            omega (
+              arith,
+              c .place,
+              w .low,
+              sum-append length (c .seen) (row ∷ []),
+              length-map (slice i end tokens) (tokenOf text) ∙ length-slice i end tokens (omega (arith, w .rest .rows .high, w .rest .rows .places .room)),
+            );
         rest = w .rest;
         rows = c .rows ∙ ap (λ (x : List (List Bytes)). c .seen ++ x) (w .rows) ∙ sym (append-snoc (c .seen) row (rowsFrom text tokens n end));
         lines =
@@ -94,10 +104,12 @@ module _ {text tokens : List ℕ} {n at count i : ℕ} (c : Passed text tokens n
   none-left : cubes (stmtsFrom text tokens n i) ≡ [] → LinesAt text tokens n at count i
   none-left e =
       let are : cubes (stmtsFrom text tokens n at) ≡ c .seen = c .lines ∙ ap (λ (x : List (List Bytes)). c .seen ++ x) e ∙ append-nil (c .seen) in
+      let first : take count (rowsFrom text tokens n at) ≡ c .seen = ap (take count) (c .rows) ∙ take-at (c .seen) (rowsFrom text tokens n i) count (sym (c .counted)) in
       record {
         low = c .low;
+        behind = c .place ∙ ap (λ (x : List (List Bytes)). at + sumOf length x) (sym first);
         rest = c .rest;
-        lines = are ∙ sym (ap (take count) (c .rows) ∙ take-at (c .seen) (rowsFrom text tokens n i) count (sym (c .counted)));
+        lines = are ∙ sym first;
         enough = omega (arith, c .counted, ap length (c .rows), length-append (c .seen) (rowsFrom text tokens n i));
         counted = c .counted ∙ sym (ap length are);
         same = c .same;

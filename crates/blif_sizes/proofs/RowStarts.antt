@@ -7,17 +7,19 @@ use native.Mathlib.Numerals.{add-one}
 use lib.ListN.{length, getD, length-map}
 use lib.Seq.{slice, slice-cons, slice-empty, length-slice}
 use Rattle.lists.specs.Lists.{Bytes}
+use Rattle.refusals.specs.declared.Checked.the-variants.{Fine}
+use Rattle.refusals.proofs.Order.{refused-ne-fine}
 use Rattle.blif_text.specs.Statements.{Stmt, Parsed, ok, bad, modelStmt, latchStmt, firstBad, stmts, byKeyword}
 use Rattle.blif_text.specs.Rows.{rowStmt}
 use Rattle.blif_text.specs.Places.{tokenOf, tokensOf, grouped}
 use Rattle.blif_text.specs.Keywords.{keywordOf}
-use Rattle.blif_text.specs.PlacedStatements.{said, RowTo}
-use Rattle.blif_text.specs.Walk.{stmtsFrom, RowsAt, StmtsAt}
+use Rattle.blif_text.specs.PlacedStatements.{said, RowTo, statementAt, refusalIn}
+use Rattle.blif_text.specs.Walk.{rowsFrom, stmtsFrom, RowsAt, StmtsAt}
 use Rattle.blif_text.specs.declared.Keyword.{Keyword}
 use Rattle.blif_text.specs.declared.Keyword.the-variants as key
 use Rattle.blif_text.specs.declared.Statement.{Statement}
 use Rattle.blif_text.specs.declared.Statement.the-variants as place
-use Rattle.blif_text.proofs.StatementLaws.{row-by-keyword}
+use Rattle.blif_text.proofs.StatementLaws.{row-by-keyword, statement-says}
 use Rattle.blif_text.proofs.RowWalk.{rows-end, rows-are}
 use Rattle.blif_text.proofs.RefusalLaws.{stmts-are, stmts-said, stmts-next}
 use Rattle.blif_sizes.specs.Rows.{names, Starts, RowIs}
@@ -33,21 +35,21 @@ Has (ok (Stmt.outputs ns)) k ts = ns ≡ ts
 Has (ok (Stmt.names ns)) k ts = ns ≡ ts
 Has (ok (Stmt.latch d q)) k ts = (us : List Bytes) × (ts ≡ d ∷ q ∷ us)
 Has (ok (Stmt.cube us)) k ts = us ≡ k ∷ ts
-Has (bad n) k ts = 0 < n
+Has (bad r) k ts = Unit {0}
 
 keyword-has : (w : Keyword) (k : Bytes) (ts : List Bytes) → Has (byKeyword w k ts) k ts
 unfolding modelStmt latchStmt
-keyword-has key.Model k [] = omega arith
+keyword-has key.Model k [] = tt
 keyword-has key.Model k (n ∷ ts) = tt
 keyword-has key.Inputs k ts = refl
 keyword-has key.Outputs k ts = refl
-keyword-has key.Latch k [] = omega arith
-keyword-has key.Latch k (d ∷ []) = omega arith
+keyword-has key.Latch k [] = tt
+keyword-has key.Latch k (d ∷ []) = tt
 keyword-has key.Latch k (d ∷ q ∷ ts) = (ts, refl)
 keyword-has key.Names k ts = refl
 keyword-has key.End k ts = tt
 keyword-has key.Exdc k ts = tt
-keyword-has key.Unsupported k ts = omega arith
+keyword-has key.Unsupported k ts = tt
 keyword-has key.Cube k ts = refl
 
 -- how many names a row has
@@ -69,7 +71,7 @@ unfolding grouped
 none-loose text = refl
 
 -- no statement is bad
-none-bad : firstBad [] ≡ 0
+none-bad : firstBad [] ≡ Fine
 unfolding firstBad
 none-bad = refl
 
@@ -120,24 +122,28 @@ module _ {text cells : List ℕ} {n at r : ℕ} (c : StmtsAt text cells n at) (h
       let y : tokenOf text (getD cells (at + 2) 0) ≡ q = cc in
       cc
 
-  row-starts : (s : Statement) → said text cells s ≡ rowStmt (tokensOf text (slice at r cells)) → Starts text cells n at r s
-  unfolding stmts
-  row-starts place.Model q = stmts-are c h w place.Model q
-  row-starts place.End q = stmts-are c h w place.End q
-  row-starts place.Exdc q = stmts-are c h w place.Exdc q
-  row-starts (place.Inputs run) q = stmts-are c h w (place.Inputs run) q ∙ ap (λ (ns : List Bytes). Stmt.inputs ns ∷ stmtsFrom text cells n r) (row-has (place.Inputs run) q)
-  row-starts (place.Outputs run) q = stmts-are c h w (place.Outputs run) q ∙ ap (λ (ns : List Bytes). Stmt.outputs ns ∷ stmtsFrom text cells n r) (row-has (place.Outputs run) q)
-  row-starts (place.Names run) q = stmts-are c h w (place.Names run) q ∙ ap (λ (ns : List Bytes). Stmt.names ns ∷ stmtsFrom text cells n r) (row-has (place.Names run) q)
-  row-starts (place.Latch f) q =
-      let a = row-has (place.Latch f) q in
-      let l : at + 3 ≤ r = omega (arith, sym (names-count text cells at r within) ∙ ap length (a .1)) in
-      (stmts-are c h w (place.Latch f) q ∙ latch-is _ _ (a .0) (a .1) l, l)
-  row-starts (place.Cube run) q =
-      stmts-are c h w (place.Cube run) q ∙ ap (λ (ns : List Bytes). Stmt.cube ns ∷ stmtsFrom text cells n r) (row-has (place.Cube run) q ∙ sym (tokens-from at (w .low)))
-  row-starts (place.Refused m) q =
-      let z : m ≡ 0 = stmts-said c h w (place.Refused m) q in
-      let l : 0 < m = row-has (place.Refused m) q in
-      absurd (let y : ⊥ = omega arith in y)
+  -- of the row's statement
+  has : {s : Statement} → s ≡ statementAt text cells at r → Has (said text cells s) first (names text cells at r)
+  has {s} e = row-has s (ap (said text cells) e ∙ statement-says text cells (w .low) within)
 
-  pub row-is : (s : Statement) → said text cells s ≡ rowStmt (tokensOf text (slice at r cells)) → RowIs text cells n at r s
-  row-is s q = record { low = w .low; rest = stmts-next c h w s q; rows = rows-are (c .rows) h w; starts = row-starts s q }
+  -- the row's statement, then the others
+  are : {s : Statement} → s ≡ statementAt text cells at r → stmtsFrom text cells n at ≡ stmts (said text cells s ∷ map rowStmt (rowsFrom text cells n r))
+  are e = stmts-are c h w ∙ ap (λ (t : Statement). stmts (said text cells t ∷ map rowStmt (rowsFrom text cells n r))) (sym e)
+
+  row-starts : (s : Statement) → s ≡ statementAt text cells at r → Starts text cells n at r s
+  unfolding stmts
+  row-starts place.Model e = are e
+  row-starts place.End e = are e
+  row-starts place.Exdc e = are e
+  row-starts (place.Inputs run) e = are e ∙ ap (λ (ns : List Bytes). Stmt.inputs ns ∷ stmtsFrom text cells n r) (has e)
+  row-starts (place.Outputs run) e = are e ∙ ap (λ (ns : List Bytes). Stmt.outputs ns ∷ stmtsFrom text cells n r) (has e)
+  row-starts (place.Names run) e = are e ∙ ap (λ (ns : List Bytes). Stmt.names ns ∷ stmtsFrom text cells n r) (has e)
+  row-starts (place.Latch f) e =
+      let a = has e in
+      let l : at + 3 ≤ r = omega (arith, sym (names-count text cells at r within) ∙ ap length (a .1)) in
+      (are e ∙ latch-is _ _ (a .0) (a .1) l, l)
+  row-starts (place.Cube run) e = are e ∙ ap (λ (ns : List Bytes). Stmt.cube ns ∷ stmtsFrom text cells n r) (has e ∙ sym (tokens-from at (w .low)))
+  row-starts (place.Refused k) e = refused-ne-fine (ap refusalIn e ∙ stmts-said c h w)
+
+  pub row-is : {s : Statement} → s ≡ statementAt text cells at r → RowIs text cells n at r s
+  row-is {s} e = record { low = w .low; rest = stmts-next c h w; rows = rows-are (c .rows) h w; is = e; starts = row-starts s e }

@@ -5,10 +5,11 @@ use mathlib.Core.List.{List, _∷_}
 use Prim.Native.Nat.{ℕ, _+_, _≤_, _<_}
 use lib.ListN.{length, getD, take}
 use lib.Seq.{slice}
-use Rattle.lists.specs.Lists.{Bytes}
+use Rattle.lists.specs.Lists.{Bytes, sumOf}
 use Rattle.blif_text.specs.Statements.{Stmt}
 use Rattle.blif_text.specs.Decls.{cubes, decls}
 use Rattle.blif_text.specs.Places.{tokenOf, tokensOf}
+use Rattle.blif_text.specs.PlacedStatements.{statementAt}
 use Rattle.blif_text.specs.Walk.{rowsFrom, stmtsFrom, StmtsAt}
 use Rattle.blif_text.specs.declared.Statement.{Statement}
 use Rattle.blif_text.specs.declared.Statement.the-variants as place
@@ -39,7 +40,9 @@ pub record RowIs (text tokens : List ℕ) (n at end : ℕ) (s : Statement) : Typ
   pub rest : StmtsAt text tokens n end
   -- its tokens are the first row
   pub rows : rowsFrom text tokens n at ≡ tokensOf text (slice at end tokens) ∷ rowsFrom text tokens n end
-  -- it is the first statement
+  -- it is the statement of the row
+  pub is : s ≡ statementAt text tokens at end
+  -- which is the first one
   pub starts : Starts text tokens n at end s
 
 -- whether a statement is a cube line
@@ -58,6 +61,8 @@ isCube (place.Refused n) = false
 pub record LinesAt (text tokens : List ℕ) (n at count end : ℕ) : Type 0 where
   -- each takes a token
   pub low : at + count ≤ end
+  -- the place behind them is as many tokens on as they have
+  pub behind : end ≡ at + sumOf length (take count (rowsFrom text tokens n at))
   -- statements stand behind them
   pub rest : StmtsAt text tokens n end
   -- the lines are the first rows

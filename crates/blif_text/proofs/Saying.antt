@@ -10,6 +10,8 @@ use borrow.Author.Tests.{eqb-false, leb-true, lt-leb, ne-eqb, ltb-true, not-true
 use Rattle.lists.specs.Lists.{Bytes, bytes, same, all, any}
 use Rattle.lists.proofs.Tests.{and-left, and-right, and-false}
 use Rattle.lists.proofs.Every.{Every, every-nil, every-cons, every-append, every-of, every-test, every-no, any-append}
+use Rattle.refusals.specs.Order.{_then_}
+use Rattle.refusals.specs.declared.Checked.the-variants.{Fine}
 use Rattle.blif_text.specs.Lines.{cut, continues, joined, isBlank, nonEmpty, tokens}
 use Rattle.blif_text.specs.Keywords.{keywordOf}
 use Rattle.blif_text.specs.Statements.{Stmt, Parsed, ok, stmtOf, latchStmt, parsedLine, parsed, stmts, firstBad}
@@ -156,7 +158,7 @@ unfolding stmts
 stmts-ok [] = refl
 stmts-ok (s ∷ ss) = ap (λ (l : List Stmt). s ∷ l) (stmts-ok ss)
 
-pub none-bad : (ss : List Stmt) → firstBad (map ok ss) ≡ 0
-unfolding firstBad
+pub none-bad : (ss : List Stmt) → firstBad (map ok ss) ≡ Fine
+unfolding firstBad _then_
 none-bad [] = refl
 none-bad (s ∷ ss) = none-bad ss

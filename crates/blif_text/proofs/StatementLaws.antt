@@ -6,13 +6,15 @@ use native.Mathlib.Omega.{arith}
 use native.Mathlib.Numerals.{add-one}
 use lib.ListN.{length, getD, take, drop, drop-of-length-le}
 use lib.Seq.{slice, slice-cons, length-take-le}
+use borrow.Author.Tests.{lt-ltb, le-ltb}
 use Rattle.lists.specs.Lists.{Bytes}
+use Rattle.refusals.specs.declared.Refusal.the-variants as refusal
 use Rattle.blif_text.specs.Statements.{ok, bad, modelStmt, latchStmt, byKeyword, stmtOf}
 use Rattle.blif_text.specs.Statements as stmt
 use Rattle.blif_text.specs.Rows.{rowStmt}
 use Rattle.blif_text.specs.Places.{tokenOf, tokensOf}
 use Rattle.blif_text.specs.Keywords.{keywordOf}
-use Rattle.blif_text.specs.PlacedStatements.{StatementOf}
+use Rattle.blif_text.specs.PlacedStatements.{said, statementOf, statementAt}
 use Rattle.blif_text.specs.declared.Keyword.{Keyword}
 use Rattle.blif_text.specs.declared.Keyword.the-variants as key
 use Rattle.blif_text.specs.declared.Statement.the-variants as place
@@ -27,7 +29,7 @@ unfolding rowStmt stmtOf
 row-is k ts = refl
 
 -- `.model` without a name
-model-none : modelStmt [] ≡ bad 4
+model-none : modelStmt [] ≡ bad refusal.MissingName
 unfolding modelStmt
 model-none = refl
 
@@ -37,12 +39,12 @@ unfolding modelStmt
 model-some n ts = refl
 
 -- `.latch` without a name
-latch-none : latchStmt [] ≡ bad 4
+latch-none : latchStmt [] ≡ bad refusal.MissingName
 unfolding latchStmt
 latch-none = refl
 
 -- with one
-latch-one : (d : Bytes) → latchStmt (d ∷ []) ≡ bad 4
+latch-one : (d : Bytes) → latchStmt (d ∷ []) ≡ bad refusal.MissingName
 unfolding latchStmt
 latch-one d = refl
 
@@ -75,85 +77,84 @@ module _ (text cells : List ℕ) where
       ap rowStmt (tokens-cons at end h r)
       ∙ row-is (tokenOf text (getD cells at 0)) (tokensOf text (slice (at + 1) end cells))
 
--- ---- what each statement of places says
+-- ---- the statement of places by its keyword
 
-module _ {keyword : Keyword} {at end : ℕ} (h : at < end) where
-  module _ (text cells : List ℕ) (r : end ≤ length cells) (e : keyword ≡ keywordOf (tokenOf text (getD cells at 0))) where
-    -- the row's first token
-    abbrev first : Bytes
-    first = tokenOf text (getD cells at 0)
+module _ {keyword : Keyword} (at end : ℕ) where
+  pub of-keyword : {k : Keyword} → keyword ≡ k → statementOf k at end ≡ statementOf keyword at end
+  of-keyword q = ap (λ (k : Keyword). statementOf k at end) (sym q)
 
-    -- its other tokens
-    abbrev names : List Bytes
-    names = tokensOf text (slice (at + 1) end cells)
+  pub of-no-model : keyword ≡ key.Model → end - at - 1 < 1 → place.Refused refusal.MissingName ≡ statementOf keyword at end
+  of-no-model q m = rw (lt-ltb (end - at - 1) 1 m) at (of-keyword q)
 
-    -- by this keyword
-    says : {k : Keyword} → keyword ≡ k → rowStmt (tokensOf text (slice at end cells)) ≡ byKeyword k first names
-    says q = row-by-keyword text cells at end h r ∙ ap (λ (k : Keyword). byKeyword k first names) (sym e ∙ q)
+  pub of-model : keyword ≡ key.Model → 1 ≤ end - at - 1 → place.Model ≡ statementOf keyword at end
+  of-model q m = rw (le-ltb (end - at - 1) 1 m) at (of-keyword q)
 
-    -- the other tokens as the code's run of cells
-    names-run : tokensOf text (take (end - at - 1) (drop (at + 1) cells)) ≡ names
-    names-run =
-        let q : end - at - 1 ≡ end - (at + 1) = omega arith in
-        ap (tokensOf text) (ap (λ (k : ℕ). take k (drop (at + 1) cells)) q ∙ sym (drop-take (at + 1) end cells))
+  pub of-no-latch : keyword ≡ key.Latch → end - at - 1 < 2 → place.Refused refusal.MissingName ≡ statementOf keyword at end
+  of-no-latch q m = rw (lt-ltb (end - at - 1) 2 m) at (of-keyword q)
 
-  -- `.inputs`
-  pub said-inputs : keyword ≡ key.Inputs → StatementOf keyword at end (place.Inputs record { first = at + 1; count = end - at - 1 })
-  said-inputs q text cells r e = ap (λ (ts : List Bytes). ok (stmt.Stmt.inputs ts)) (names-run text cells r e) ∙ sym (says text cells r e q)
+  pub of-latch : keyword ≡ key.Latch → 2 ≤ end - at - 1 → place.Latch (at + 1) ≡ statementOf keyword at end
+  of-latch q m = rw (le-ltb (end - at - 1) 2 m) at (of-keyword q)
 
-  -- `.outputs`
-  pub said-outputs : keyword ≡ key.Outputs → StatementOf keyword at end (place.Outputs record { first = at + 1; count = end - at - 1 })
-  said-outputs q text cells r e = ap (λ (ts : List Bytes). ok (stmt.Stmt.outputs ts)) (names-run text cells r e) ∙ sym (says text cells r e q)
+-- ---- what the statement of places says
 
-  -- `.names`
-  pub said-names : keyword ≡ key.Names → StatementOf keyword at end (place.Names record { first = at + 1; count = end - at - 1 })
-  said-names q text cells r e = ap (λ (ts : List Bytes). ok (stmt.Stmt.names ts)) (names-run text cells r e) ∙ sym (says text cells r e q)
+module _ (text cells : List ℕ) {at end : ℕ} (h : at < end) (r : end ≤ length cells) where
+  -- the row's first token
+  abbrev first : Bytes
+  first = tokenOf text (getD cells at 0)
 
-  -- `.end`
-  pub said-end : keyword ≡ key.End → StatementOf keyword at end place.End
-  said-end q text cells r e = sym (says text cells r e q)
+  -- its other tokens
+  abbrev names : List Bytes
+  names = tokensOf text (slice (at + 1) end cells)
 
-  -- `.exdc`
-  pub said-exdc : keyword ≡ key.Exdc → StatementOf keyword at end place.Exdc
-  said-exdc q text cells r e = sym (says text cells r e q)
+  -- the other tokens as the code's run of cells
+  names-run : tokensOf text (take (end - at - 1) (drop (at + 1) cells)) ≡ names
+  names-run =
+      let q : end - at - 1 ≡ end - (at + 1) = omega arith in
+      ap (tokensOf text) (ap (λ (k : ℕ). take k (drop (at + 1) cells)) q ∙ sym (drop-take (at + 1) end cells))
 
-  -- another token with a leading dot
-  pub said-unsupported : keyword ≡ key.Unsupported → StatementOf keyword at end (place.Refused 5)
-  said-unsupported q text cells r e = sym (says text cells r e q)
-
-  -- a cube line keeps all its tokens
-  pub said-cube : keyword ≡ key.Cube → StatementOf keyword at end (place.Cube record { first = at; count = end - at })
-  said-cube q text cells r e =
-      ap (λ (ts : List Bytes). ok (stmt.Stmt.cube ts)) (ap (tokensOf text) (sym (drop-take at end cells)) ∙ tokens-cons text cells at end h r)
-      ∙ sym (says text cells r e q)
-
-  -- `.model` with a name
-  pub said-model : keyword ≡ key.Model → 1 ≤ end - at - 1 → StatementOf keyword at end place.Model
-  said-model q m text cells r e =
-      sym (says text cells r e q ∙ ap modelStmt (tokens-cons text cells (at + 1) end (omega arith) r)
-      ∙ model-some (tokenOf text (getD cells (at + 1) 0)) (tokensOf text (slice (at + 1 + 1) end cells)))
-
-  -- `.model` without one is refused
-  pub said-no-model : keyword ≡ key.Model → end - at - 1 < 1 → StatementOf keyword at end (place.Refused 4)
-  said-no-model q m text cells r e = sym (says text cells r e q ∙ ap modelStmt (tokens-none text cells (at + 1) end (omega arith) r) ∙ model-none)
+  -- `.model` with a name, and without one
+  says-model : said text cells (statementOf key.Model at end) ≡ modelStmt names
+  says-model =
+      by-order 1 (end - at - 1)
+      (λ m.
+      rw (le-ltb (end - at - 1) 1 m)
+      (sym (ap modelStmt (tokens-cons text cells (at + 1) end (omega arith) r)
+      ∙ model-some (tokenOf text (getD cells (at + 1) 0)) (tokensOf text (slice (at + 1 + 1) end cells)))))
+      (λ m. rw (lt-ltb (end - at - 1) 1 m) (sym (ap modelStmt (tokens-none text cells (at + 1) end (omega arith) r) ∙ model-none)))
 
   -- `.latch` with two names
-  pub said-latch : keyword ≡ key.Latch → 2 ≤ end - at - 1 → StatementOf keyword at end (place.Latch (at + 1))
-  said-latch q m text cells r e =
-      sym (says text cells r e q
-      ∙ ap latchStmt
+  says-latch : 2 ≤ end - at - 1 → ok (stmt.Stmt.latch (tokenOf text (getD cells (at + 1) 0)) (tokenOf text (getD cells (at + 1 + 1) 0))) ≡ latchStmt names
+  says-latch m =
+      sym (ap latchStmt
       (tokens-cons text cells (at + 1) end (omega arith) r
       ∙ ap (λ (ts : List Bytes). tokenOf text (getD cells (at + 1) 0) ∷ ts) (tokens-cons text cells (at + 1 + 1) end (omega arith) r))
       ∙ latch-two (tokenOf text (getD cells (at + 1) 0)) (tokenOf text (getD cells (at + 1 + 1) 0)) (tokensOf text (slice (at + 1 + 1 + 1) end cells)))
 
-  -- `.latch` with fewer is refused
-  pub said-no-latch : keyword ≡ key.Latch → end - at - 1 < 2 → StatementOf keyword at end (place.Refused 4)
-  said-no-latch q m text cells r e =
+  -- and with fewer
+  says-no-latch : end - at - 1 < 2 → bad refusal.MissingName ≡ latchStmt names
+  says-no-latch m =
       by-order end (at + 1)
-      (λ l. sym (says text cells r e q ∙ ap latchStmt (tokens-none text cells (at + 1) end l r) ∙ latch-none))
+      (λ l. sym (ap latchStmt (tokens-none text cells (at + 1) end l r) ∙ latch-none))
       (λ l.
-      sym (says text cells r e q
-      ∙ ap latchStmt
+      sym (ap latchStmt
       (tokens-cons text cells (at + 1) end l r
       ∙ ap (λ (ts : List Bytes). tokenOf text (getD cells (at + 1) 0) ∷ ts) (tokens-none text cells (at + 1 + 1) end (omega arith) r))
       ∙ latch-one (tokenOf text (getD cells (at + 1) 0))))
+
+  -- by the keyword
+  says : (k : Keyword) → said text cells (statementOf k at end) ≡ byKeyword k first names
+  says key.Model = says-model
+  says key.Inputs = ap (λ (ts : List Bytes). ok (stmt.Stmt.inputs ts)) names-run
+  says key.Outputs = ap (λ (ts : List Bytes). ok (stmt.Stmt.outputs ts)) names-run
+  says key.Latch =
+      by-order 2 (end - at - 1) (λ m. rw (le-ltb (end - at - 1) 2 m) (says-latch m)) (λ m. rw (lt-ltb (end - at - 1) 2 m) (says-no-latch m))
+  says key.Names = ap (λ (ts : List Bytes). ok (stmt.Stmt.names ts)) names-run
+  says key.End = refl
+  says key.Exdc = refl
+  says key.Unsupported = refl
+  says key.Cube =
+      ap (λ (ts : List Bytes). ok (stmt.Stmt.cube ts)) (ap (tokensOf text) (sym (drop-take at end cells)) ∙ tokens-cons text cells at end h r)
+
+  -- the statement of the row is the row's
+  pub statement-says : said text cells (statementAt text cells at end) ≡ rowStmt (tokensOf text (slice at end cells))
+  statement-says = says (keywordOf first) ∙ sym (row-by-keyword text cells at end h r)

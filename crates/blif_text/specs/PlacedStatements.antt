@@ -1,19 +1,21 @@
 -- Statements as places in the caller's text (document 01: "`Statement` with lists: an enum of places"). Assumes nothing: these are
 -- definitions.
 use mathlib.Core.Path.{_≡_}
-use mathlib.Core.Bool.{true, false}
-use mathlib.Core.List.{List}
-use Prim.Native.Nat.{ℕ, _+_, _≤_, _<_}
-use lib.ListN.{length, getD, take, drop}
-use lib.Seq.{slice}
+use mathlib.Core.Bool.{true, false, cond}
+use mathlib.Core.List.{List, []}
+use Prim.Native.Nat.{ℕ, _+_, _-_, _≤_, _<_}
+use lib.Dec.{ltb}
+use lib.ListN.{getD, take, drop}
 use Rattle.lists.specs.Lists.{Bytes}
+use Rattle.refusals.specs.declared.Refusal.the-variants as refusal
+use Rattle.refusals.specs.declared.Checked.{Checked}
 use Rattle.blif_text.specs.Keywords.{keywordOf}
-use Rattle.blif_text.specs.Statements.{Parsed, ok, bad}
+use Rattle.blif_text.specs.Statements.{Parsed, ok, bad, refusalOf}
 use Rattle.blif_text.specs.Statements as stmt
-use Rattle.blif_text.specs.Rows.{rowStmt}
 use Rattle.blif_text.specs.Places.{isFirst, tokenOf, tokensOf}
 use Rattle.blif_text.specs.declared.Run.{Run}
 use Rattle.blif_text.specs.declared.Keyword.{Keyword}
+use Rattle.blif_text.specs.declared.Keyword.the-variants as key
 use Rattle.blif_text.specs.declared.Statement.{Statement}
 use Rattle.blif_text.specs.declared.Statement.the-variants as place
 
@@ -31,7 +33,7 @@ said text cells (place.Outputs run) = ok (stmt.Stmt.outputs (runTokens text cell
 said text cells (place.Names run) = ok (stmt.Stmt.names (runTokens text cells run))
 said text cells (place.Latch first) = ok (stmt.Stmt.latch (tokenOf text (getD cells first 0)) (tokenOf text (getD cells (first + 1) 0)))
 said text cells (place.Cube run) = ok (stmt.Stmt.cube (runTokens text cells run))
-said text cells (place.Refused n) = bad n
+said text cells (place.Refused r) = bad r
 
 -- a row goes from at to r: of the cells up to n, the one at r is the next that starts a row
 pub record RowTo (cells : List ℕ) (at n r : ℕ) : Type 0 where
@@ -44,20 +46,27 @@ pub record RowTo (cells : List ℕ) (at n r : ℕ) : Type 0 where
   -- one starts at the stop
   pub stop : r < n → isFirst (getD cells r 0) ≡ true
 
--- s is the statement of the row from at to end, in any text and cells where the row's first token has the keyword k
-abbrev pub StatementOf : Keyword → ℕ → ℕ → Statement → Type 0
-StatementOf k at end s =
-    (text cells : List ℕ) → end ≤ length cells → k ≡ keywordOf (tokenOf text (getD cells at 0))
-    → said text cells s ≡ rowStmt (tokensOf text (slice at end cells))
+-- the names of the row from at to end: its tokens behind the first
+abbrev pub namesRun : ℕ → ℕ → Run
+namesRun at end = record { first = at + 1; count = end - at - 1 }
 
--- a refusal's number, or 0
-abbrev pub refusal : Statement → ℕ
-refusal place.Model = 0
-refusal place.End = 0
-refusal place.Exdc = 0
-refusal (place.Inputs run) = 0
-refusal (place.Outputs run) = 0
-refusal (place.Names run) = 0
-refusal (place.Latch first) = 0
-refusal (place.Cube run) = 0
-refusal (place.Refused n) = n
+-- the statement of the row from at to end whose first token has this keyword: "4 when `.model` lacks a name or `.latch` has fewer than two;
+-- 5 when the construct is unsupported"
+abbrev pub statementOf : Keyword → ℕ → ℕ → Statement
+statementOf key.Model at end = cond (ltb (end - at - 1) 1) (place.Refused refusal.MissingName) place.Model
+statementOf key.Inputs at end = place.Inputs (namesRun at end)
+statementOf key.Outputs at end = place.Outputs (namesRun at end)
+statementOf key.Latch at end = cond (ltb (end - at - 1) 2) (place.Refused refusal.MissingName) (place.Latch (at + 1))
+statementOf key.Names at end = place.Names (namesRun at end)
+statementOf key.End at end = place.End
+statementOf key.Exdc at end = place.Exdc
+statementOf key.Unsupported at end = place.Refused refusal.Unsupported
+statementOf key.Cube at end = place.Cube (record { first = at; count = end - at })
+
+-- the statement of the row of token cells from at to end
+abbrev pub statementAt : Bytes → List ℕ → ℕ → ℕ → Statement
+statementAt text cells at end = statementOf (keywordOf (tokenOf text (getD cells at 0))) at end
+
+-- the refusal that a statement of places is, if it is one
+abbrev pub refusalIn : Statement → Checked
+refusalIn s = refusalOf (said [] [] s)

@@ -3,6 +3,7 @@ use mathlib.Core.List.{List, [], _∷_}
 use Prim.Native.Nat.{_-_}
 use lib.ListN.{length, take}
 use Rattle.lists.specs.Lists.{if_then_else_, Bytes, filter}
+use Rattle.refusals.specs.declared.Refusal.the-variants as refusal
 use Rattle.blif_text.specs.Lines.{lines, cut, continues, before, nonEmpty, tokens}
 use Rattle.blif_text.specs.Statements.{Parsed, bad, stmtOf}
 
@@ -21,5 +22,5 @@ textRows s = fullRows (lineRows (lines s))
 
 -- the statement of a row
 unfoldable pub rowStmt : List Bytes → Parsed
-rowStmt [] = bad 5
+rowStmt [] = bad refusal.Unsupported
 rowStmt (k ∷ ts) = stmtOf k ts

@@ -1,7 +1,11 @@
 -- Statements of a text, and refusals 4 and 5 (document 01, src/io/blif.rs). Assumes nothing: these are definitions.
 use mathlib.Core.List.{List, [], _∷_, map, flatMap}
-use Prim.Native.Nat.{ℕ}
 use Rattle.lists.specs.Lists.{Bytes}
+use Rattle.refusals.specs.Order.{_then_}
+use Rattle.refusals.specs.declared.Refusal.{Refusal}
+use Rattle.refusals.specs.declared.Refusal.the-variants as refusal
+use Rattle.refusals.specs.declared.Checked.{Checked}
+use Rattle.refusals.specs.declared.Checked.the-variants.{Fine, Refused}
 use Rattle.blif_text.specs.Lines.{lines, joined, tokens}
 use Rattle.blif_text.specs.Keywords.{keywordOf}
 use Rattle.blif_text.specs.declared.Keyword.{Keyword}
@@ -14,20 +18,20 @@ pub data Stmt : Type 0 where
   latch : Bytes → Bytes → Stmt
   cube : List Bytes → Stmt
 
--- a statement, or the refusal's number
+-- a statement, or its refusal
 pub data Parsed : Type 0 where
   ok : Stmt → Parsed
-  bad : ℕ → Parsed
+  bad : Refusal → Parsed
 
 -- "4 when `.model` lacks a name"; "Extra tokens after `.model` .. are ignored"
 unfoldable pub modelStmt : List Bytes → Parsed
-modelStmt [] = bad 4
+modelStmt [] = bad refusal.MissingName
 modelStmt (n ∷ ts) = ok model
 
 -- "4 when .. `.latch` has fewer than two"; its input and its output; "Extra tokens after .. `.latch` .. are ignored"
 unfoldable pub latchStmt : List Bytes → Parsed
-latchStmt [] = bad 4
-latchStmt (d ∷ []) = bad 4
+latchStmt [] = bad refusal.MissingName
+latchStmt (d ∷ []) = bad refusal.MissingName
 latchStmt (d ∷ q ∷ ts) = ok (latch d q)
 
 -- the statement of a first token k with this keyword, and the other tokens; "5 when the construct is unsupported"
@@ -39,7 +43,7 @@ byKeyword key.Latch k ts = latchStmt ts
 byKeyword key.Names k ts = ok (names ts)
 byKeyword key.End k ts = ok end
 byKeyword key.Exdc k ts = ok exdc
-byKeyword key.Unsupported k ts = bad 5
+byKeyword key.Unsupported k ts = bad refusal.Unsupported
 byKeyword key.Cube k ts = ok (cube (k ∷ ts))
 
 -- the statement of a first token and the others
@@ -55,14 +59,18 @@ parsedLine (k ∷ ts) = stmtOf k ts ∷ []
 unfoldable pub parsed : Bytes → List Parsed
 parsed s = flatMap parsedLine (map tokens (joined (lines s)))
 
--- "Then by statement in text order: 4 .. 5": the first refusal's number, or 0
-unfoldable pub firstBad : List Parsed → ℕ
-firstBad [] = 0
-firstBad (ok s ∷ ps) = firstBad ps
-firstBad (bad n ∷ ps) = n
+-- the refusal of a statement, if it has one
+abbrev pub refusalOf : Parsed → Checked
+refusalOf (ok s) = Fine
+refusalOf (bad r) = Refused r
+
+-- "Then by statement in text order: 4 .. 5": the first refusal
+unfoldable pub firstBad : List Parsed → Checked
+firstBad [] = Fine
+firstBad (p ∷ ps) = refusalOf p then firstBad ps
 
 -- the good ones
 unfoldable pub stmts : List Parsed → List Stmt
 stmts [] = []
 stmts (ok s ∷ ps) = s ∷ stmts ps
-stmts (bad n ∷ ps) = stmts ps
+stmts (bad r ∷ ps) = stmts ps

@@ -5,6 +5,7 @@ use Prim.Native.Nat.{ℕ, _≤_, _<_}
 use lib.ListN.{length, getD}
 use lib.Seq.{slice}
 use Rattle.lists.specs.Lists.{Bytes}
+use Rattle.refusals.specs.declared.Checked.the-variants.{Fine}
 use Rattle.blif_text.specs.Statements.{Stmt, firstBad, stmts}
 use Rattle.blif_text.specs.Rows.{rowStmt}
 use Rattle.blif_text.specs.Places.{InText, grouped}
@@ -38,4 +39,4 @@ pub record StmtsAt (text cells : List ℕ) (n at : ℕ) : Type 0 where
   -- rows
   pub rows : RowsAt text cells n at
   -- each is a statement
-  pub good : firstBad (map rowStmt (rowsFrom text cells n at)) ≡ 0
+  pub good : firstBad (map rowStmt (rowsFrom text cells n at)) ≡ Fine

@@ -1,5 +1,7 @@
 // BLIF text: lines, tokens, keywords and statements, as places in the caller's text (Quaigh's src/io/blif.rs).
 use lists::equal;
+use refusals::Checked;
+use refusals::Refusal;
 ghost use mathlib.Core.Path.{_≡_};
 ghost use mathlib.Core.Bool.{false};
 ghost use lib.Dec.{eqb};
@@ -11,10 +13,9 @@ ghost use Rattle.lists.specs.Lists.{any, over, overAt};
 ghost use Rattle.blif_text.specs.Lines.{isBlank};
 ghost use Rattle.blif_text.specs.Places.{maxText, maxTokens, tokenCell, isFirst, tokenStart, tokenLength, InText, tokenOf, tokensOf, tokenCells, TokensMarked};
 ghost use Rattle.blif_text.specs.Keywords.{keywordOf};
-ghost use Rattle.blif_text.specs.PlacedStatements.{said, RowTo, StatementOf, refusal};
+ghost use Rattle.blif_text.specs.PlacedStatements.{RowTo, statementOf, statementAt, refusalIn};
 ghost use Rattle.blif_text.specs.Statements.{parsed, firstBad};
 ghost use Rattle.blif_text.specs.Decls.{columns};
-ghost use Rattle.blif_text.specs.Rows.{rowStmt};
 ghost use Rattle.blif_text.specs.Walk.{Inside};
 ghost use Rattle.blif_text.specs.Blocks.{blockWidth, firstName, nameCount, lineCount};
 ghost use Rattle.blif_text.specs.Scan.{endsWord, NoneTo, FirstTo, SpacesTo, LineAfter, StopOf, WordPut, ScanAt, Scanned};
@@ -58,7 +59,7 @@ pub struct Run {
     pub count: usize,
 }
 
-// A statement by the places of its names: a run of token cells, a latch by the first of its two, or a refusal's number.
+// A statement by the places of its names: a run of token cells, a latch by the first of its two, or its refusal.
 pub enum Statement {
     Model,
     End,
@@ -68,7 +69,7 @@ pub enum Statement {
     Names(Run),
     Latch(usize),
     Cube(Run),
-    Refused(u32),
+    Refused(Refusal),
 }
 
 // Blanks are 9 to 13 and 32.
@@ -410,7 +411,7 @@ pub fn line_columns<'a, 'b>(text: &'a [u8], tokens: &'b [u32], row: usize, end: 
 // The statement of the row from at to end, whose first token has this keyword.
 fn statement_of(keyword: Keyword, at: usize, end: usize) -> Statement
     requires { ⌜ at < end ⌝ }
-    ensures { λ r. ⌜ StatementOf keyword at end r ⌝ }
+    ensures { λ r. ⌜ r ≡ statementOf keyword at end ⌝ }
 {
     let names = Run {
         first: at + 1,
@@ -419,7 +420,7 @@ fn statement_of(keyword: Keyword, at: usize, end: usize) -> Statement
     match keyword {
         Keyword::Model => {
             if names.count < 1 {
-                return Statement::Refused(4);
+                return Statement::Refused(Refusal::MissingName);
             }
             Statement::Model
         }
@@ -427,14 +428,14 @@ fn statement_of(keyword: Keyword, at: usize, end: usize) -> Statement
         Keyword::Outputs => Statement::Outputs(names),
         Keyword::Latch => {
             if names.count < 2 {
-                return Statement::Refused(4);
+                return Statement::Refused(Refusal::MissingName);
             }
             Statement::Latch(at + 1)
         }
         Keyword::Names => Statement::Names(names),
         Keyword::End => Statement::End,
         Keyword::Exdc => Statement::Exdc,
-        Keyword::Unsupported => Statement::Refused(5),
+        Keyword::Unsupported => Statement::Refused(Refusal::Unsupported),
         Keyword::Cube => Statement::Cube(Run {
             first: at,
             count: end - at,
@@ -446,25 +447,25 @@ fn statement_of(keyword: Keyword, at: usize, end: usize) -> Statement
 pub fn statement_at(text: &[u8], cells: &[u32], at: usize, end: usize) -> Statement
     requires { ⌜ (at < end) × (end ≤ length (now cells)) ⌝ }
     requires { ⌜ InText (now text) (getD (now cells) at 0) ⌝ }
-    ensures { λ r. ⌜ said (now (text .entry)) (now (cells .entry)) r ≡ rowStmt (tokensOf (now (text .entry)) (slice at end (now (cells .entry)))) ⌝ }
+    ensures { λ r. ⌜ r ≡ statementAt (now (text .entry)) (now (cells .entry)) at end ⌝ }
 {
     let first = cells[at];
     let keyword = keyword_of(token(text, first));
     statement_of(keyword, at, end)
 }
 
-// The number of a refusal, zero for any other statement.
-fn refusal_of(s: Statement) -> u32
-    ensures { λ r. ⌜ r ≡ refusal s ⌝ }
+// The refusal that a statement is, if it is one.
+fn refusal_of(s: Statement) -> Checked
+    ensures { λ r. ⌜ r ≡ refusalIn s ⌝ }
 {
     match s {
-        Statement::Refused(n) => n,
-        _ => 0,
+        Statement::Refused(r) => Checked::Refused(r),
+        _ => Checked::Fine,
     }
 }
 
-// The first refusal of 4 and 5 among the statements of marked tokens, or zero.
-pub fn first_bad(text: &[u8], cells: &[u32], n: usize) -> u32
+// The first refusal of 4 and 5 among the statements of marked tokens, if there is one.
+pub fn first_bad(text: &[u8], cells: &[u32], n: usize) -> Checked
     requires { ⌜ TokensMarked (now text) (now cells) n × (n ≤ length (now cells)) ⌝ }
     ensures { λ r. ⌜ r ≡ firstBad (parsed (now (text .entry))) ⌝ }
 {
@@ -472,12 +473,12 @@ pub fn first_bad(text: &[u8], cells: &[u32], n: usize) -> u32
     while at < n {
         let end = row_end(cells, at, n);
         let bad = refusal_of(statement_at(text, cells, at, end));
-        if bad != 0 {
-            return bad;
+        if let Checked::Refused(r) = bad {
+            return Checked::Refused(r);
         }
         at = end;
     }
-    0
+    Checked::Fine
 }
 
 // Block j's record.

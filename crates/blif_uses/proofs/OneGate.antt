@@ -19,9 +19,11 @@ use Rattle.blif_text.specs.Decls.{Def, latch, cover, coverIns, usedNames}
 use Rattle.blif_text.specs.Blocks.{firstName, nameCount, lineCount, defFrom, defAt, Blocks}
 use Rattle.blif_text.proofs.BlockLaws.{cover-from}
 use Rattle.blif_model.specs.Working.{placedCount}
-use Rattle.blif_uses.specs.Resolve.{isFound, Resolved}
+use Rattle.blif_uses.specs.Resolve.{isFound, placedTo, Resolved}
 use Rattle.blif_uses.specs.Steps.{NamesAt, GateRoom, GatePlaced, DefPlaced}
 use Rattle.blif_uses.specs.declared.Placed.{Placed}
+use Rattle.blif_uses.specs.declared.Placed.the-variants as answer
+use Rattle.refusals.specs.declared.Refusal.the-variants as refusal
 
 -- ---- the names by their tokens
 
@@ -73,15 +75,15 @@ one-name {text} {tokens} {first} h = names-are h ∙ ap (λ (l : List ℕ). toke
 -- ---- placed or not
 
 -- a name was not found
-pub not-placed : {sig : Bytes → ℕ} {names₀ names : List Bytes} {form j at p : ℕ} {run cells q gates pinsIn gates′ pinsIn′ : List ℕ} {r : Bool}
+pub not-placed : {sig : Bytes → ℕ} {names₀ names : List Bytes} {form j at : ℕ} {run cells q gates pinsIn gates′ pinsIn′ : List ℕ} {r : Bool}
     → Resolved (map sig names₀) cells q r → names₀ ≡ names → r ≡ false
-    → GatePlaced sig form names run j at gates pinsIn gates′ pinsIn′ (record { found = false; pins = p })
-not-placed {sig} w n t =
+    → GatePlaced sig form names run j at gates pinsIn gates′ pinsIn′ (answer.Refused refusal.Undefined)
+not-placed {sig} {at = at} {run = run} w n t =
+    let f = sym t ∙ w .found ∙ ap (λ (l : List Bytes). all isFound (map sig l)) n in
     record {
-      found = sym t ∙ w .found ∙ ap (λ (l : List Bytes). all isFound (map sig l)) n;
-      end = λ u. absurd (false≢true u);
-      records = λ u. absurd (false≢true u);
-      runs = λ u. absurd (false≢true u);
+      end = ap (λ (b : Bool). placedTo b (at + length run)) f;
+      records = λ u. absurd (false≢true (f ∙ u));
+      runs = λ u. absurd (false≢true (f ∙ u));
     }
 
 -- what the part of the pins holds then
@@ -97,13 +99,12 @@ pub cover-placed : {sig : Bytes → ℕ} {names₀ names : List Bytes} {j at cou
     → Resolved (map sig names₀) (take (length pinsIn - at) (drop at pinsIn)) q r → names₀ ≡ names → length names ≡ count → r ≡ true
     → GateRoom gates pinsIn j at count → gates′ ≡ overAt (j * gateWidth) (formNumber AndN ∷ at ∷ count ∷ []) gates
     → GatePlaced sig (formNumber AndN) names (map sig names) j at gates pinsIn gates′ (take at pinsIn ++ (q ++ drop (length pinsIn - at) (drop at pinsIn)))
-    (record { found = true; pins = at + count })
+    (answer.Pins (at + count))
 cover-placed {sig} {names = names} {j} {at} {count} {gates = gates} {pinsIn} w n l t m g =
     let u : at ≤ length pinsIn = omega (arith, m .few, m .cells .pinRoom) in
     let e : count ≡ length (map sig names) = sym (length-map names sig ∙ l) in
     record {
-      found = all-found sig at pinsIn w n t u;
-      end = λ v. ap (λ (k : ℕ). at + k) e;
+      end = ap₂ (λ (k : ℕ) (b : Bool). placedTo b (at + k)) e (all-found sig at pinsIn w n t u);
       records = λ v. g ∙ ap (λ (k : ℕ). overAt (j * gateWidth) (formNumber AndN ∷ at ∷ k ∷ []) gates) e;
       runs = λ v. names-laid sig at pinsIn w n t u;
     }
@@ -113,12 +114,11 @@ pub latch-placed : {sig : Bytes → ℕ} {names₀ : List Bytes} {x : Bytes} {j 
     → gates′ ≡ overAt (j * gateWidth) (flopNumber ∷ at ∷ 3 ∷ []) gates
     → GatePlaced sig flopNumber (x ∷ []) (sig x ∷ 1 ∷ 0 ∷ []) j at gates pinsIn gates′
     (set (set (take at pinsIn ++ (q ++ drop (length pinsIn - at) (drop at pinsIn))) (at + 1) 1) (at + 2) 0)
-    (record { found = true; pins = at + 3 })
+    (answer.Pins (at + 3))
 latch-placed {sig} {x = x} {at = at} {pinsIn = pinsIn} w n t m g =
     let u : at ≤ length pinsIn = omega (arith, m .few, m .cells .pinRoom) in
     record {
-      found = all-found sig at pinsIn w n t u;
-      end = λ v. refl;
+      end = ap (λ (b : Bool). placedTo b (at + 3)) (all-found sig at pinsIn w n t u);
       records = λ v. g;
       runs = λ v.
           ap (λ (l : List ℕ). set (set l (at + 1) 1) (at + 2) 0) (names-laid sig at pinsIn w n t u ∙ sym (one-store at (sig x) pinsIn))

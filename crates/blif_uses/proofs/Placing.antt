@@ -1,6 +1,6 @@
 -- Gates placed block by block: each stays where the next ones are written. Assumes nothing.
 use mathlib.Core.Path.{_≡_, refl, sym, ap, ap₂, _∙_}
-use mathlib.Core.Bool.{Bool, true, false, _&&_, true≢false}
+use mathlib.Core.Bool.{Bool, true, false, _&&_, false≢true}
 use mathlib.Core.List.{List, [], _∷_, _++_, map, flatMap, map-append}
 use mathlib.Core.Option.{some}
 use Prim.Native.Nat.{ℕ, _+_, _-_, _*_, _≤_, _<_}
@@ -22,9 +22,12 @@ use Rattle.blif_text.specs.Decls.{Def, latch, cover, coverIns, usedNames}
 use Rattle.blif_text.specs.Blocks.{Blocks}
 use Rattle.blif_model.specs.Working.{GateIn, placed, placedCount, WorkRoom}
 use Rattle.blif_model.proofs.WorkingLaws.{record-kept, run-kept, used-more, gate-written}
-use Rattle.blif_uses.specs.Resolve.{isFound, Signals, PlacedBy}
+use Rattle.blif_uses.specs.Resolve.{isFound, allFound, placedTo, Signals, PlacedBy}
 use Rattle.blif_uses.specs.Steps.{GateRoom, placedForm, placedRun, DefPlaced}
 use Rattle.blif_uses.specs.declared.Placed.{Placed}
+use Rattle.blif_uses.specs.declared.Placed.the-variants as answer
+use Rattle.refusals.specs.declared.Refusal.{Refusal}
+use Rattle.refusals.specs.declared.Refusal.the-variants as refusal
 
 -- ---- the gate of a definition
 
@@ -55,18 +58,29 @@ run-length sig (cover ns ls) =
 
 -- the gate stands in the cells after it was placed
 def-in : {sig : Bytes → ℕ} (d : Def) {j at : ℕ} {gates pinsIn gates′ pinsIn′ : List ℕ} {r : Placed} → DefPlaced sig d j at gates pinsIn gates′ pinsIn′ r
-    → GateRoom gates pinsIn j at (placedCount d) → r .found ≡ true → (look : Bytes → Signal) → Signals sig look
-    → GateIn gates′ pinsIn′ (r .pins) j (placed look d)
+    → GateRoom gates pinsIn j at (placedCount d) → all isFound (map sig (usedNames d)) ≡ true → (look : Bytes → Signal) → Signals sig look
+    → GateIn gates′ pinsIn′ (at + length (placedRun sig d)) j (placed look d)
 def-in {sig} d {j} {at} {gates} {pinsIn} {gates′} {pinsIn′} {r} p w t look s =
     let x : Gate = placed look d in
-    let e : placedRun sig d ≡ map sigCell (pins x) = run-is sig look s d (sym (p .found) ∙ t) in
+    let e : placedRun sig d ≡ map sigCell (pins x) = run-is sig look s d t in
     let n : length (placedRun sig d) ≡ length (pins x) = ap length e ∙ length-map (pins x) sigCell in
     let g : gates′ ≡ overAt (j * gateWidth) (formCell x ∷ at ∷ length (pins x) ∷ []) gates =
     p .records t ∙ ap₂ (λ (f k : ℕ). overAt (j * gateWidth) (f ∷ at ∷ k ∷ []) gates) (form-is look d) n in
     let q : pinsIn′ ≡ overAt at (map sigCell (pins x)) pinsIn = p .runs t ∙ ap (λ (l : List ℕ). overAt at l pinsIn) e in
-    let u : r .pins ≡ at + length (pins x) = p .end t ∙ ap (λ (k : ℕ). at + k) n in
-    rw (g, q, u)
+    rw (g, q, n)
     (gate-written gates pinsIn at j x (omega (arith, w .low, w .cells .gateRoom)) (omega (arith, n, run-length sig d, w .few, w .cells .pinRoom)))
+
+-- ---- the answer
+
+-- pins are told where all names were found
+pub pins-found : (b : Bool) (k : ℕ) {end : ℕ} → answer.Pins end ≡ placedTo b k → (b ≡ true) × (end ≡ k)
+pins-found true k e = (refl, (cc))
+pins-found false k e = absurd (let z : _≡_ {A = ℕ} 0 1 = cc in omega arith)
+
+-- a refusal where one was not
+pub refused-found : (b : Bool) (k : ℕ) {r : Refusal} → answer.Refused r ≡ placedTo b k → (b ≡ false) × (r ≡ refusal.Undefined)
+refused-found true k e = absurd (let z : _≡_ {A = ℕ} 0 1 = cc in omega arith)
+refused-found false k e = (refl, (cc))
 
 -- ---- block by block
 
@@ -76,10 +90,6 @@ from def g j = map def (range j (g - j))
 
 from-cons : (def : ℕ → Def) (g j : ℕ) → j < g → from def g j ≡ def j ∷ from def g (j + 1)
 from-cons def g j h = ap (map def) (range-cons g j h)
-
--- whether the names are found that these definitions use
-abbrev allFound : (Bytes → ℕ) → List Def → Bool
-allFound sig ds = all isFound (map sig (flatMap usedNames ds))
 
 found-cons : (sig : Bytes → ℕ) (d : Def) (ds : List Def) → allFound sig (d ∷ ds) ≡ (all isFound (map sig (usedNames d)) && allFound sig ds)
 unfolding flatMap
@@ -133,26 +143,28 @@ module _ {sig : Bytes → ℕ} {def : ℕ → Def} {g : ℕ} {gates₀ pinsIn₀
 
   module _ {gates′ pinsIn′ : List ℕ} {r : Placed} (h : j < g) (p : DefPlaced sig (def j) j at gates pinsIn gates′ pinsIn′ r) where
     -- a name was not found
-    pub placing-stops : r .found ≡ false → PlacedBy sig (map def (range 0 g)) gates′ pinsIn′ r
-    placing-stops t =
+    pub placing-stops : {k : Refusal} → r ≡ answer.Refused k → PlacedBy sig (map def (range 0 g)) gates′ pinsIn′ (answer.Refused k)
+    placing-stops e =
+        let t = refused-found (all isFound (map sig (usedNames (def j)))) _ (sym e ∙ p .end) in
+        let f = sym (ap (λ (b : Bool). b && allFound sig (from def g (j + 1))) (t .0)) ∙ now-found h in
         record {
-          found = t ∙ sym (ap (λ (b : Bool). b && allFound sig (from def g (j + 1))) (sym (p .found) ∙ t)) ∙ now-found h;
-          pins = λ u. absurd (true≢false (sym u ∙ t));
-          gates-in = λ u. absurd (true≢false (sym u ∙ t));
+          counted = ap answer.Refused (t .1) ∙ ap (λ (b : Bool). placedTo b (sumOf placedCount (map def (range 0 g)))) f;
+          gates-in = λ u. absurd (false≢true (f ∙ u));
         }
 
     -- the gates before, after this one was placed
-    kept : r .found ≡ true → (look : Bytes → Signal) → Signals sig look → (i : ℕ) → i < j → GateIn gates′ pinsIn′ (r .pins) i (placed look (def i))
+    kept : all isFound (map sig (usedNames (def j))) ≡ true → (look : Bytes → Signal) → Signals sig look → (i : ℕ) → i < j → GateIn gates′ pinsIn′ (at + length (placedRun sig (def j))) i (placed look (def i))
     kept t look s i u =
         let k : ℕ = length (placedRun sig (def j)) in
         let three : List ℕ = placedForm (def j) ∷ at ∷ k ∷ [] in
-        let e : r .pins ≡ at + k = p .end t in
-        rw (p .records t, p .runs t, e)
+        rw (p .records t, p .runs t)
         (used-more (at + k) (omega arith)
         (run-kept at (placedRun sig (def j)) (omega arith) (record-kept j three (omega arith) (λ z. omega arith) (c .gates-in look s i u))))
 
-    pub placing-next : r .found ≡ true → Placing sig def g gates₀ pinsIn₀ gates′ pinsIn′ (j + 1) (r .pins)
-    placing-next t =
+    pub placing-next : {end : ℕ} → r ≡ answer.Pins end → Placing sig def g gates₀ pinsIn₀ gates′ pinsIn′ (j + 1) end
+    placing-next {end} e =
+        let x = pins-found (all isFound (map sig (usedNames (def j)))) _ (sym e ∙ p .end) in
+        let t = x .0 in
         let three : List ℕ = placedForm (def j) ∷ at ∷ length (placedRun sig (def j)) ∷ [] in
         let lg : length gates′ ≡ length gates = ap length (p .records t) ∙ length-overAt (j * gateWidth) three gates in
         let lp : length pinsIn′ ≡ length pinsIn = ap length (p .runs t) ∙ length-overAt at (placedRun sig (def j)) pinsIn in
@@ -163,21 +175,21 @@ module _ {sig : Bytes → ℕ} {def : ℕ → Def} {g : ℕ} {gates₀ pinsIn₀
           same-pins = lp ∙ c .same-pins;
           cells = record { gateRoom = omega (arith, c .cells .gateRoom); pinRoom = omega (arith, c .cells .pinRoom) };
           few = c .few;
-          found = sym (ap (λ (b : Bool). b && allFound sig (from def g (j + 1))) (sym (p .found) ∙ t)) ∙ now-found h;
-          counted = omega (arith, c .counted, p .end t, run-length sig (def j), ap (sumOf placedCount) (from-cons def g j h));
+          found = sym (ap (λ (b : Bool). b && allFound sig (from def g (j + 1))) t) ∙ now-found h;
+          counted = omega (arith, c .counted, x .1, run-length sig (def j), ap (sumOf placedCount) (from-cons def g j h));
           gates-in = λ look s i u.
               elim (ℕ-discrete i j) [
-                | yes z ↦ rw z (def-in (def j) p (placing-room h) t look s)
-                | no z ↦ kept t look s i (omega arith)
+                | yes z ↦ rw (z, x .1) (def-in (def j) p (placing-room h) t look s)
+                | no z ↦ rw (x .1) (kept t look s i (omega arith))
               ];
         }
 
-  pub placing-done : g ≤ j → PlacedBy sig (map def (range 0 g)) gates pinsIn (record { found = true; pins = at })
+  pub placing-done : g ≤ j → PlacedBy sig (map def (range 0 g)) gates pinsIn (answer.Pins at)
   placing-done h =
       let e : from def g j ≡ [] = ap (map def) (range-end g j h) in
+      let all-counted : at ≡ sumOf placedCount (map def (range 0 g)) = omega (arith, c .counted, ap (sumOf placedCount) e) in
       record {
-        found = sym (ap (allFound sig) e ∙ found-nil sig) ∙ c .found;
-        pins = λ t. omega (arith, c .counted, ap (sumOf placedCount) e);
+        counted = ap₂ (λ (k : ℕ) (b : Bool). placedTo b k) all-counted (sym (ap (allFound sig) e ∙ found-nil sig) ∙ c .found);
         gates-in = λ t look s i x q.
             let m : map (placed look) (map def (range 0 g)) ≡ map (λ (k : ℕ). placed look (def k)) (range 0 g) = map-map (placed look) def (range 0 g) in
             let l : i < length (map (placed look) (map def (range 0 g))) = place-lt (map (placed look) (map def (range 0 g))) i x q in
@@ -187,7 +199,7 @@ module _ {sig : Bytes → ℕ} {def : ℕ → Def} {g : ℕ} {gates₀ pinsIn₀
             let v : some x ≡ some (placed look (def i)) =
             sym q ∙ ap (λ (ys : List Gate). getElem? ys i) m ∙ map-range (λ (k : ℕ). placed look (def k)) 0 g i u ∙ ap (λ (k : ℕ). some (placed look (def k))) z in
             let w : x ≡ placed look (def i) = cc in
-            rw w (c .gates-in look s i (omega arith));
+            rw (w, ← all-counted) (c .gates-in look s i (omega arith));
       }
 
 -- the blocks up to this one

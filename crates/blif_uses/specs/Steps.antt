@@ -11,7 +11,7 @@ use Rattle.network.specs.Cells.{gateWidth, maxGates, maxPins}
 use Rattle.blif_text.specs.Places.{InText}
 use Rattle.blif_text.specs.Decls.{Def, latch, cover, coverIns, usedNames}
 use Rattle.blif_model.specs.Working.{WorkRoom}
-use Rattle.blif_uses.specs.Resolve.{isFound}
+use Rattle.blif_uses.specs.Resolve.{isFound, placedTo}
 use Rattle.blif_uses.specs.declared.Placed.{Placed}
 
 -- names stand in the text, by count cells from token first on
@@ -32,14 +32,12 @@ pub record GateRoom (gates pinsIn : List ℕ) (j at count : ℕ) : Type 0 where
 
 -- a gate of this form was placed as gate j, with this run of pins from cell at on; or a name that it uses was not found
 pub record GatePlaced (sig : Bytes → ℕ) (form : ℕ) (names : List Bytes) (run : List ℕ) (j at : ℕ) (gates pinsIn gates′ pinsIn′ : List ℕ) (r : Placed) : Type 0 where
-  -- whether all were found
-  pub found : r .found ≡ all isFound (map sig names)
-  -- the cell after the run
-  pub end : r .found ≡ true → r .pins ≡ at + length run
+  -- the cell behind the run, where all were found
+  pub end : r ≡ placedTo (all isFound (map sig names)) (at + length run)
   -- the record
-  pub records : r .found ≡ true → gates′ ≡ overAt (j * gateWidth) (form ∷ at ∷ length run ∷ []) gates
+  pub records : all isFound (map sig names) ≡ true → gates′ ≡ overAt (j * gateWidth) (form ∷ at ∷ length run ∷ []) gates
   -- the run
-  pub runs : r .found ≡ true → pinsIn′ ≡ overAt at run pinsIn
+  pub runs : all isFound (map sig names) ≡ true → pinsIn′ ≡ overAt at run pinsIn
 
 -- the form number of the gate first placed for a definition: a Dff, or a Nary And
 abbrev pub placedForm : Def → ℕ

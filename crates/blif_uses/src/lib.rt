@@ -5,6 +5,7 @@ use gates::DFF;
 use gates::NARY_AND;
 use name_index::find_signal;
 use network::put_record;
+use refusals::Refusal;
 ghost use mathlib.Core.List.{[], _∷_, map};
 ghost use Prim.Native.Nat.{_+_, _≤_};
 ghost use lib.ListN.{length, getD, take, drop};
@@ -26,10 +27,10 @@ const ONE: u32 = 1;
 
 const ZERO: u32 = 0;
 
-// Whether every name was found, and how many pins are in use.
-pub struct Placed {
-    pub found: bool,
-    pub pins: usize,
+// How many pins are in use, or the refusal of a name that is not defined.
+pub enum Placed {
+    Pins(usize),
+    Refused(Refusal),
 }
 
 // Writes the signals of names, given by their places; answers whether all were found.
@@ -74,18 +75,12 @@ fn place_latch(
 {
     let end = first + 1;
     if !resolve_names(text, index, k, &tokens[first..end], &mut pins[at..]) {
-        return Placed {
-            found: false,
-            pins: at,
-        };
+        return Placed::Refused(Refusal::Undefined);
     }
     pins[at + 1] = ONE;
     pins[at + 2] = ZERO;
     put_record(gates, j, DFF, at, 3);
-    Placed {
-        found: true,
-        pins: at + 3,
-    }
+    Placed::Pins(at + 3)
 }
 
 // Places gate j for the cover whose inputs' names are count tokens from first on, with its pins from cell at on.
@@ -107,16 +102,10 @@ fn place_cover(
 {
     let end = first + count;
     if !resolve_names(text, index, k, &tokens[first..end], &mut pins[at..]) {
-        return Placed {
-            found: false,
-            pins: at,
-        };
+        return Placed::Refused(Refusal::Undefined);
     }
     put_record(gates, j, NARY_AND, at, count);
-    Placed {
-        found: true,
-        pins: at + count,
-    }
+    Placed::Pins(at + count)
 }
 
 // Places gate j for block j, with its pins from cell at on.
@@ -174,14 +163,11 @@ pub fn place_gates(
     let mut j = 0;
     while j < g {
         let placed = place_block(text, tokens, n, index, k, blocks, j, gates, pins, at);
-        if !placed.found {
-            return placed;
+        match placed {
+            Placed::Pins(end) => at = end,
+            Placed::Refused(r) => return Placed::Refused(r),
         }
-        at = placed.pins;
         j += 1;
     }
-    Placed {
-        found: true,
-        pins: at,
-    }
+    Placed::Pins(at)
 }

@@ -7,6 +7,8 @@ use lib.ListN.{length}
 use borrow.Author.Tests.{ltb-false}
 use Rattle.lists.specs.Lists.{if_then_else_, Bytes, any}
 use Rattle.lists.proofs.Tests.{by-test, or-left, or-right}
+use Rattle.refusals.specs.declared.Refusal.{Refusal}
+use Rattle.refusals.specs.declared.Refusal.the-variants as refusal
 use Rattle.network.specs.Cells.{Lent, isNetwork, netOf}
 use Rattle.blif_text.specs.Places.{maxText}
 use Rattle.blif_model.specs.Write.{wide}
@@ -23,7 +25,7 @@ module _ (t : Bytes) (n : ℕ) (e : tooLong t n ≡ false) where
 
 -- the two ways in which the output slice of n bytes is left
 pub data Ways (n : ℕ) (o : WriteOutcome) : Type 0 where
-  refuses : (k : ℕ) → o ≡ refusedText k n → Ways n o
+  refuses : (r : Refusal) → o ≡ refusedText r n → Ways n o
   writes : (t : Bytes) → length t ≤ n → length t ≤ maxText → o ≡ writtenText t n → Ways n o
 
 pub writer-ways : (l : Lent) (n : ℕ) → Ways n (writeInto l n)
@@ -31,10 +33,10 @@ unfolding writeInto
 writer-ways l n =
     by-test (isNetwork l)
     (λ e.
-    by-test (any wide (netOf l .gates)) (λ w. refuses 21 (rw (e, w)))
+    by-test (any wide (netOf l .gates)) (λ w. refuses refusal.WideExclusive (rw (e, w)))
     (λ w.
     let t : Bytes = textOf (netOf l) in
-    let end : Bool → WriteOutcome = λ b. if b then refusedText 22 n else writtenText t n in
+    let end : Bool → WriteOutcome = λ b. if b then refusedText refusal.TextDoesNotFit n else writtenText t n in
     let p : writeInto l n ≡ end (tooLong t n) = rw (e, w) in
-    by-test (tooLong t n) (λ q. refuses 22 (p ∙ ap end q)) (λ q. writes t (in-slice t n q) (in-text t n q) (p ∙ ap end q))))
-    (λ e. refuses 20 (rw e))
+    by-test (tooLong t n) (λ q. refuses refusal.TextDoesNotFit (p ∙ ap end q)) (λ q. writes t (in-slice t n q) (in-text t n q) (p ∙ ap end q))))
+    (λ e. refuses refusal.NotANetwork (rw e))

@@ -5,3 +5,4 @@ pub mod Told
 pub mod Used
 pub mod Whole
 pub mod Answers
+pub mod Summary

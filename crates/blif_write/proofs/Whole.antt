@@ -14,6 +14,7 @@ use Rattle.lists.proofs.Places.{flatMap-append}
 use Rattle.lists.proofs.Over.{length-over, over-is, take-over}
 use Rattle.lists.proofs.OverAt.{part-is, part-back}
 use Rattle.lists.proofs.Tests.{by-order}
+use Rattle.refusals.specs.declared.Refusal.the-variants as refusal
 use Rattle.network.specs.Net.{Net}
 use Rattle.network.specs.Cells.{Lent, isNetwork, netOf}
 use Rattle.network.proofs.Lent.{network-readable, network-sizes}
@@ -61,23 +62,23 @@ network-read l p o e =
 -- ---- the answers
 
 module _ (l : Lent) (n : ℕ) where
-  pub answers-layout : isNetwork l ≡ false → refusedText 20 n ≡ writeInto l n
+  pub answers-layout : isNetwork l ≡ false → refusedText refusal.NotANetwork n ≡ writeInto l n
   unfolding writeInto
   answers-layout e = sym (rw e)
 
-  pub answers-wide : isNetwork l ≡ true → any wide (netOf l .gates) ≡ true → refusedText 21 n ≡ writeInto l n
+  pub answers-wide : isNetwork l ≡ true → any wide (netOf l .gates) ≡ true → refusedText refusal.WideExclusive n ≡ writeInto l n
   unfolding writeInto
   answers-wide e w = sym (rw (e, w))
 
-  answers-text : Writable l → (if tooLong (textOf (netOf l)) n then refusedText 22 n else writtenText (textOf (netOf l)) n) ≡ writeInto l n
+  answers-text : Writable l → (if tooLong (textOf (netOf l)) n then refusedText refusal.TextDoesNotFit n else writtenText (textOf (netOf l)) n) ≡ writeInto l n
   unfolding writeInto
   answers-text w = sym (rw (w .network, w .narrow))
 
-  pub answers-long : Writable l → tooLong (textOf (netOf l)) n ≡ true → refusedText 22 n ≡ writeInto l n
-  answers-long w e = ap (λ (b : Bool). if b then refusedText 22 n else writtenText (textOf (netOf l)) n) (sym e) ∙ answers-text w
+  pub answers-long : Writable l → tooLong (textOf (netOf l)) n ≡ true → refusedText refusal.TextDoesNotFit n ≡ writeInto l n
+  answers-long w e = ap (λ (b : Bool). if b then refusedText refusal.TextDoesNotFit n else writtenText (textOf (netOf l)) n) (sym e) ∙ answers-text w
 
   pub answers-written : Writable l → tooLong (textOf (netOf l)) n ≡ false → writtenText (textOf (netOf l)) n ≡ writeInto l n
-  answers-written w e = ap (λ (b : Bool). if b then refusedText 22 n else writtenText (textOf (netOf l)) n) (sym e) ∙ answers-text w
+  answers-written w e = ap (λ (b : Bool). if b then refusedText refusal.TextDoesNotFit n else writtenText (textOf (netOf l)) n) (sym e) ∙ answers-text w
 
 -- the two limits are one
 too-long : (t : Bytes) (n : ℕ) → min n maxText < length t → tooLong t n ≡ true
@@ -136,10 +137,10 @@ module _ (t o q : Bytes) (room end : ℕ) (r : room ≡ min (length o) maxText) 
 -- the same, where the text is the network's
 module _ (l : Lent) (o : Bytes) {q : Bytes} {room end : ℕ} (w : Writable l) (r : room ≡ min (length o) maxText)
     (v : Wrote (textOf (netOf l)) (take room o) q end) where
-  pub ends-long : room < end → refusedText 22 (length (q ++ drop room o)) ≡ writeInto l (length o)
+  pub ends-long : room < end → refusedText refusal.TextDoesNotFit (length (q ++ drop room o)) ≡ writeInto l (length o)
   ends-long h =
       let t : Bytes = textOf (netOf l) in
-      ap (refusedText 22) (after-length t o q room end r v) ∙ answers-long l (length o) w (wrote-long t o q room end r v h)
+      ap (refusedText refusal.TextDoesNotFit) (after-length t o q room end r v) ∙ answers-long l (length o) w (wrote-long t o q room end r v h)
 
   pub ends-written : {z : Bytes} → end ≤ room → z ≡ zeros (length (take (length (q ++ drop room o) - end) (drop end (q ++ drop room o))))
       → writeOutcome (Written end) (take end (q ++ drop room o) ++ (z ++ drop (length (q ++ drop room o) - end) (drop end (q ++ drop room o)))) ≡ writeInto l (length o)

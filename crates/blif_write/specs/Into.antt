@@ -5,6 +5,8 @@ use Prim.Native.Nat.{ℕ}
 use lib.Dec.{ltb}
 use lib.ListN.{length}
 use Rattle.lists.specs.Lists.{if_then_else_, Bytes, zeros, any, over}
+use Rattle.refusals.specs.declared.Refusal.{Refusal}
+use Rattle.refusals.specs.declared.Refusal.the-variants as refusal
 use Rattle.network.specs.Cells.{Lent, netOf, isNetwork}
 use Rattle.blif_text.specs.Places.{maxText}
 use Rattle.blif_model.specs.Write.{wide}
@@ -14,7 +16,7 @@ use Rattle.blif_write.specs.declared.WriteAnswer.the-variants.{Written, 
 
 -- an answer, and what the output slice holds then
 pub record WriteOutcome : Type 0 where
-  -- what was answered: the text's length, or a refusal's number
+  -- what was answered: the text's length, or a refusal
   pub answer : WriteAnswer
   -- the bytes of the output slice
   pub out : Bytes
@@ -24,8 +26,8 @@ abbrev pub writeOutcome : WriteAnswer → Bytes → WriteOutcome
 writeOutcome a o = record { answer = a; out = o }
 
 -- "A refusal zeroes the output slice"
-abbrev pub refusedText : ℕ → ℕ → WriteOutcome
-refusedText number n = writeOutcome (Refused number) (zeros n)
+abbrev pub refusedText : Refusal → ℕ → WriteOutcome
+refusedText r n = writeOutcome (Refused r) (zeros n)
 
 -- "Success gives the length and zero bytes after it"
 abbrev pub writtenText : Bytes → ℕ → WriteOutcome
@@ -38,7 +40,7 @@ tooLong t n = ltb n (length t) || ltb maxText (length t)
 -- "Writing refuses, in order: 20 .. 21 .. 22"; n is the output slice's length
 unfoldable pub writeInto : Lent → ℕ → WriteOutcome
 writeInto l n =
-    if not (isNetwork l) then refusedText 20 n
-    else if any wide (netOf l .gates) then refusedText 21 n
-    else if tooLong (textOf (netOf l)) n then refusedText 22 n
+    if not (isNetwork l) then refusedText refusal.NotANetwork n
+    else if any wide (netOf l .gates) then refusedText refusal.WideExclusive n
+    else if tooLong (textOf (netOf l)) n then refusedText refusal.TextDoesNotFit n
     else writtenText (textOf (netOf l)) n

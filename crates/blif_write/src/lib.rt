@@ -11,6 +11,7 @@ use gates::Gate;
 use gates::NARY_XNOR;
 use gates::NARY_XOR;
 use network::Counts;
+use refusals::Refusal;
 use signal::Signal;
 ghost use mathlib.Core.Path.{_≡_};
 ghost use mathlib.Core.Bool.{true, false};
@@ -33,10 +34,10 @@ ghost use Rattle.blif_inverters.specs.Marks.{SignalsMarked, namedIn};
 // How many inputs an Xor or Xnor of the Nary form may have to be written.
 const MAX_EXCLUSIVE: usize = 12;
 
-// The text's length, or a refusal's number.
+// The text's length, or a refusal.
 pub enum WriteAnswer {
     Written(usize),
-    Refused(u32),
+    Refused(Refusal),
 }
 
 // Writes the latch of a flip-flop, and nothing for another gate.
@@ -276,11 +277,11 @@ fn write_text(
 }
 
 // Clears the output slice and refuses.
-fn refuse(out: &mut [u8], number: u32) -> WriteAnswer
-    ensures { λ r. ⌜ writeOutcome r (now (out .exit)) ≡ refusedText number (length (now (out .entry))) ⌝ }
+fn refuse(out: &mut [u8], refusal: Refusal) -> WriteAnswer
+    ensures { λ r. ⌜ writeOutcome r (now (out .exit)) ≡ refusedText refusal (length (now (out .entry))) ⌝ }
 {
     lists::fill_zero_bytes(out);
-    WriteAnswer::Refused(number)
+    WriteAnswer::Refused(refusal)
 }
 
 // How much of an output slice of this length a text may take.
@@ -316,7 +317,7 @@ fn write_network(
         &outputs[..used],
     );
     if end > room {
-        return refuse(out, 22);
+        return refuse(out, Refusal::TextDoesNotFit);
     }
     lists::fill_zero_bytes(&mut out[end..]);
     WriteAnswer::Written(end)
@@ -333,10 +334,10 @@ pub fn write_blif(
     ensures { λ r. ⌜ writeOutcome r (now (out .exit)) ≡ writeInto (lent counts (now (gates .entry)) (now (pins .entry)) (now (outputs .entry))) (length (now (out .entry))) ⌝ }
 {
     if !network::check_layout(counts, gates, pins, outputs) {
-        return refuse(out, 20);
+        return refuse(out, Refusal::NotANetwork);
     }
     if any_wide(gates, pins, counts.gates) {
-        return refuse(out, 21);
+        return refuse(out, Refusal::WideExclusive);
     }
     write_network(counts, gates, pins, outputs, out)
 }

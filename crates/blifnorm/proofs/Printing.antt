@@ -10,6 +10,9 @@ use Rattle.lists.proofs.Over.{take-over}
 use Rattle.lists.proofs.Tests.{by-test}
 use Rattle.network.specs.Cells.{Lent, lent, isNetwork, netOf}
 use Rattle.network.specs.declared.Counts.{Counts}
+use Rattle.refusals.specs.declared.Refusal.{Refusal}
+use Rattle.refusals.specs.declared.Refusal.the-variants as refusal
+use Rattle.refusals.specs.Numbers.{numberOf}
 use Rattle.blif_model.specs.Names.{decimal}
 use Rattle.blif_model.specs.Write.{wide}
 use Rattle.blif_model.specs.Render.{textOf}
@@ -35,24 +38,26 @@ module _ (text : Bytes) (ls : Lengths) (n : ℕ) {gs ps os wgs wps : List ℕ} {
   pub norm-read : {c : Counts} {x : WriteOutcome} → a ≡ read.Read c → x ≡ writeInto (lent c gs ps os) n → x ≡ normInto text ls n
   norm-read q w = w ∙ after q
 
-  pub norm-refused : {k : ℕ} {b : Bytes} → a ≡ read.Refused k → b ≡ zeros n → writeOutcome (Refused k) b ≡ normInto text ls n
+  pub norm-refused : {k : Refusal} {b : Bytes} → a ≡ read.Refused k → b ≡ zeros n → writeOutcome (Refused k) b ≡ normInto text ls n
   norm-refused {k} q z = ap (λ (o : Bytes). writeOutcome (Refused k) o) z ∙ after q
 
 -- ---- the line of a refusal
 
-pub line-is : (k : ℕ) → (bytes "refused=" ++ decimal k []) ++ (10 ∷ []) ≡ refusedLine k
-line-is k = append-assoc (bytes "refused=") (decimal k []) (10 ∷ []) ∙ ap (λ (s : Bytes). bytes "refused=" ++ s) (decimal-then k (10 ∷ []))
+pub line-is : (r : Refusal) {k : ℕ} → k ≡ numberOf r → (bytes "refused=" ++ decimal k []) ++ (10 ∷ []) ≡ refusedLine r
+line-is r {k} e =
+    append-assoc (bytes "refused=") (decimal k []) (10 ∷ [])
+    ∙ ap (λ (s : Bytes). bytes "refused=" ++ s) (decimal-then k (10 ∷ []) ∙ ap (λ (m : ℕ). decimal m (10 ∷ [])) e)
 
 -- ---- what the writer answers
 
 -- a network without a gate that is too wide is answered by its text, or by 22
 pub network-text : (l : Lent) (n : ℕ) → isNetwork l ≡ true → any wide (netOf l .gates) ≡ false
-    → printed (writeInto l n) ≡ (if tooLong (textOf (netOf l)) n then refusedLine 22 else textOf (netOf l))
+    → printed (writeInto l n) ≡ (if tooLong (textOf (netOf l)) n then refusedLine refusal.TextDoesNotFit else textOf (netOf l))
 unfolding writeInto
 network-text l n e w =
     let t = textOf (netOf l) in
-    let end : Bool → WriteOutcome = λ b. if b then refusedText 22 n else writtenText t n in
-    let line : Bool → Bytes = λ b. if b then refusedLine 22 else t in
+    let end : Bool → WriteOutcome = λ b. if b then refusedText refusal.TextDoesNotFit n else writtenText t n in
+    let line : Bool → Bytes = λ b. if b then refusedLine refusal.TextDoesNotFit else t in
     let p : writeInto l n ≡ end (tooLong t n) = rw (e, w) in
     let r = length-replicate {A = ℕ} n 0 in
     by-test (tooLong t n)
@@ -85,7 +90,7 @@ text-laid n m x b (writes t l short e) h =
     record { out = eb ∙ ap (λ (s : Bytes). over s (zeros n)) (sym p); len = omega (arith, em, ap length p, r) }
 
 -- and after a refusal the slice is zero, so that its line alone is
-line-laid : (n k : ℕ) (x : WriteOutcome) (b p : Bytes) (r : ℕ) → Ways n x → writeOutcome (Refused k) b ≡ x → Wrote (refusedLine k) b p r
+line-laid : (n : ℕ) (k : Refusal) (x : WriteOutcome) (b p : Bytes) (r : ℕ) → Ways n x → writeOutcome (Refused k) b ≡ x → Wrote (refusedLine k) b p r
     → Wrote (printed x) (zeros n) p r
 unfolding isText
 line-laid n k x b p r (refuses j e) h w =
@@ -101,5 +106,5 @@ module _ (text : Bytes) (ls : Lengths) (n : ℕ) {b : Bytes} {a : WriteAnswer} (
   pub prints-text : {m : ℕ} → a ≡ Written m → Wrote (printed (normInto text ls n)) (zeros n) b m
   prints-text {m} q = text-laid n m (normInto text ls n) b ways (ap (λ (y : WriteAnswer). writeOutcome y b) (sym q) ∙ h)
 
-  pub prints-line : {k : ℕ} {p : Bytes} {r : ℕ} → a ≡ Refused k → Wrote (refusedLine k) b p r → Wrote (printed (normInto text ls n)) (zeros n) p r
+  pub prints-line : {k : Refusal} {p : Bytes} {r : ℕ} → a ≡ Refused k → Wrote (refusedLine k) b p r → Wrote (printed (normInto text ls n)) (zeros n) p r
   prints-line {k} {p} {r} q w = line-laid n k (normInto text ls n) b p r ways (ap (λ (y : WriteAnswer). writeOutcome y b) (sym q) ∙ h) w

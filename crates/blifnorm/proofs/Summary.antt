@@ -5,6 +5,8 @@ use mathlib.Core.List.{map}
 use Prim.Native.Nat.{ℕ}
 use Rattle.lists.specs.Lists.{if_then_else_, Bytes, zeros, any, over}
 use Rattle.signal.specs.Cell.{sigCell}
+use Rattle.refusals.specs.declared.Refusal.{Refusal}
+use Rattle.refusals.specs.declared.Refusal.the-variants as refusal
 use Rattle.network.specs.Net.{Net}
 use Rattle.network.specs.Cells.{gateCells, pinCells, Lent, lent, countsOf, netOf, isNetwork}
 use Rattle.blif_model.specs.Write.{wide}
@@ -21,11 +23,11 @@ module _ (text : Bytes) (ls : Lengths) (n : ℕ) (e : enough ls ≡ true) where
   -- what the reader leaves, with enough cells
   left : {r : Result} → readText text ≡ r → readInto text ls ≡ filled r ls
   unfolding readInto
-  left q = ap (λ (b : Bool). filled (if b then readText text else refused 1) ls) e ∙ ap (λ (x : Result). filled x ls) q
+  left q = ap (λ (b : Bool). filled (if b then readText text else refused refusal.TooFewCells) ls) e ∙ ap (λ (x : Result). filled x ls) q
 
   -- a text that is refused is answered by the line with the refusal's number
-  pub refusal-printed : (k : ℕ) → readText text ≡ refused k → printed (normInto text ls n) ≡ refusedLine k
-  refusal-printed k q = ap (λ (o : ReadOutcome). printed (writtenFrom (o .answer) o n)) (left q)
+  pub refusal-printed : (r : Refusal) → readText text ≡ refused r → printed (normInto text ls n) ≡ refusedLine r
+  refusal-printed r q = ap (λ (o : ReadOutcome). printed (writtenFrom (o .answer) o n)) (left q)
 
   -- a text that is read, by what the writer answers for the cells of the network read
   pub network-printed : (net : Net) → readText text ≡ read net
@@ -39,7 +41,7 @@ module _ (text : Bytes) (ls : Lengths) (n : ℕ) (e : enough ls ≡ true) where
 
   -- a text that is read is answered by the written text of the network read, or by 22 where that text is too long
   pub text-printed : (net : Net) → readText text ≡ read net
-      → printed (normInto text ls n) ≡ (if tooLong (textOf net) n then refusedLine 22 else textOf net)
+      → printed (normInto text ls n) ≡ (if tooLong (textOf net) n then refusedLine refusal.TextDoesNotFit else textOf net)
   text-printed net q =
       let cells : ReadOutcome → Lent = λ o. lent (countsOf net) (o .gates) (o .pins) (o .outputs) in
       let l : Lent = cells (filled (read net) ls) in
@@ -49,4 +51,4 @@ module _ (text : Bytes) (ls : Lengths) (n : ℕ) (e : enough ls ≡ true) where
       let narrow : any wide (netOf l .gates) ≡ false = ap (λ (x : Net). any wide (x .gates)) decodes ∙ read-not-wide text net q in
       network-printed net q
       ∙ network-text l n layout narrow
-      ∙ ap (λ (x : Net). if tooLong (textOf x) n then refusedLine 22 else textOf x) decodes
+      ∙ ap (λ (x : Net). if tooLong (textOf x) n then refusedLine refusal.TextDoesNotFit else textOf x) decodes

@@ -4,6 +4,8 @@ use mathlib.Core.List.{[], _∷_, _++_}
 use Prim.Native.Nat.{ℕ}
 use lib.ListN.{take}
 use Rattle.lists.specs.Lists.{Bytes, bytes}
+use Rattle.refusals.specs.declared.Refusal.{Refusal}
+use Rattle.refusals.specs.Numbers.{numberOf}
 use Rattle.network.specs.Cells.{lent}
 use Rattle.blif_model.specs.Names.{decimal}
 use Rattle.blif_read.specs.Into.{Lengths, readInto, ReadOutcome}
@@ -13,13 +15,13 @@ use Rattle.blif_write.specs.Into.{WriteOutcome, refusedText, writeInto}
 use Rattle.blif_write.specs.declared.WriteAnswer.the-variants as written
 
 -- "the line `refused=N`", with its line's end
-abbrev pub refusedLine : ℕ → Bytes
-refusedLine k = bytes "refused=" ++ decimal k (10 ∷ [])
+abbrev pub refusedLine : Refusal → Bytes
+refusedLine r = bytes "refused=" ++ decimal (numberOf r) (10 ∷ [])
 
 -- after the reader's answer, with the cells that it left: its refusal, or what the writer answers for those cells; n is the output
 -- slice's length
 abbrev pub writtenFrom : ReadAnswer → ReadOutcome → ℕ → WriteOutcome
-writtenFrom (Refused k) o n = refusedText k n
+writtenFrom (Refused r) o n = refusedText r n
 writtenFrom (Read counts) o n = writeInto (lent counts (o .gates) (o .pins) (o .outputs)) n
 
 -- "the written text of the network read", or the reader's or else the writer's refusal, for lent slices of these lengths
@@ -28,4 +30,4 @@ normInto text n = let o = readInto text n in writtenFrom (o .answer) o
 
 -- "prints the written text .., or the line `refused=N`"
 abbrev pub printed : WriteOutcome → Bytes
-printed o = elim (o .answer) [ written.Written n ↦ take n (o .out) | written.Refused k ↦ refusedLine k ]
+printed o = elim (o .answer) [ written.Written n ↦ take n (o .out) | written.Refused r ↦ refusedLine r ]

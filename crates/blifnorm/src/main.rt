@@ -8,6 +8,7 @@ use blif_read::read_blif;
 use blif_write::WriteAnswer;
 use blif_write::write_blif;
 use lists::fill_zero_bytes;
+use refusals::Refusal;
 ghost use mathlib.Core.Path.{_≡_};
 ghost use lib.ListN.{length};
 ghost use Rattle.lists.specs.Lists.{zeros};
@@ -30,19 +31,19 @@ fn normalise(
 {
     match read_blif(text, gates, pins, outputs, work_gates, work_pins) {
         ReadAnswer::Read(counts) => write_blif(counts, gates, pins, outputs, out),
-        ReadAnswer::Refused(number) => {
+        ReadAnswer::Refused(refusal) => {
             fill_zero_bytes(out);
-            WriteAnswer::Refused(number)
+            WriteAnswer::Refused(refusal)
         }
     }
 }
 
 // Writes the line of a refusal.
-fn put_refusal(out: &mut [u8], number: u32) -> usize
-    ensures { λ r. ⌜ Wrote (refusedLine number) (now (out .entry)) (now (out .exit)) r ⌝ }
+fn put_refusal(out: &mut [u8], refusal: Refusal) -> usize
+    ensures { λ r. ⌜ Wrote (refusedLine refusal) (now (out .entry)) (now (out .exit)) r ⌝ }
 {
     let mut at = append(out, 0, b"refused=");
-    at = append_number(out, at, number);
+    at = append_number(out, at, refusal.number());
     append(out, at, b"\n")
 }
 
@@ -60,7 +61,7 @@ fn answer(
 {
     match normalise(text, out, gates, pins, outputs, work_gates, work_pins) {
         WriteAnswer::Written(n) => n,
-        WriteAnswer::Refused(number) => put_refusal(out, number),
+        WriteAnswer::Refused(refusal) => put_refusal(out, refusal),
     }
 }
 

@@ -3,6 +3,7 @@ use mathlib.Core.Bool.{Bool, false}
 use Prim.Native.Nat.{ℕ}
 use lib.Dec.{eqb}
 use Rattle.lists.specs.Lists.{Bytes, same}
+use Rattle.refusals.specs.Numbers.{numberOf}
 use Rattle.network.specs.Net.{Net}
 use Rattle.blif_model.specs.Cases.{sameNet}
 use Rattle.blif_model.specs.Read.{Result, read, refused, readText}
@@ -13,11 +14,7 @@ pub data Answer : Type 0 where
   network : Net → Answer
   number : ℕ → Answer
 
--- the number of a refusal
-abbrev pub numberOf : ℕ → ℕ
-numberOf n = n
-
--- reading gives what Quaigh answers: the same counts and cells, or a refusal of the same number
+-- reading gives what Quaigh answers: the same network, or a refusal of the same number
 unfoldable pub agrees : Result → Answer → Bool
 agrees (read a) (network b) = sameNet a b
 agrees (read a) (number n) = false

@@ -120,7 +120,7 @@ module _ (old new : Net) (π order : ℕ → ℕ) (ren : Renumbered old new π o
       let k : NodeKept (length (new .gates)) π order (t .0 .node) = fr .kept (t .0) (subst (λ (y : Gate). List·Memᴰ (t .0) (pins y)) (sym (c .1)) (t .1)) in
       rk .rises (order i) (order h) f (c .0) (t .0) (fr .wasAt ∙ ap some (c .1)) (t .1) (node-was (t .0 .node) h k (ap (λ (u : Signal). u .node) (t .2) ∙ q)))
 
-  -- equal outputs at every clock: the sort's case, and that of gates left out (CR 8)
+  -- equal outputs at every clock: the sort's case, and that of gates left out
   pub renumbered-same : Valid old → (Loop old → ⊥) → (held held′ : ℕ → Bool) → HoldsAt held held′ → (rows : List (List Bool)) → runFrom new held′ rows ≡ runFrom old held rows
   renumbered-same valid free held held′ h rows =
       let v : Valid new = renumbered-valid valid in

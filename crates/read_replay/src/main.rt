@@ -83,7 +83,14 @@ fn read_into(
     let answer = read_blif(text, gates, pins, outputs, work_gates, work_pins);
     match answer {
         ReadAnswer::Read(counts) => print_read(counts, gates, pins, outputs, work_gates, work_pins),
-        ReadAnswer::Refused(n) => print_refused(n, gates, pins, outputs, work_gates, work_pins),
+        ReadAnswer::Refused(r) => print_refused(
+            r.number(),
+            gates,
+            pins,
+            outputs,
+            work_gates,
+            work_pins,
+        ),
     }
 }
 

@@ -40,7 +40,7 @@ module _ {l : Lent} {n : ℕ} {m : Lengths} (w : Words l) (c : Meets l n m) wher
   net = netOf l
 
   -- it is one of demand 3's
-  good : Good (netOf l)
+  pub good : Good (netOf l)
   good =
       let k = network-laid l w (c .layout) in
       record {
@@ -55,14 +55,14 @@ module _ {l : Lent} {n : ℕ} {m : Lengths} (w : Words l) (c : Meets l n m) wher
       plain-gate f g (Dff s) e = c .plain g s e
 
   -- the text is written
-  written : writeInto l n ≡ writtenText (textOf (netOf l)) n
+  pub written : writeInto l n ≡ writtenText (textOf (netOf l)) n
   unfolding writeInto
   written =
       let t = textOf (netOf l) in
       rw (c .layout, c .narrow, le-ltb n (length t) (c .room), le-ltb maxText (length t) (c .short))
 
   -- and read back as a network that gives equal outputs
-  back : (new : Net) × (readText (textOf (netOf l)) ≡ read new) × SameOutputs new (netOf l)
+  pub back : (new : Net) × (readText (textOf (netOf l)) ≡ read new) × SameOutputs new (netOf l)
   back = read-back (netOf l) good (c .short) (c .sized)
 
   -- exactly the bytes written are read
@@ -71,7 +71,7 @@ module _ {l : Lent} {n : ℕ} {m : Lengths} (w : Words l) (c : Meets l n m) wher
       ap (λ (o : WriteOutcome). take (writtenLength (o .answer)) (o .out)) written
       ∙ take-over (textOf (netOf l)) (zeros n) (omega (arith, c .room, length-replicate {A = ℕ} n 0))
 
-  -- the tripOutcome of reading them
+  -- what reading them leaves
   read-left : readInto (take (writtenLength (writeInto l n .answer)) (writeInto l n .out)) m ≡ readInto (textOf (netOf l)) m
   read-left = ap (λ (t : Bytes). readInto t m) bytes-read
 
@@ -79,12 +79,21 @@ module _ {l : Lent} {n : ℕ} {m : Lengths} (w : Words l) (c : Meets l n m) wher
   decoded : netOf (lent (countsOf (back .0)) (readInto (textOf (netOf l)) m .gates) (readInto (textOf (netOf l)) m .pins) (readInto (textOf (netOf l)) m .outputs)) ≡ back .0
   decoded = read-decodes (textOf (netOf l)) (back .0) m (c .cells) (back .1)
 
+  -- the run of the network written is there, and is the only one
+  pub one-lent : (rows outs : List (List Bool)) → NetRuns (netOf l) rows outs ↔ (outs ≡ run (netOf l) rows)
+  one-lent rows outs = one-run (netOf l) (good .valid) (good .free) zeroBits rows outs
+
+  -- and so is that of the network read back
+  pub one-back : (rows outs : List (List Bool)) → NetRuns (back .0) rows outs ↔ (outs ≡ run (back .0) rows)
+  one-back rows outs =
+      let k = read-net (textOf (netOf l)) (back .0) (back .1) in
+      one-run (back .0) (k .valid) (k .free) zeroBits rows outs
+
   -- equal outputs, by the relation
   same-runs : (rows outs : List (List Bool)) → NetRuns (back .0) rows outs ↔ NetRuns (netOf l) rows outs
   same-runs rows outs =
-      let k = read-net (textOf (netOf l)) (back .0) (back .1) in
-      let a = one-run (back .0) (k .valid) (k .free) zeroBits rows outs in
-      let b = one-run (netOf l) (good .valid) (good .free) zeroBits rows outs in
+      let a = one-back rows outs in
+      let b = one-lent rows outs in
       let q = back .2 .runs rows in
       ((λ r. b .1 (a .0 r ∙ q)), (λ r. a .1 (b .0 r ∙ sym q)))
 
@@ -109,4 +118,6 @@ module _ {l : Lent} {n : ℕ} {m : Lengths} (w : Words l) (c : Meets l n m) wher
         outputs = back .2 .outputs;
         runs = λ rows. ap (λ (x : Net). run x rows) is ∙ back .2 .runs rows;
         same = λ rows outs. subst (λ (x : Net). NetRuns x rows outs ↔ NetRuns (netOf l) rows outs) (sym is) (same-runs rows outs);
+        one = one-lent;
+        one-back = λ rows outs. subst (λ (x : Net). NetRuns x rows outs ↔ (outs ≡ run x rows)) (sym is) (one-back rows outs);
       }

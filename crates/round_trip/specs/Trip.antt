@@ -35,17 +35,17 @@ use Rattle.round_trip.specs.declared.TripAnswer.the-variants.{NotWritten
 -- how much was written: nothing where writing was refused
 abbrev pub writtenLength : WriteAnswer → ℕ
 writtenLength (write.Written n) = n
-writtenLength (write.Refused k) = 0
+writtenLength (write.Refused r) = 0
 
 -- the reader's refusal of a text of n bytes, or its length with the counts of the network read back
 abbrev pub readAnswer : ℕ → ReadAnswer → TripAnswer
-readAnswer n (read.Refused k) = NotRead k
+readAnswer n (read.Refused r) = NotRead r
 readAnswer n (read.Read counts) = ReadBack n counts
 
 -- the writer's refusal, or the reader's answer
 abbrev pub answerOf : WriteAnswer → ReadAnswer → TripAnswer
-answerOf (write.Refused k) r = NotWritten k
-answerOf (write.Written n) r = readAnswer n r
+answerOf (write.Refused r) a = NotWritten r
+answerOf (write.Written n) a = readAnswer n a
 
 -- an answer, and what the slices to be filled hold then
 pub record TripOutcome : Type 0 where
@@ -112,6 +112,11 @@ pub record ReadsBack (net : Net) (o : TripOutcome) : Type 0 where
   pub runs : (rows : List (List Bool)) → run (netOf (lent counts (o .gates) (o .pins) (o .outputs))) rows ≡ run net rows
   -- the same by the relation: what the one may answer, the other may
   pub same : (rows outs : List (List Bool)) → NetRuns (netOf (lent counts (o .gates) (o .pins) (o .outputs))) rows outs ↔ NetRuns net rows outs
+  -- the run of the network written is there, and is the only one
+  pub one : (rows outs : List (List Bool)) → NetRuns net rows outs ↔ (outs ≡ run net rows)
+  -- and so is that of the network read back
+  pub one-back : (rows outs : List (List Bool)) → NetRuns (netOf (lent counts (o .gates) (o .pins) (o .outputs))) rows outs
+      ↔ (outs ≡ run (netOf (lent counts (o .gates) (o .pins) (o .outputs))) rows)
 
 -- the contract of `write_then_read`
 pub record WritesThenReads (l : Lent) (n : ℕ) (m : Lengths) (o : TripOutcome) : Type 0 where

@@ -4,6 +4,7 @@ use blif_read::read_blif;
 use blif_write::WriteAnswer;
 use blif_write::write_blif;
 use network::Counts;
+use refusals::Refusal;
 ghost use mathlib.Core.Path.{_≡_};
 ghost use lib.ListN.{length};
 ghost use Rattle.network.specs.Cells.{lent};
@@ -12,8 +13,8 @@ ghost use Rattle.round_trip.specs.Trip.{writtenLength, readAnswer, answe
 
 // The writer's refusal; the reader's; or the text's length and the counts of the network read back.
 pub enum TripAnswer {
-    NotWritten(u32),
-    NotRead(u32),
+    NotWritten(Refusal),
+    NotRead(Refusal),
     ReadBack(usize, Counts),
 }
 
@@ -33,7 +34,7 @@ fn read_answer(n: usize, answer: ReadAnswer) -> TripAnswer
 {
     match answer {
         ReadAnswer::Read(counts) => TripAnswer::ReadBack(n, counts),
-        ReadAnswer::Refused(k) => TripAnswer::NotRead(k),
+        ReadAnswer::Refused(r) => TripAnswer::NotRead(r),
     }
 }
 
@@ -43,7 +44,7 @@ fn trip_answer(written: WriteAnswer, read: ReadAnswer) -> TripAnswer
 {
     match written {
         WriteAnswer::Written(n) => read_answer(n, read),
-        WriteAnswer::Refused(k) => TripAnswer::NotWritten(k),
+        WriteAnswer::Refused(r) => TripAnswer::NotWritten(r),
     }
 }
 

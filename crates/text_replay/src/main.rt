@@ -9,6 +9,7 @@ use blif_text::statement_at;
 use blif_text::token;
 use blif_text::token_length;
 use blif_text::token_start;
+use refusals::Checked;
 use replay::read_word;
 ghost use Prim.Native.Nat.{_≤_};
 ghost use lib.ListN.{length};
@@ -66,7 +67,7 @@ fn print_statement(text: &[u8], cells: &[u32], s: Statement) {
         Statement::Names(run) => print_names(b"names", text, cells, run),
         Statement::Latch(first) => print_names(b"latch", text, cells, Run { first, count: 2 }),
         Statement::Cube(run) => print_names(b"cube", text, cells, run),
-        Statement::Refused(n) => print_refusal(n),
+        Statement::Refused(r) => print_refusal(r.number()),
     }
     io::write_all(1, b"\n");
 }
@@ -89,8 +90,8 @@ fn print_text(text: &[u8], cells: &mut [u32])
 {
     let n = mark_tokens(text, cells);
     let bad = first_bad(text, cells, n);
-    if bad != 0 {
-        print_refusal(bad);
+    if let Checked::Refused(r) = bad {
+        print_refusal(r.number());
         io::write_all(1, b"\n");
         return;
     }

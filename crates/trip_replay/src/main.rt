@@ -113,8 +113,8 @@ fn print_back(length: usize, counts: Counts) -> Used {
 // An answer's line; what is in use after it. Where the text was written and not read, all of it may be.
 fn print_head(answer: TripAnswer, room: usize) -> Used {
     match answer {
-        TripAnswer::NotWritten(k) => print_refused(b"not written=", k, 0),
-        TripAnswer::NotRead(k) => print_refused(b"not read=", k, room),
+        TripAnswer::NotWritten(r) => print_refused(b"not written=", r.number(), 0),
+        TripAnswer::NotRead(r) => print_refused(b"not read=", r.number(), room),
         TripAnswer::ReadBack(n, back) => print_back(n, back),
     }
 }

@@ -6,6 +6,7 @@ use Prim.Native.Nat.{ℕ, _≤_}
 use native.Mathlib.Omega.{arith}
 use lib.ListN.{length}
 use Rattle.lists.specs.Lists.{if_then_else_, Bytes}
+use Rattle.refusals.specs.declared.Refusal.the-variants as refusal
 use Rattle.network.specs.Cells.{WithinSizes, Lent, countsOf}
 use Rattle.network.specs.declared.Counts.{Counts}
 use Rattle.blif_text.specs.Places.{maxText}
@@ -29,10 +30,10 @@ counts-fit text n a gs ps os wgs wps e = record {
   fits = λ c q. go (enough n) (readText text) refl c (sym q ∙ ap (λ (o : ReadOutcome). o .answer) e);
 }
   where
-    go : (b : Bool) (r : Result) → readText text ≡ r → (c : Counts) → answer.Read c ≡ filled (if b then r else refused 1) n .answer
+    go : (b : Bool) (r : Result) → readText text ≡ r → (c : Counts) → answer.Read c ≡ filled (if b then r else refused refusal.TooFewCells) n .answer
         → WithinSizes (c .inputs) (c .outputs) (c .gates) (c .pins)
     go false r p c q = absurd (let z : _≡_ {A = ℕ} 0 1 = cc in omega (arith, z))
-    go true (refused k) p c q = absurd (let z : _≡_ {A = ℕ} 0 1 = cc in omega (arith, z))
+    go true (refused j) p c q = absurd (let z : _≡_ {A = ℕ} 0 1 = cc in omega (arith, z))
     go true (read net) p c q =
         let z : countsOf net ≡ c = cc in
         subst (λ (k : Counts). WithinSizes (k .inputs) (k .outputs) (k .gates) (k .pins)) z (read-net text net p .sizes)

@@ -1,12 +1,22 @@
 -- What the exported functions hand to their callers: the answers of `read_blif` and `write_blif` as structs in C's layout. Assumes
 -- nothing: these are definitions.
 use mathlib.Core.Path.{_≡_}
+use mathlib.Core.Bool.{Bool}
 use mathlib.Core.List.{List}
+use mathlib.Core.Logic.{_↔_}
 use Prim.Native.Nat.{ℕ, _≤_}
+use lib.ListN.{length, take}
 use Rattle.lists.specs.Lists.{Bytes}
-use Rattle.network.specs.Cells.{WithinSizes}
+use Rattle.refusals.specs.Numbers.{numberOf}
+use Rattle.signal.specs.Signal.{zeroS, oneS}
+use Rattle.gates.specs.Gate.{FlipFlop, Dff}
+use Rattle.network.specs.Net.{Net, GateIs, Loop}
+use Rattle.network.specs.Clock.{NetRuns}
+use Rattle.network.specs.Settle.{run}
+use Rattle.network.specs.Cells.{WithinSizes, Lent, lent, netOf, Words}
 use Rattle.network.specs.declared.Counts.{Counts}
 use Rattle.blif_text.specs.Places.{maxText}
+use Rattle.blif_model.specs.Render.{textOf}
 use Rattle.blif_read.specs.Into.{ReadOutcome}
 use Rattle.blif_read.specs.declared.ReadAnswer.{ReadAnswer}
 use Rattle.blif_read.specs.declared.ReadAnswer.the-variants as read
@@ -19,12 +29,12 @@ use Rattle.vumneath.specs.declared.VumneathText.{VumneathText}
 -- "refused is 0 on success, else the refusal's number; the counts are then 0"
 abbrev pub networkOf : ReadAnswer → VumneathNetwork
 networkOf (read.Read c) = record { refused = 0; inputs = c .inputs; gates = c .gates; pins = c .pins; outputs = c .outputs }
-networkOf (read.Refused k) = record { refused = k; inputs = 0; gates = 0; pins = 0; outputs = 0 }
+networkOf (read.Refused r) = record { refused = numberOf r; inputs = 0; gates = 0; pins = 0; outputs = 0 }
 
 -- the same of writing: the text's length, or the refusal's number
 abbrev pub textFor : WriteAnswer → VumneathText
 textFor (write.Written n) = record { refused = 0; length = n }
-textFor (write.Refused k) = record { refused = k; length = 0 }
+textFor (write.Refused r) = record { refused = numberOf r; length = 0 }
 
 -- what was handed over is an outcome of reading: the answer in C's struct, and every cell of the five slices
 pub record ReadHanded (o : ReadOutcome) (r : VumneathNetwork) (gs ps os wgs wps : List ℕ) : Type 0 where
@@ -57,3 +67,41 @@ pub record CountsFit (a : ReadAnswer) : Type 0 where
 pub record LengthFits (a : WriteAnswer) : Type 0 where
   -- whatever was written is within the sizes
   pub fits : (n : ℕ) → a ≡ write.Written n → n ≤ maxText
+
+-- ---- what was handed over, as a network
+
+-- the counts in C's struct
+abbrev pub countsHanded : VumneathNetwork → Counts
+countsHanded r = record { inputs = r .inputs; gates = r .gates; pins = r .pins; outputs = r .outputs }
+
+-- the network in the cells that reading left
+abbrev pub netHanded : VumneathNetwork → List ℕ → List ℕ → List ℕ → Net
+netHanded r gs ps os = netOf (lent (countsHanded r) gs ps os)
+
+-- demand 3 of what two calls handed over, one that wrote the network and one that read exactly the bytes written
+pub record HandedBack (net : Net) (w : VumneathText) (out : Bytes) (r : VumneathNetwork) (gs ps os : List ℕ) : Type 0 where
+  -- the network is written
+  pub written : w .refused ≡ 0
+  -- the bytes written are its text
+  pub text : take (w .length) out ≡ textOf net
+  -- they are read
+  pub reads : r .refused ≡ 0
+  -- "as many inputs"
+  pub inputs : r .inputs ≡ net .inputs
+  -- "and outputs"
+  pub outputs : r .outputs ≡ length (net .outputs)
+  -- "for every list of rows, the empty one too": equal outputs at every clock from zero
+  pub runs : (rows : List (List Bool)) → run (netHanded r gs ps os) rows ≡ run net rows
+  -- the run of the network lent is there, and is the only one
+  pub one : (rows outs : List (List Bool)) → NetRuns net rows outs ↔ (outs ≡ run net rows)
+  -- and so is that of the network read back
+  pub one-back : (rows outs : List (List Bool)) → NetRuns (netHanded r gs ps os) rows outs ↔ (outs ≡ run (netHanded r gs ps os) rows)
+
+-- what demand 3 asks of a lent network that is written
+pub record Runnable (l : Lent) : Type 0 where
+  -- the lent cells are 32-bit numbers, as C's are
+  pub words : Words l
+  -- no combinational loop
+  pub free : Loop (netOf l) → ⊥
+  -- plain flip-flops: enable one, reset zero
+  pub plain : (g : ℕ) (s : FlipFlop) → GateIs (netOf l) g (Dff s) → (s .enable ≡ oneS) × (s .reset ≡ zeroS)

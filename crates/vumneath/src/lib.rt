@@ -42,8 +42,8 @@ fn network_of(answer: ReadAnswer) -> VumneathNetwork
             pins: counts.pins as u32,
             outputs: counts.outputs as u32,
         },
-        ReadAnswer::Refused(number) => VumneathNetwork {
-            refused: number,
+        ReadAnswer::Refused(refusal) => VumneathNetwork {
+            refused: refusal.number(),
             inputs: 0,
             gates: 0,
             pins: 0,
@@ -62,8 +62,8 @@ fn text_of(answer: WriteAnswer) -> VumneathText
             refused: 0,
             length: n as u32,
         },
-        WriteAnswer::Refused(number) => VumneathText {
-            refused: number,
+        WriteAnswer::Refused(refusal) => VumneathText {
+            refused: refusal.number(),
             length: 0,
         },
     }

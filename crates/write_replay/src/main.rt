@@ -77,7 +77,7 @@ fn print_answer(
 ) {
     match answer {
         WriteAnswer::Written(n) => print_written(out, n),
-        WriteAnswer::Refused(number) => print_refused(out, number),
+        WriteAnswer::Refused(refusal) => print_refused(out, refusal.number()),
     }
     expect_same(gates, kept_gates);
     expect_same(pins, kept_pins);

@@ -1,8 +1,10 @@
 -- `define_row` passes a statement. Assumes nothing.
+use mathlib.Core.Path.{sym, subst}
 use native.Mathlib.Omega.{arith}
 use borrow.Author.Needs.{needs}
 use Rattle.blif_sizes.proofs.RowStarts.{row-as}
-use Rattle.blif_decls.proofs.Defining.{go-cube, go-exdc, go-model, go-end, go-inputs, go-outputs}
+use Rattle.blif_decls.specs.Naming.{Steps}
+use Rattle.blif_decls.proofs.Defining.{go-cube, go-exdc, go-model, go-end, go-inputs, go-outputs, step-is}
 use Rattle.blif_decls.proofs.DefiningGates.{go-latch, go-cover}
 use Rattle.blif_decls.proofs.Walking.{inputs-fit, outputs-fit, outputs-small, latch-fit, cover-fit}
 use Rattle.blif_decls.proofs.define_row.Statement.{statement}
@@ -14,25 +16,23 @@ row-at-requires c κs = search needs
 enum-told : tie.Need-enum-told
 enum-told c = search needs
 
-model-refusal-requires : tie.Need-model-refusal-requires
-model-refusal-requires c κs = search needs
+when-requires : tie.Need-when-requires
+when-requires c κs = search needs
+
+step-of-requires : tie.Need-step-of-requires
+step-of-requires c κs = search needs
 
 enum-told-2 : tie.Need-enum-told-2
 enum-told-2 c = search needs
 
-end-refusal-requires : tie.Need-end-refusal-requires
-end-refusal-requires c κs = search needs
+when-requires-2 : tie.Need-when-requires-2
+when-requires-2 c κs = search needs
+
+step-of-requires-2 : tie.Need-step-of-requires-2
+step-of-requires-2 c κs = search needs
 
 enum-told-3 : tie.Need-enum-told-3
 enum-told-3 c = search needs
-
-add-enter-inputs : tie.Need-add-enter-inputs
-add-enter-inputs c = search needs
-
-enter-inputs-requires : tie.Need-enter-inputs-requires
-enter-inputs-requires c κs =
-    let pre = c .before .before .before .before .before .before .before .before .before .before .pre in
-    inputs-fit (pre .0) (row-as (c .before .before .before .before .row-at .ensures) (c .before .before .enum-told3 .given .1))
 
 sub-next : tie.Need-sub-next
 sub-next c = search needs
@@ -42,21 +42,20 @@ sub-next-2 c = search needs
 
 add-next : tie.Need-add-next
 add-next c =
-    let pre = c .before .before .before .before .before .before .before .before .before .before .before .before .before .before .before .pre in
-    let row-at = c .before .before .before .before .before .before .before .before .before .row-at in
-    let enum-told3 = c .before .before .before .before .before .before .before .enum-told3 in
-    omega (arith, inputs-fit (pre .0) (row-as (row-at .ensures) (enum-told3 .given .1)) .inputs)
+    omega (arith, inputs-fit (c .before .before .before .before .before .before .before .before .before .before .pre .0) (row-as (c .before .before .before .before .row-at .ensures) (c .before .before .enum-told3 .given .1)) .inputs)
+
+add-enter-inputs : tie.Need-add-enter-inputs
+add-enter-inputs c = search needs
+
+enter-inputs-requires : tie.Need-enter-inputs-requires
+enter-inputs-requires c κs =
+    inputs-fit (c .before .before .before .before .before .before .before .before .before .before .before .before .pre .0) (row-as (c .before .before .before .before .before .before .row-at .ensures) (c .before .before .before .before .enum-told3 .given .1))
+
+step-of-requires-3 : tie.Need-step-of-requires-3
+step-of-requires-3 c κs = search needs
 
 enum-told-4 : tie.Need-enum-told-4
 enum-told-4 c = search needs
-
-add-copy-outputs : tie.Need-add-copy-outputs
-add-copy-outputs c = search needs
-
-copy-outputs-requires : tie.Need-copy-outputs-requires
-copy-outputs-requires c κs =
-    let pre = c .before .before .before .before .before .before .before .before .before .before .pre in
-    outputs-fit (pre .0) (row-as (c .before .before .before .before .row-at .ensures) (c .before .before .enum-told4 .given .1))
 
 sub-next-3 : tie.Need-sub-next-3
 sub-next-3 c = search needs
@@ -66,18 +65,21 @@ sub-next-4 c = search needs
 
 add-next-2 : tie.Need-add-next-2
 add-next-2 c =
-    let pre = c .before .before .before .before .before .before .before .before .before .before .before .before .before .before .before .pre in
-    let row-at = c .before .before .before .before .before .before .before .before .before .row-at in
-    let enum-told4 = c .before .before .before .before .before .before .before .enum-told4 in
-    omega (arith, outputs-small (pre .0) (row-as (row-at .ensures) (enum-told4 .given .1)))
+    omega (arith, outputs-small (c .before .before .before .before .before .before .before .before .before .before .pre .0) (row-as (c .before .before .before .before .row-at .ensures) (c .before .before .enum-told4 .given .1)))
+
+add-copy-outputs : tie.Need-add-copy-outputs
+add-copy-outputs c = search needs
+
+copy-outputs-requires : tie.Need-copy-outputs-requires
+copy-outputs-requires c κs =
+    outputs-fit (c .before .before .before .before .before .before .before .before .before .before .before .before .pre .0) (row-as (c .before .before .before .before .before .before .row-at .ensures) (c .before .before .before .before .enum-told4 .given .1))
 
 enum-told-5 : tie.Need-enum-told-5
 enum-told-5 c = search needs
 
 define-latch-requires : tie.Need-define-latch-requires
 define-latch-requires c κs =
-    let pre = c .before .before .before .before .before .before .before .before .before .before .pre in
-    latch-fit (pre .0) (row-as (c .before .before .before .before .row-at .ensures) (c .before .before .enum-told5 .given .1))
+    latch-fit (c .before .before .before .before .before .before .before .before .before .before .pre .0) (row-as (c .before .before .before .before .row-at .ensures) (c .before .before .enum-told5 .given .1))
 
 enum-told-6 : tie.Need-enum-told-6
 enum-told-6 c = search needs
@@ -99,33 +101,27 @@ enum-told-9 c = search needs
 
 returns : tie.Need-returns
 returns c =
-    let pre = c .before .before .before .before .before .before .before .before .before .pre in
-    go-model (pre .0) (row-as (c .before .before .before .row-at .ensures) (c .before .enum-told .given .1)) (c .model-refusal .ensures)
+    subst (Steps _ _ _ _ _ _ _) (step-is _ (c .step-of .ensures) (c .before .when .ensures)) (go-model (c .before .before .before .before .before .before .before .before .before .before .pre .0) (row-as (c .before .before .before .before .row-at .ensures) (c .before .before .enum-told .given .1)))
 
 returns-2 : tie.Need-returns-2
 returns-2 c =
-    let pre = c .before .before .before .before .before .before .before .before .before .pre in
-    go-end (pre .0) (row-as (c .before .before .before .row-at .ensures) (c .before .enum-told2 .given .1)) (c .end-refusal .ensures)
+    subst (Steps _ _ _ _ _ _ _) (step-is _ (c .step-of2 .ensures) (c .before .when2 .ensures)) (go-end (c .before .before .before .before .before .before .before .before .before .before .before .pre .0) (row-as (c .before .before .before .before .before .row-at .ensures) (c .before .before .before .enum-told2 .given .1)))
 
 same-length : tie.Need-same-length
 same-length c = search needs
 
 returns-3 : tie.Need-returns-3
 returns-3 c =
-    let pre = c .before .before .before .before .before .before .before .before .before .before .before .before .before .before .before .pre in
-    let row-at = c .before .before .before .before .before .before .before .before .before .row-at in
-    let enum-told3 = c .before .before .before .before .before .before .before .enum-told3 in
-    go-inputs (pre .0) (row-as (row-at .ensures) (enum-told3 .given .1)) (c .before .before .before .before .enter-inputs .ensures)
+    let row = row-as (c .before .before .before .before .before .before .before .before .before .before .row-at .ensures) (c .before .before .before .before .before .before .before .before .enum-told3 .given .1) in
+    subst (Steps _ _ _ _ _ _ _) (sym (c .step-of3 .ensures)) (go-inputs (c .before .before .before .before .before .before .before .before .before .before .before .before .before .before .before .before .pre .0) row (c .before .before .before .enter-inputs .ensures))
 
 same-length-2 : tie.Need-same-length-2
 same-length-2 c = search needs
 
 returns-4 : tie.Need-returns-4
 returns-4 c =
-    let pre = c .before .before .before .before .before .before .before .before .before .before .before .before .before .before .before .pre in
-    let row-at = c .before .before .before .before .before .before .before .before .before .row-at in
-    let enum-told4 = c .before .before .before .before .before .before .before .enum-told4 in
-    go-outputs (pre .0) (row-as (row-at .ensures) (enum-told4 .given .1)) (c .before .before .before .before .copy-outputs .ensures) (c .before .before .before .before .copy-outputs .kept .1 .1 .1 .0)
+    let row = row-as (c .before .before .before .before .before .before .before .before .before .row-at .ensures) (c .before .before .before .before .before .before .before .enum-told4 .given .1) in
+    go-outputs (c .before .before .before .before .before .before .before .before .before .before .before .before .before .before .before .pre .0) row (c .before .before .copy-outputs .ensures) (c .before .before .copy-outputs .kept .1 .1 .1 .0)
 
 same-length-3 : tie.Need-same-length-3
 same-length-3 c = search needs
@@ -135,10 +131,8 @@ same-length-4 c = search needs
 
 returns-5 : tie.Need-returns-5
 returns-5 c =
-    let pre = c .before .before .before .before .before .before .before .before .before .before .before .before .before .before .before .pre in
-    let row-at = c .before .before .before .before .before .before .before .before .before .row-at in
-    let enum-told5 = c .before .before .before .before .before .before .before .enum-told5 in
-    go-latch (pre .0) (row-as (row-at .ensures) (enum-told5 .given .1)) (c .before .before .before .before .define-latch .ensures) (c .before .before .before .before .define-latch .kept .1 .1 .1 .0)
+    let row = row-as (c .before .before .before .before .before .before .before .before .before .row-at .ensures) (c .before .before .before .before .before .before .before .enum-told5 .given .1) in
+    go-latch (c .before .before .before .before .before .before .before .before .before .before .before .before .before .before .before .pre .0) row (c .before .before .before .before .define-latch .ensures) (c .before .before .before .before .define-latch .kept .1 .1 .1 .0)
 
 same-length-5 : tie.Need-same-length-5
 same-length-5 c = search needs
@@ -148,23 +142,20 @@ same-length-6 c = search needs
 
 returns-6 : tie.Need-returns-6
 returns-6 c =
-    let pre = c .before .before .before .before .before .before .before .before .before .before .before .before .before .before .before .pre in
-    let row-at = c .before .before .before .before .before .before .before .before .before .row-at in
-    let enum-told6 = c .before .before .before .before .before .before .before .enum-told6 in
-    go-cover (pre .0) (row-as (row-at .ensures) (enum-told6 .given .1)) (c .before .before .before .before .define-cover .ensures) (c .before .before .before .before .define-cover .kept .1 .1 .1 .1 .0)
+    let row = row-as (c .before .before .before .before .before .before .before .before .before .row-at .ensures) (c .before .before .before .before .before .before .before .enum-told6 .given .1) in
+    go-cover (c .before .before .before .before .before .before .before .before .before .before .before .before .before .before .before .pre .0) row (c .before .before .before .before .define-cover .ensures) (c .before .before .before .before .define-cover .kept .1 .1 .1 .1 .0)
 
 returns-7 : tie.Need-returns-7
 returns-7 c =
-    let pre = c .before .before .before .before .before .before .before .before .pre in
-    go-exdc (pre .0) (row-as (c .before .before .row-at .ensures) (c .enum-told7 .given .1))
+    go-exdc (c .before .before .before .before .before .before .before .before .pre .0) (row-as (c .before .before .row-at .ensures) (c .enum-told7 .given .1))
 
 returns-8 : tie.Need-returns-8
 returns-8 c =
-    let pre = c .before .before .before .before .before .before .before .before .pre in
-    go-cube (pre .0) (row-as (c .before .before .row-at .ensures) (c .enum-told8 .given .1))
+    go-cube (c .before .before .before .before .before .before .before .before .pre .0) (row-as (c .before .before .row-at .ensures) (c .enum-told8 .given .1))
 
 returns-9 : tie.Need-returns-9
-returns-9 c = absurd ((row-as (c .before .before .row-at .ensures) (c .enum-told9 .given .1)) .starts)
+returns-9 c =
+    absurd ((row-as (c .before .before .row-at .ensures) (c .enum-told9 .given .1)) .starts)
 
 pub define-row-spec : {M : Type 1} → statement M
 define-row-spec =
@@ -172,21 +163,24 @@ define-row-spec =
     (tie.spec
     row-at-requires
     enum-told
-    model-refusal-requires
+    when-requires
+    step-of-requires
     enum-told-2
-    end-refusal-requires
+    when-requires-2
+    step-of-requires-2
     enum-told-3
-    add-enter-inputs
-    enter-inputs-requires
     sub-next
     sub-next-2
     add-next
+    add-enter-inputs
+    enter-inputs-requires
+    step-of-requires-3
     enum-told-4
-    add-copy-outputs
-    copy-outputs-requires
     sub-next-3
     sub-next-4
     add-next-2
+    add-copy-outputs
+    copy-outputs-requires
     enum-told-5
     define-latch-requires
     enum-told-6

@@ -13,13 +13,13 @@ use Rattle.sort.proofs.topo_sort.Reads as topo-sort-reads
 build-covers-requires : tie.Need-build-covers-requires
 build-covers-requires c κs =
     let pre = c .before .before .before .before .before .before .before .before .before .before .pre in
-    (pre .1 .blocks-in, buildable (pre .1) (record { gateRoom = pre .0 .workGates; pinRoom = pre .0 .workPins }))
+    (pre .1 .0 .blocks-in, buildable (pre .1 .0) (pre .1 .1) (record { gateRoom = pre .0 .workGates; pinRoom = pre .0 .workPins }))
 
 topo-sort-requires : tie.Need-topo-sort-requires
 topo-sort-requires c κs =
     let pre = c .before .before .before .before .before .before .before .before .before .before .before .before .before .before .before .before .before .before .before .before .pre in
     let build-covers = c .before .before .before .before .before .before .before .before .before .build-covers in
-    sortable (pre .1) (build-covers .ensures) (omega (arith, pre .0 .workGates, build-covers .kept .1 .1 .1 .1 .1 .0)) (omega (arith, pre .0 .workPins, build-covers .kept .1 .1 .1 .1 .1 .1 .0)) (pre .0 .outputs) _ _ (pre .0 .gates) (pre .0 .pins)
+    sortable (pre .1 .0) (pre .1 .1) (build-covers .ensures) (omega (arith, pre .0 .workGates, build-covers .kept .1 .1 .1 .1 .1 .0)) (omega (arith, pre .0 .workPins, build-covers .kept .1 .1 .1 .1 .1 .1 .0)) (pre .0 .outputs) _ _ (pre .0 .gates) (pre .0 .pins)
 
 enum-told : tie.Need-enum-told
 enum-told c = search needs
@@ -47,7 +47,7 @@ returns c =
     let pre = c .before .before .before .before .before .before .before .before .before .before .before .before .before .before .before .before .before .before .before .before .before .before .before .before .before .before .before .before .before .pre in
     let build-covers = c .before .before .before .before .before .before .before .before .before .before .before .before .before .before .before .before .before .before .build-covers in
     let topo-sort = c .before .before .before .before .before .before .before .before .topo-sort in
-    holds-refused _ _ _ _ _ (loop-refused (pre .1) (build-covers .ensures) (omega (arith, pre .0 .workGates, build-covers .kept .1 .1 .1 .1 .1 .0)) (omega (arith, pre .0 .workPins, build-covers .kept .1 .1 .1 .1 .1 .1 .0)) (pre .0 .outputs) _ _ (pre .0 .gates) (pre .0 .pins) (topo-sort .ensures) (c .enum-told .given .1))
+    holds-refused _ _ _ _ _ (loop-refused (pre .1 .0) (pre .1 .1) (build-covers .ensures) (omega (arith, pre .0 .workGates, build-covers .kept .1 .1 .1 .1 .1 .0)) (omega (arith, pre .0 .workPins, build-covers .kept .1 .1 .1 .1 .1 .1 .0)) (pre .0 .outputs) _ _ (pre .0 .gates) (pre .0 .pins) (topo-sort .ensures) (c .enum-told .given .1))
 
 same-length-6 : tie.Need-same-length-6
 same-length-6 c = search needs
@@ -69,7 +69,7 @@ returns-2 c =
     let pre = c .before .before .before .before .before .before .before .before .before .before .before .before .before .before .before .before .before .before .before .before .before .before .before .before .before .before .before .before .before .before .pre in
     let build-covers = c .before .before .before .before .before .before .before .before .before .before .before .before .before .before .before .before .before .before .before .build-covers in
     let topo-sort = c .before .before .before .before .before .before .before .before .before .topo-sort in
-    order-read (pre .1) (build-covers .ensures) (omega (arith, pre .0 .workGates, build-covers .kept .1 .1 .1 .1 .1 .0)) (omega (arith, pre .0 .workPins, build-covers .kept .1 .1 .1 .1 .1 .1 .0)) (pre .0 .outputs) _ _ (pre .0 .gates) (pre .0 .pins) (topo-sort .ensures) _ (c .before .used-pins .given .1)
+    order-read (pre .1 .0) (pre .1 .1) (build-covers .ensures) (omega (arith, pre .0 .workGates, build-covers .kept .1 .1 .1 .1 .1 .0)) (omega (arith, pre .0 .workPins, build-covers .kept .1 .1 .1 .1 .1 .1 .0)) (pre .0 .outputs) _ _ (pre .0 .gates) (pre .0 .pins) (topo-sort .ensures) _ (c .before .used-pins .given .1)
 
 pub read-built-spec : {M : Type 1} → statement M
 read-built-spec =

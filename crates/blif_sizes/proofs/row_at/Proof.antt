@@ -17,7 +17,7 @@ statement-at-requires c κs =
 returns : tie.Need-returns
 returns c =
     let s = c .before .before .before .before in
-    row-is (s .pre .0) (s .pre .1) (c .before .row-end .ensures) (c .statement-at .result) (c .statement-at .ensures)
+    row-is (s .pre .0) (s .pre .1) (c .before .row-end .ensures) (c .statement-at .ensures)
 
 pub row-at-spec : {M : Type 1} → statement M
 row-at-spec = tie.close (tie.spec row-end-requires statement-at-requires returns)

@@ -1,6 +1,9 @@
 -- `first_bad` passes one row after the other. Assumes nothing.
+use mathlib.Core.Path.{sym, ap, _∙_}
 use Prim.Native.Nat.{_-_}
 use native.Mathlib.Omega.{arith}
+use borrow.Author.Needs.{needs}
+use Rattle.blif_text.specs.PlacedStatements.{refusalIn}
 use Rattle.blif_text.proofs.RefusalLaws.{Passing, passing-start, passing-done, passing-stop, passing-next}
 use Rattle.blif_text.proofs.first_bad.Statement.{statement}
 use Rattle.blif_text.proofs.first_bad.Tie as tie
@@ -26,22 +29,30 @@ statement-at-requires c κs =
 refusal-of-requires : tie.Need-refusal-of-requires Inv-loop μ-loop
 refusal-of-requires c κs = tt
 
+enum-known-bad : tie.Need-enum-known-bad Inv-loop μ-loop
+enum-known-bad c = search needs
+
 returns : tie.Need-returns Inv-loop μ-loop
 returns c =
-    let v = c .before .before .before .before .before .loop .inv in
-    let w = c .before .before .before .row-end .ensures in
-    let s = c .before .before .statement-at in
-    passing-stop v (c .before .before .before .before .loop-test .taken) w (s .result) (s .ensures) (c .before .refusal-of .ensures) (c .if1 .taken)
+    let v = c .before .before .before .before .before .before .before .loop .inv in
+    let taken = c .before .before .before .before .before .before .loop-test .taken in
+    let w = c .before .before .before .before .before .row-end .ensures in
+    let s = c .before .before .before .before .statement-at .ensures in
+    passing-stop v taken w (sym (c .before .before .before .refusal-of .ensures ∙ ap refusalIn s) ∙ c .before .bad .given .1)
+
+enum-told : tie.Need-enum-told Inv-loop μ-loop
+enum-told c = search needs
 
 loop-less : tie.Need-loop-less Inv-loop μ-loop
-loop-less c = omega (arith, c .before .before .before .row-end .ensures .low, c .before .before .before .before .loop-test .taken)
+loop-less c = omega (arith, c .before .before .before .before .row-end .ensures .low, c .before .before .before .before .before .loop-test .taken)
 
 loop-again : tie.Need-loop-again Inv-loop μ-loop
 loop-again c =
-    let v = c .before .before .before .before .before .loop .inv in
-    let w = c .before .before .before .row-end .ensures in
-    let s = c .before .before .statement-at in
-    passing-next v (c .before .before .before .before .loop-test .taken) w (s .result) (s .ensures) (c .before .refusal-of .ensures) (c .if1 .left)
+    let v = c .before .before .before .before .before .before .loop .inv in
+    let taken = c .before .before .before .before .before .loop-test .taken in
+    let w = c .before .before .before .before .row-end .ensures in
+    let s = c .before .before .before .statement-at .ensures in
+    passing-next v taken w (sym (c .before .before .refusal-of .ensures ∙ ap refusalIn s) ∙ c .enum-told .given .1)
 
 returns-2 : tie.Need-returns-2 Inv-loop μ-loop
 returns-2 c = passing-done (c .before .loop .inv) (c .loop-test .left)
@@ -56,7 +67,9 @@ first-bad-spec =
     row-end-requires
     statement-at-requires
     refusal-of-requires
+    enum-known-bad
     returns
+    enum-told
     loop-less
     loop-again
     returns-2)

@@ -1,5 +1,5 @@
 -- `refusal_of` tells a refusal from the other statements. Assumes nothing.
-use mathlib.Core.Path.{_≡_, refl}
+use mathlib.Core.Path.{_≡_, refl, sym, ap}
 use mathlib.Core.List.{[], _∷_}
 use mathlib.Core.Logic.{inl, inr}
 use Prim.Native.Nat.{ℕ, _<_}
@@ -7,7 +7,8 @@ use native.Mathlib.Omega.{arith}
 use borrow.Author.Needs.{needs}
 use denote.Enum.Declared.{tagOf}
 use types.Run.{OneOf}
-use Rattle.blif_text.specs.PlacedStatements.{refusal}
+use Rattle.refusals.specs.declared.Checked.the-variants.{Fine}
+use Rattle.blif_text.specs.PlacedStatements.{refusalIn}
 use Rattle.blif_text.specs.declared.Statement.{Statement}
 use Rattle.blif_text.specs.declared.Statement.the-variants as place
 use Rattle.blif_text.proofs.Statement.{the-type}
@@ -26,7 +27,7 @@ below x (inr (inr (inr (inr (inr (inr (inl e))))))) = omega arith
 below x (inr (inr (inr (inr (inr (inr (inr e))))))) = omega arith
 
 -- the variants before the last are no refusals
-none : (s : Statement) → OneOf (0 ∷ 1 ∷ 2 ∷ 3 ∷ 4 ∷ 5 ∷ 6 ∷ 7 ∷ []) (tagOf the-type s) → 0 ≡ refusal s
+none : (s : Statement) → OneOf (0 ∷ 1 ∷ 2 ∷ 3 ∷ 4 ∷ 5 ∷ 6 ∷ 7 ∷ []) (tagOf the-type s) → Fine ≡ refusalIn s
 none place.Model k = refl
 none place.End k = refl
 none place.Exdc k = refl
@@ -41,7 +42,7 @@ enum-known-s : tie.Need-enum-known-s
 enum-known-s c = search needs
 
 returns : tie.Need-returns
-returns c = search needs
+returns c = sym (ap refusalIn (c .before .s .given .1))
 
 returns-2 : tie.Need-returns-2
 returns-2 c = none (c .before .args .s) (c .match .keys2)

@@ -2,6 +2,8 @@
 use mathlib.Core.Path.{ap, _∙_}
 use borrow.Author.Needs.{needs}
 use Rattle.blif_text.specs.Keywords.{keywordOf}
+use Rattle.blif_text.specs.PlacedStatements.{statementOf}
+use Rattle.blif_text.specs.declared.Keyword.{Keyword}
 use Rattle.blif_text.proofs.statement_at.Statement.{statement}
 use Rattle.blif_text.proofs.statement_at.Tie as tie
 
@@ -22,9 +24,10 @@ statement-of-requires c κs = search needs
 
 returns : tie.Need-returns
 returns c =
-    let before = c .before .before .before .before .before .before in
-    let s = before in
-    c .statement-of .ensures (s .args .text .now) (s .args .cells .now) (s .pre .0 .1) (c .before .keyword-of .ensures ∙ ap keywordOf (c .before .before .token .ensures))
+    let at = c .before .before .before .before .before .before .args .at in
+    let end = c .before .before .before .before .before .before .args .end in
+    c .statement-of .ensures
+    ∙ ap (λ (k : Keyword). statementOf k at end) (c .before .keyword-of .ensures ∙ ap keywordOf (c .before .before .token .ensures))
 
 pub statement-at-spec : {M : Type 1} → statement M
 statement-at-spec =

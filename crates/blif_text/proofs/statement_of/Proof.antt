@@ -1,6 +1,6 @@
 -- `statement_of` finds the statement by the keyword. Assumes nothing.
 use borrow.Author.Needs.{needs}
-use Rattle.blif_text.proofs.StatementLaws.{said-inputs, said-outputs, said-names, said-end, said-exdc, said-unsupported, said-cube, said-model, said-no-model, said-latch, said-no-latch}
+use Rattle.blif_text.proofs.StatementLaws.{of-keyword, of-model, of-no-model, of-latch, of-no-latch}
 use Rattle.blif_text.proofs.statement_of.Statement.{statement}
 use Rattle.blif_text.proofs.statement_of.Tie as tie
 
@@ -17,7 +17,7 @@ enum-told : tie.Need-enum-told
 enum-told c = search needs
 
 returns : tie.Need-returns
-returns c = said-no-model (c .before .before .before .before .pre) (c .before .before .enum-told .given .1) (c .if1 .taken)
+returns c = of-no-model (c .before .before .before .before .args .at) (c .before .before .before .before .args .end) (c .before .before .enum-told .given .1) (c .if1 .taken)
 
 enum-told-2 : tie.Need-enum-told-2
 enum-told-2 c = search needs
@@ -29,10 +29,10 @@ enum-told-4 : tie.Need-enum-told-4
 enum-told-4 c = search needs
 
 returns-2 : tie.Need-returns-2
-returns-2 c = said-no-latch (c .before .before .before .before .pre) (c .before .before .enum-told4 .given .1) (c .if2 .taken)
+returns-2 c = of-no-latch (c .before .before .before .before .args .at) (c .before .before .before .before .args .end) (c .before .before .enum-told4 .given .1) (c .if2 .taken)
 
-add-t11 : tie.Need-add-t11
-add-t11 c = search needs
+add-t13 : tie.Need-add-t13
+add-t13 c = search needs
 
 enum-told-5 : tie.Need-enum-told-5
 enum-told-5 c = search needs
@@ -49,35 +49,35 @@ enum-told-8 c = search needs
 enum-told-9 : tie.Need-enum-told-9
 enum-told-9 c = search needs
 
-sub-t12 : tie.Need-sub-t12
-sub-t12 c = search needs
+sub-t15 : tie.Need-sub-t15
+sub-t15 c = search needs
 
 returns-3 : tie.Need-returns-3
-returns-3 c = said-model (c .before .before .before .before .pre) (c .before .before .enum-told .given .1) (c .if1 .left)
+returns-3 c = of-model (c .before .before .before .before .args .at) (c .before .before .before .before .args .end) (c .before .before .enum-told .given .1) (c .if1 .left)
 
 returns-4 : tie.Need-returns-4
-returns-4 c = said-inputs (c .before .before .pre) (c .enum-told2 .given .1)
+returns-4 c = of-keyword (c .before .before .args .at) (c .before .before .args .end) (c .enum-told2 .given .1)
 
 returns-5 : tie.Need-returns-5
-returns-5 c = said-outputs (c .before .before .pre) (c .enum-told3 .given .1)
+returns-5 c = of-keyword (c .before .before .args .at) (c .before .before .args .end) (c .enum-told3 .given .1)
 
 returns-6 : tie.Need-returns-6
-returns-6 c = said-latch (c .before .before .before .before .pre) (c .before .before .enum-told4 .given .1) (c .if2 .left)
+returns-6 c = of-latch (c .before .before .before .before .args .at) (c .before .before .before .before .args .end) (c .before .before .enum-told4 .given .1) (c .if2 .left)
 
 returns-7 : tie.Need-returns-7
-returns-7 c = said-names (c .before .before .pre) (c .enum-told5 .given .1)
+returns-7 c = of-keyword (c .before .before .args .at) (c .before .before .args .end) (c .enum-told5 .given .1)
 
 returns-8 : tie.Need-returns-8
-returns-8 c = said-end (c .before .before .pre) (c .enum-told6 .given .1)
+returns-8 c = of-keyword (c .before .before .args .at) (c .before .before .args .end) (c .enum-told6 .given .1)
 
 returns-9 : tie.Need-returns-9
-returns-9 c = said-exdc (c .before .before .pre) (c .enum-told7 .given .1)
+returns-9 c = of-keyword (c .before .before .args .at) (c .before .before .args .end) (c .enum-told7 .given .1)
 
 returns-10 : tie.Need-returns-10
-returns-10 c = said-unsupported (c .before .before .pre) (c .enum-told8 .given .1)
+returns-10 c = of-keyword (c .before .before .args .at) (c .before .before .args .end) (c .enum-told8 .given .1)
 
 returns-11 : tie.Need-returns-11
-returns-11 c = said-cube (c .before .before .pre) (c .enum-told9 .given .1)
+returns-11 c = of-keyword (c .before .before .args .at) (c .before .before .args .end) (c .enum-told9 .given .1)
 
 pub statement-of-spec : {M : Type 1} → statement M
 statement-of-spec =
@@ -92,13 +92,13 @@ statement-of-spec =
     enum-told-3
     enum-told-4
     returns-2
-    add-t11
+    add-t13
     enum-told-5
     enum-told-6
     enum-told-7
     enum-told-8
     enum-told-9
-    sub-t12
+    sub-t15
     returns-3
     returns-4
     returns-5

@@ -2,7 +2,7 @@
 use mathlib.Core.Path.{_∙_}
 use Prim.Native.Nat.{_-_}
 use native.Mathlib.Omega.{arith}
-use borrow.Author.Tests.{not-true, not-false}
+use borrow.Author.Needs.{needs}
 use Rattle.blif_text.specs.Blocks.{defAt}
 use Rattle.name_index.specs.Search.{signalIn}
 use Rattle.name_index.specs.Index.{entriesOf}
@@ -27,46 +27,45 @@ place-block-requires c κs =
     let h = c .before .before .loop-test .taken in
     ((s .0, blocks-to (c .before .before .before .loop .j) h (s .1)), placing-room (c .before .before .before .loop .inv) h)
 
+enum-known-placed : tie.Need-enum-known-placed Inv-loop μ-loop
+enum-known-placed c = search needs
+
+enum-known-placed-2 : tie.Need-enum-known-placed-2 Inv-loop μ-loop
+enum-known-placed-2 c = search needs
+
 same-length : tie.Need-same-length Inv-loop μ-loop
 same-length c =
-    let loop = c .before .before .before .before .before .before .before .before .before .before .loop in
-    let place-block = c .before .before .before .before .before .before .place-block in
-    place-block .kept .1 .1 .1 .1 .1 .1 .1 .0 ∙ loop .inv .same-gates
+    c .before .before .before .before .before .before .before .place-block .kept .1 .1 .1 .1 .1 .1 .1 .0 ∙ c .before .before .before .before .before .before .before .before .before .before .before .loop .inv .same-gates
 
 same-length-2 : tie.Need-same-length-2 Inv-loop μ-loop
 same-length-2 c =
-    let loop = c .before .before .before .before .before .before .before .before .before .before .loop in
-    let place-block = c .before .before .before .before .before .before .place-block in
-    place-block .kept .1 .1 .1 .1 .1 .1 .1 .1 .0 ∙ loop .inv .same-pins
+    c .before .before .before .before .before .before .before .place-block .kept .1 .1 .1 .1 .1 .1 .1 .1 .0 ∙ c .before .before .before .before .before .before .before .before .before .before .before .loop .inv .same-pins
 
 returns : tie.Need-returns Inv-loop μ-loop
 returns c =
-    let loop = c .before .before .before .before .before .before .before .before .before .before .loop in
-    let loop-test = c .before .before .before .before .before .before .before .before .before .loop-test in
-    let place-block = c .before .before .before .before .before .before .place-block in
-    placing-stops (loop .inv) (loop-test .taken) (place-block .ensures) (not-true _ (c .if1 .taken))
+    placing-stops (c .before .before .before .before .before .before .before .before .before .before .before .loop .inv) (c .before .before .before .before .before .before .before .before .before .before .loop-test .taken) (c .before .before .before .before .before .before .before .place-block .ensures) (c .before .placed2 .given .1)
 
 add-j : tie.Need-add-j Inv-loop μ-loop
-add-j c = omega arith
+add-j c = omega (arith, c .before .before .before .before .before .before .before .before .before .before .loop-test .taken)
 
 loop-less : tie.Need-loop-less Inv-loop μ-loop
-loop-less c = omega arith
+loop-less c = omega (arith, c .before .before .before .before .before .before .before .before .before .before .loop-test .taken)
 
 loop-again : tie.Need-loop-again Inv-loop μ-loop
 loop-again c =
-    let loop = c .before .before .before .before .before .before .before .before .before .before .loop in
-    let loop-test = c .before .before .before .before .before .before .before .before .before .loop-test in
-    let place-block = c .before .before .before .before .before .before .place-block in
-    placing-next (loop .inv) (loop-test .taken) (place-block .ensures) (not-false _ (c .if1 .left))
+    placing-next (c .before .before .before .before .before .before .before .before .before .before .before .loop .inv) (c .before .before .before .before .before .before .before .before .before .before .loop-test .taken) (c .before .before .before .before .before .before .before .place-block .ensures) (c .before .placed .given .1)
 
 same-length-3 : tie.Need-same-length-3 Inv-loop μ-loop
-same-length-3 c = c .before .loop .inv .same-gates
+same-length-3 c =
+    c .before .loop .inv .same-gates
 
 same-length-4 : tie.Need-same-length-4 Inv-loop μ-loop
-same-length-4 c = c .before .loop .inv .same-pins
+same-length-4 c =
+    c .before .loop .inv .same-pins
 
 returns-2 : tie.Need-returns-2 Inv-loop μ-loop
-returns-2 c = placing-done (c .before .loop .inv) (c .loop-test .left)
+returns-2 c =
+    placing-done (c .before .loop .inv) (c .loop-test .left)
 
 pub place-gates-spec : {M : Type 1} → statement M
 place-gates-spec =
@@ -76,6 +75,8 @@ place-gates-spec =
     μ-loop
     loop-holds
     place-block-requires
+    enum-known-placed
+    enum-known-placed-2
     same-length
     same-length-2
     returns

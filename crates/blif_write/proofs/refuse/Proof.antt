@@ -16,7 +16,7 @@ same-length c = search needs
 returns : tie.Need-returns
 returns c =
     let args = c .before .before .before .before .before .args in
-    ap (λ (o : Bytes). writeOutcome (Refused (args .number)) o) (c .before .before .fill-zero-bytes .ensures)
+    ap (λ (o : Bytes). writeOutcome (Refused (args .refusal)) o) (c .before .before .fill-zero-bytes .ensures)
 
 pub refuse-spec : {M : Type 1} → statement M
 refuse-spec = tie.close (tie.spec fill-zero-bytes-requires same-length returns)

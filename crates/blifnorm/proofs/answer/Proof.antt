@@ -10,8 +10,8 @@ normalise-requires c κs = search needs
 enum-known-n : tie.Need-enum-known-n
 enum-known-n c = search needs
 
-enum-known-number : tie.Need-enum-known-number
-enum-known-number c = search needs
+enum-known-refusal : tie.Need-enum-known-refusal
+enum-known-refusal c = search needs
 
 put-refusal-requires : tie.Need-put-refusal-requires
 put-refusal-requires c κs = search needs
@@ -60,8 +60,8 @@ same-length-12 c = search needs
 returns-2 : tie.Need-returns-2
 returns-2 c =
     let normalise = c .before .before .before .before .before .before .before .before .before .before .before .before .before .before .before .before .before .before .before .normalise in
-    let number = c .before .before .before .before .before .number in
-    prints-line _ _ _ (normalise .ensures) (number .given .1) (c .before .before .put-refusal .ensures)
+    let refusal = c .before .before .before .before .before .refusal in
+    prints-line _ _ _ (normalise .ensures) (refusal .given .1) (c .before .before .put-refusal .ensures)
 
 pub answer-spec : {M : Type 1} → statement M
 answer-spec =
@@ -69,7 +69,7 @@ answer-spec =
     (tie.spec
     normalise-requires
     enum-known-n
-    enum-known-number
+    enum-known-refusal
     put-refusal-requires
     same-length
     same-length-2

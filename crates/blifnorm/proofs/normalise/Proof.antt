@@ -13,8 +13,8 @@ enum-known-counts c = search needs
 write-blif-requires : tie.Need-write-blif-requires
 write-blif-requires c κs = search needs
 
-enum-known-number : tie.Need-enum-known-number
-enum-known-number c = search needs
+enum-known-refusal : tie.Need-enum-known-refusal
+enum-known-refusal c = search needs
 
 fill-zero-bytes-requires : tie.Need-fill-zero-bytes-requires
 fill-zero-bytes-requires c κs = search needs
@@ -64,8 +64,8 @@ same-length-12 c = search needs
 returns-2 : tie.Need-returns-2
 returns-2 c =
     let read-blif = c .before .before .before .before .before .before .before .before .before .before .before .before .before .before .before .before .before .read-blif in
-    let number = c .before .before .before .before .before .number in
-    norm-refused _ _ _ (read-blif .ensures) (number .given .1) (c .before .before .fill-zero-bytes .ensures)
+    let refusal = c .before .before .before .before .before .refusal in
+    norm-refused _ _ _ (read-blif .ensures) (refusal .given .1) (c .before .before .fill-zero-bytes .ensures)
 
 pub normalise-spec : {M : Type 1} → statement M
 normalise-spec =
@@ -74,7 +74,7 @@ normalise-spec =
     read-blif-requires
     enum-known-counts
     write-blif-requires
-    enum-known-number
+    enum-known-refusal
     fill-zero-bytes-requires
     same-length
     same-length-2

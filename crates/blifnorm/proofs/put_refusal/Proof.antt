@@ -11,6 +11,9 @@ slice-aggregate-append c = search needs
 append-requires : tie.Need-append-requires
 append-requires c κs = search needs
 
+number-requires : tie.Need-number-requires
+number-requires c κs = search needs
+
 append-number-requires : tie.Need-append-number-requires
 append-number-requires c κs = search needs
 
@@ -25,10 +28,11 @@ same-length c = search needs
 
 returns : tie.Need-returns
 returns c =
-    let args = c .before .before .before .before .before .before .before .before .before .before .before .before .before .before .before .args in
-    let append = c .before .before .before .before .before .before .before .before .before .before .before .append in
+    let args = c .before .before .before .before .before .before .before .before .before .before .before .before .before .before .before .before .args in
+    let append = c .before .before .before .before .before .before .before .before .before .before .before .before .append in
+    let number = c .before .before .before .before .before .before .before .before .number in
     let append-number = c .before .before .before .before .before .before .before .append-number in
-    from-start (as-text (line-is (args .number)) (and-append (and-append (append .ensures) (append-number .ensures)) (c .before .before .append2 .ensures)))
+    from-start (as-text (line-is (args .refusal) (number .ensures)) (and-append (and-append (append .ensures) (append-number .ensures)) (c .before .before .append2 .ensures)))
 
 pub put-refusal-spec : {M : Type 1} → statement M
 put-refusal-spec =
@@ -36,6 +40,7 @@ put-refusal-spec =
     (tie.spec
     slice-aggregate-append
     append-requires
+    number-requires
     append-number-requires
     slice-aggregate-append-2
     append-requires-2

@@ -1,5 +1,6 @@
 -- `network_of` is the answer in C's struct. Assumes nothing.
-use mathlib.Core.Path.{sym, ap}
+use mathlib.Core.Path.{sym, ap, _∙_}
+use Prim.Native.Nat.{ℕ}
 use native.Mathlib.Omega.{arith}
 use Rattle.vumneath.specs.Handed.{networkOf}
 use borrow.Author.Needs.{needs}
@@ -31,11 +32,16 @@ cast-t8 c =
 enum-known-answer-2 : tie.Need-enum-known-answer-2
 enum-known-answer-2 c = search needs
 
+number-requires : tie.Need-number-requires
+number-requires c κs = search needs
+
 returns : tie.Need-returns
 returns c = sym (ap networkOf (c .before .before .before .before .before .answer .given .1))
 
 returns-2 : tie.Need-returns-2
-returns-2 c = sym (ap networkOf (c .before .answer2 .given .1))
+returns-2 c =
+    ap (λ (k : ℕ). record { refused = k; inputs = 0; gates = 0; pins = 0; outputs = 0 }) (c .number .ensures)
+    ∙ sym (ap networkOf (c .before .before .answer2 .given .1))
 
 pub network-of-spec : {M : Type 1} → statement M
 network-of-spec =
@@ -47,5 +53,6 @@ network-of-spec =
     cast-t7
     cast-t8
     enum-known-answer-2
+    number-requires
     returns
     returns-2)

@@ -1,5 +1,6 @@
 -- `text_of` is the answer in C's struct. Assumes nothing.
-use mathlib.Core.Path.{sym, ap}
+use mathlib.Core.Path.{sym, ap, _∙_}
+use Prim.Native.Nat.{ℕ}
 use native.Mathlib.Omega.{arith}
 use Rattle.vumneath.specs.Handed.{textFor}
 use borrow.Author.Needs.{needs}
@@ -15,11 +16,16 @@ cast-t5 c = let z = c .before .before .before .pre .fits _ (c .before .answer .g
 enum-known-answer-2 : tie.Need-enum-known-answer-2
 enum-known-answer-2 c = search needs
 
+number-requires : tie.Need-number-requires
+number-requires c κs = search needs
+
 returns : tie.Need-returns
 returns c = sym (ap textFor (c .before .answer .given .1))
 
 returns-2 : tie.Need-returns-2
-returns-2 c = sym (ap textFor (c .before .answer2 .given .1))
+returns-2 c =
+    ap (λ (k : ℕ). record { refused = k; length = 0 }) (c .number .ensures)
+    ∙ sym (ap textFor (c .before .before .answer2 .given .1))
 
 pub text-of-spec : {M : Type 1} → statement M
-text-of-spec = tie.close (tie.spec enum-known-answer cast-t5 enum-known-answer-2 returns returns-2)
+text-of-spec = tie.close (tie.spec enum-known-answer cast-t5 enum-known-answer-2 number-requires returns returns-2)

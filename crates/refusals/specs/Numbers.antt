@@ -1,0 +1,42 @@
+-- The numbers of refusals (document 01, "Reading refuses, in order", "Writing refuses, in order"): "When an answer is an enum, a definition
+-- gives this paper's number and values for each enum case". Assumes nothing: these are definitions.
+--   numberOf r   document 01's number of a refusal
+--   InReading r  one that reading answers
+--   InWriting r  one that writing answers
+use Prim.Native.Nat.{ℕ, _≤_}
+use Rattle.refusals.specs.declared.Refusal.{Refusal}
+use Rattle.refusals.specs.declared.Refusal.the-variants as refusal
+
+-- "Reading refuses, in order: 1 .. 14"; "Writing refuses, in order: 20 .. 22"
+abbrev pub numberOf : Refusal → ℕ
+numberOf refusal.TooFewCells = 1
+numberOf refusal.TextTooLong = 2
+numberOf refusal.HighByte = 3
+numberOf refusal.MissingName = 4
+numberOf refusal.Unsupported = 5
+numberOf refusal.SizePassed = 6
+numberOf refusal.SecondModel = 7
+numberOf refusal.EndBeforeModel = 8
+numberOf refusal.NamesEmpty = 9
+numberOf refusal.DefinedTwice = 10
+numberOf refusal.Undefined = 11
+numberOf refusal.WrongCubeLine = 12
+numberOf refusal.OutputsDiffer = 13
+numberOf refusal.CombinationalLoop = 14
+numberOf refusal.NotANetwork = 20
+numberOf refusal.WideExclusive = 21
+numberOf refusal.TextDoesNotFit = 22
+
+-- a refusal of reading: 1 to 14
+pub record InReading (r : Refusal) : Type 0 where
+  -- from 1
+  pub low : 1 ≤ numberOf r
+  -- to 14
+  pub high : numberOf r ≤ 14
+
+-- a refusal of writing: 20 to 22
+pub record InWriting (r : Refusal) : Type 0 where
+  -- from 20
+  pub low : 20 ≤ numberOf r
+  -- to 22
+  pub high : numberOf r ≤ 22

@@ -1,0 +1,169 @@
+-- What the exported functions promise, as a maker would read it: each theorem is over what their contracts say of the struct and of every
+-- cell and byte (`ReadHanded`, `WriteHanded`, specs/Handed). Assumes nothing.
+--   refused-reading, refused-writing  `refused` is 0 exactly on success, else a number of 1 to 14, of 20 to 22
+--   read-outputs    the network in the cells has exactly the outputs that the text has, by the Berkeley text
+--   handed-back     demand 3: written by one call, read back by the other
+--   never-shared    two networks that share a text agree in every output
+--   texts-differ    so two that differ never share a text
+use mathlib.Core.Path.{_≡_, refl, sym, ap, _∙_, subst}
+use mathlib.Core.Bool.{Bool, true}
+use mathlib.Core.List.{List}
+use mathlib.Core.Logic.{_↔_, _⊎_, inl, inr}
+use Prim.Native.Nat.{ℕ}
+use native.Mathlib.Omega.{arith}
+use lib.ListN.{length, take, length-replicate}
+use Rattle.lists.specs.Lists.{Bytes, zeros, over}
+use Rattle.lists.proofs.Over.{take-over}
+use Rattle.lists.proofs.Places.{place-mem}
+use Rattle.lists.proofs.Range.{any-none}
+use Rattle.refusals.specs.Numbers.{numberOf, InReading, InWriting}
+use Rattle.refusals.specs.declared.Refusal.{Refusal}
+use Rattle.gates.specs.Gate.{Gate, Comb, Dff}
+use Rattle.gates.specs.Forms.{formed}
+use Rattle.network.specs.Net.{Net, GateIs}
+use Rattle.network.specs.Cells.{Lent, lent, netOf, Words, countsOf}
+use Rattle.network.specs.Clock.{NetRuns}
+use Rattle.network.specs.Settle.{run}
+use Rattle.network.specs.declared.Counts.{Counts}
+use Rattle.network.proofs.Lent.{network-laid}
+use Rattle.blif_model.specs.Blif.{BlifRuns}
+use Rattle.blif_model.specs.Model.{modelOfText}
+use Rattle.blif_model.specs.Write.{wide, PlainGate}
+use Rattle.blif_model.specs.Render.{textOf}
+use Rattle.blif_model.specs.Read.{read, readText}
+use Rattle.blif_model.specs.Demand.{Good}
+use Rattle.blif_model.proofs.Summary as model
+use Rattle.blif_read.specs.Into.{Lengths, enough, readInto, ReadOutcome}
+use Rattle.blif_read.specs.declared.ReadAnswer.the-variants as answer-read
+use Rattle.blif_read.proofs.Summary.{read-counts}
+use Rattle.blif_read.proofs.CellsRead.{read-decodes}
+use Rattle.blif_write.specs.Into.{writtenText, writeInto, WriteOutcome}
+use Rattle.round_trip.specs.Trip.{Meets}
+use Rattle.round_trip.proofs.Demand as demand
+use Rattle.round_trip.proofs.Summary as trip
+use Rattle.vumneath.specs.Handed.{networkOf, textFor, ReadHanded, WriteHanded, countsHanded, netHanded, HandedBack, Runnable}
+use Rattle.vumneath.specs.declared.VumneathNetwork.{VumneathNetwork}
+use Rattle.vumneath.specs.declared.VumneathText.{VumneathText}
+use Rattle.vumneath.proofs.Answered.{read-zero, read-refused, WrittenFrom, write-zero, write-refused}
+
+-- ---- reading
+
+module _ (text : Bytes) (n : Lengths) {r : VumneathNetwork} {gs ps os wgs wps : List ℕ} (h : ReadHanded (readInto text n) r gs ps os wgs wps) where
+  -- the number that was handed over
+  told : r .refused ≡ networkOf (readInto text n .answer) .refused
+  told = ap (λ (x : VumneathNetwork). x .refused) (h .answer)
+
+  -- "Every text .. gets a result or a numbered refusal": 0 tells a network read into enough cells, any other number one of 1 to 14
+  pub refused-reading : (r .refused ≡ 0 → (net : Net) × (enough n ≡ true) × (readText text ≡ read net))
+      × ((r .refused ≡ 0 → ⊥) → (k : Refusal) × InReading k × (r .refused ≡ numberOf k))
+  refused-reading = (
+    (λ z. read-zero text n (sym told ∙ z)),
+    (λ f. let k = read-refused text n (λ z. f (told ∙ z)) in (k .0, k .1, told ∙ k .2)),
+  )
+
+  module _ (z : r .refused ≡ 0) where
+    -- what is read
+    was : (net : Net) × (enough n ≡ true) × (readText text ≡ read net)
+    was = refused-reading .0 z
+
+    counts-are : countsHanded r ≡ countsOf (was .0)
+    counts-are = ap countsHanded (h .answer ∙ ap networkOf (read-counts text (was .0) n (was .1) (was .2)))
+
+    -- the network in the cells is the one that is read
+    net-is : netHanded r gs ps os ≡ was .0
+    net-is =
+        (λ i. netOf (lent (counts-are i) (h .gates i) (h .pins i) (h .outputs i)))
+        ∙ read-decodes text (was .0) n (was .1) (was .2)
+
+    -- "for every list of rows": the network in the cells has exactly the outputs that the text has by the Berkeley text, and one such list
+    pub read-outputs : (rows outs : List (List Bool))
+        → (BlifRuns (modelOfText text) rows outs ↔ NetRuns (netHanded r gs ps os) rows outs)
+        × (BlifRuns (modelOfText text) rows outs ↔ (outs ≡ run (netHanded r gs ps os) rows))
+    read-outputs rows outs =
+        subst (λ (x : Net). (BlifRuns (modelOfText text) rows outs ↔ NetRuns x rows outs) × (BlifRuns (modelOfText text) rows outs ↔ (outs ≡ run x rows))) (sym net-is)
+        (trip.read-means text (was .0) (was .2) rows outs)
+
+-- ---- writing
+
+module _ (l : Lent) (n : ℕ) {w : VumneathText} {out : Bytes} (h : WriteHanded (writeInto l n) w out) where
+  -- the number that was handed over
+  told-writing : w .refused ≡ textFor (writeInto l n .answer) .refused
+  told-writing = ap (λ (x : VumneathText). x .refused) (h .answer)
+
+  -- "every lent network .. gets a result or a numbered refusal": 0 tells a text, any other number one of 20 to 22
+  pub refused-writing : (w .refused ≡ 0 → WrittenFrom l n) × ((w .refused ≡ 0 → ⊥) → (k : Refusal) × InWriting k × (w .refused ≡ numberOf k))
+  refused-writing = (
+    (λ z. write-zero l n (sym told-writing ∙ z)),
+    (λ f. let k = write-refused l n (λ z. f (told-writing ∙ z)) in (k .0, k .1, told-writing ∙ k .2)),
+  )
+
+  -- where a text is written, the bytes up to the length are the network's text
+  pub text-written : w .refused ≡ 0 → take (w .length) out ≡ textOf (netOf l)
+  text-written z =
+      let f = refused-writing .0 z in
+      let k : w .length ≡ length (textOf (netOf l)) = ap (λ (x : VumneathText). x .length) (h .answer ∙ ap (λ (o : WriteOutcome). textFor (o .answer)) (f .is)) in
+      let t : out ≡ over (textOf (netOf l)) (zeros n) = h .bytes ∙ ap (λ (o : WriteOutcome). o .out) (f .is) in
+      (λ i. take (k i) (t i)) ∙ take-over (textOf (netOf l)) (zeros n) (omega (arith, f .room, length-replicate {A = ℕ} n 0))
+
+-- ---- demand 3
+
+-- the conditions hold: one call writes the network, the other reads exactly the bytes written, and the network in the cells has as many
+-- inputs and outputs and "for every list of rows, the empty one too" equal outputs at every clock
+pub handed-back : (l : Lent) (n : ℕ) (m : Lengths) {w : VumneathText} {out : Bytes} {r : VumneathNetwork} {gs ps os wgs wps : List ℕ} → Words l → Meets l n m
+    → WriteHanded (writeInto l n) w out → ReadHanded (readInto (take (w .length) out) m) r gs ps os wgs wps → HandedBack (netOf l) w out r gs ps os
+handed-back l n m {w} {out} {r} {gs} {ps} {os} {wgs} {wps} words meets write read-of =
+    let t = textOf (netOf l) in
+    let back = demand.back words meets in
+    let zero-written : w .refused ≡ 0 = ap (λ (x : VumneathText). x .refused) (write .answer ∙ ap (λ (o : WriteOutcome). textFor (o .answer)) (demand.written words meets)) in
+    let bytes : take (w .length) out ≡ t = text-written l n write zero-written in
+    let same : ReadHanded (readInto t m) r gs ps os wgs wps = subst (λ (s : Bytes). ReadHanded (readInto s m) r gs ps os wgs wps) bytes read-of in
+    let answer : r ≡ networkOf (readInto t m .answer) = same .answer in
+    let counts : r ≡ networkOf (answer-read.Read (countsOf (back .0))) = answer ∙ ap networkOf (read-counts t (back .0) m (meets .cells) (back .1)) in
+    let is : netHanded r gs ps os ≡ back .0 =
+    (λ i. netOf (lent (countsHanded (counts i)) (same .gates i) (same .pins i) (same .outputs i))) ∙ read-decodes t (back .0) m (meets .cells) (back .1) in
+    record {
+      written = zero-written;
+      text = bytes;
+      reads = ap (λ (x : VumneathNetwork). x .refused) counts;
+      inputs = ap (λ (x : VumneathNetwork). x .inputs) counts ∙ back .2 .inputs;
+      outputs = ap (λ (x : VumneathNetwork). x .outputs) counts ∙ back .2 .outputs;
+      runs = λ rows. ap (λ (x : Net). run x rows) is ∙ back .2 .runs rows;
+      one = demand.one-lent words meets;
+      one-back = λ rows outs. subst (λ (x : Net). NetRuns x rows outs ↔ (outs ≡ run x rows)) (sym is) (demand.one-back words meets rows outs);
+    }
+
+-- ---- two networks
+
+-- a lent network that is written is one of demand 3's
+good : (l : Lent) (n : ℕ) → Runnable l → WrittenFrom l n → Good (netOf l)
+good l n c f =
+    let k = network-laid l (c .words) (f .network) in
+    record {
+      valid = k .1;
+      free = c .free;
+      plainGates = plain-gate (k .2);
+      narrow = λ g x e. any-none wide (netOf l .gates) (f .narrow) x (place-mem (netOf l .gates) g x e);
+    }
+  where
+    plain-gate : ((g : ℕ) (x : Gate) → GateIs (netOf l) g x → formed x ≡ true) → (g : ℕ) (x : Gate) → GateIs (netOf l) g x → PlainGate x
+    plain-gate p g (Comb t ps) e = p g (Comb t ps) e
+    plain-gate p g (Dff s) e = c .plain g s e
+
+module _ (a b : Lent) (m n : ℕ) {v w : VumneathText} {out out′ : Bytes} (ra : Runnable a) (rb : Runnable b)
+    (wa : WriteHanded (writeInto a m) v out) (wb : WriteHanded (writeInto b n) w out′) (za : v .refused ≡ 0) (zb : w .refused ≡ 0) where
+  -- two lent networks whose written bytes are the same have as many inputs and outputs, and for every list of rows equal outputs at every
+  -- clock, by the function and by the relation
+  pub never-shared : take (v .length) out ≡ take (w .length) out′
+      → (netOf a .inputs ≡ netOf b .inputs) × (length (netOf a .outputs) ≡ length (netOf b .outputs)) × ((rows : List (List Bool)) → run (netOf a) rows ≡ run (netOf b) rows)
+      × ((rows outs : List (List Bool)) → NetRuns (netOf a) rows outs ↔ NetRuns (netOf b) rows outs)
+  never-shared e =
+      trip.never-shared (netOf a) (netOf b) (good a m ra (refused-writing a m wa .0 za)) (good b n rb (refused-writing b n wb .0 zb))
+      (sym (text-written a m wa za) ∙ e ∙ text-written b n wb zb)
+
+  -- "So two networks that differ never share a text": that differ in those numbers, or at an output for some list of rows
+  pub texts-differ : ((netOf a .inputs ≡ netOf b .inputs → ⊥) ⊎ (length (netOf a .outputs) ≡ length (netOf b .outputs) → ⊥)
+      ⊎ ((rows : List (List Bool)) × (run (netOf a) rows ≡ run (netOf b) rows → ⊥)))
+      → take (v .length) out ≡ take (w .length) out′ → ⊥
+  texts-differ (inl f) e = f (never-shared e .0)
+  texts-differ (inr (inl f)) e = f (never-shared e .1)
+  texts-differ (inr (inr (rows, f))) e = f (never-shared e .2 rows)
