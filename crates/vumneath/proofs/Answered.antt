@@ -2,9 +2,8 @@
 use mathlib.Core.Path.{_≡_, refl, sym, ap, _∙_, subst}
 use mathlib.Core.Bool.{Bool, true, false, not}
 use mathlib.Core.List.{List}
-use Prim.Native.Nat.{ℕ, _≤_}
+use Prim.Native.Nat.{ℕ}
 use native.Mathlib.Omega.{arith}
-use lib.ListN.{length}
 use borrow.Author.Tests.{not-false}
 use Rattle.lists.specs.Lists.{if_then_else_, Bytes, any}
 use Rattle.refusals.specs.Numbers.{numberOf, InReading, InWriting}
@@ -13,20 +12,19 @@ use Rattle.refusals.specs.declared.Refusal.the-variants as refusal
 use Rattle.refusals.proofs.Numbers.{number-pos}
 use Rattle.network.specs.Net.{Net}
 use Rattle.network.specs.Cells.{Lent, netOf, isNetwork, countsOf}
-use Rattle.blif_text.specs.Places.{maxText}
 use Rattle.blif_model.specs.Write.{wide}
 use Rattle.blif_model.specs.Render.{textOf}
 use Rattle.blif_model.specs.Read.{Result, read, refused, readText}
 use Rattle.blif_model.proofs.Refusals.{reading-refuses}
 use Rattle.blif_read.specs.Into.{Lengths, enough, filled, answered, readInto}
 use Rattle.blif_read.specs.declared.ReadAnswer.{ReadAnswer}
-use Rattle.blif_read.specs.declared.ReadAnswer.the-variants as answer
+use Rattle.blif_read.proofs.Summary.{read-counts}
 use Rattle.blif_write.specs.Into.{WriteOutcome, refusedText, writtenText, tooLong, writeInto}
 use Rattle.blif_write.specs.declared.WriteAnswer.{WriteAnswer}
 use Rattle.blif_write.specs.declared.WriteAnswer.the-variants as written
 use Rattle.blif_write.proofs.Answers.{in-slice, in-text}
 use Rattle.blif_write.proofs.Summary.{writing-refuses}
-use Rattle.vumneath.specs.Handed.{networkOf, textFor}
+use Rattle.vumneath.specs.Handed.{networkOf, textFor, WrittenFrom}
 
 -- ---- reading
 
@@ -47,11 +45,15 @@ read-zero text n e = go (enough n) refl (result-zero (answered text n) n e)
         let z : refused refusal.TooFewCells ≡ read net = sym (ap (λ (b : Bool). if b then readText text else refused refusal.TooFewCells) p) ∙ q in
         absurd (let y : _≡_ {A = ℕ} 0 1 = cc in omega arith)
 
+-- and a network read into enough cells is handed over with 0
+pub read-success : (text : Bytes) (n : Lengths) (net : Net) → enough n ≡ true → readText text ≡ read net → networkOf (readInto text n .answer) .refused ≡ 0
+read-success text n net e q = ap (λ (a : ReadAnswer). networkOf a .refused) (read-counts text net n e q)
+
 -- any other number is one of reading's
 result-refused : (r : Result) (n : Lengths) → ((k : Refusal) → r ≡ refused k → InReading k) → (networkOf (filled r n .answer) .refused ≡ 0 → ⊥)
-    → (k : Refusal) × InReading k × (networkOf (filled r n .answer) .refused ≡ numberOf k)
+    → (k : Refusal) × InReading k × (r ≡ refused k) × (networkOf (filled r n .answer) .refused ≡ numberOf k)
 result-refused (read net) n w f = absurd (f refl)
-result-refused (refused k) n w f = (k, w k refl, refl)
+result-refused (refused k) n w f = (k, w k refl, refl, refl)
 
 -- 1, or one of 2 to 14
 answered-refuses : (text : Bytes) (n : Lengths) (k : Refusal) → answered text n ≡ refused k → InReading k
@@ -62,19 +64,11 @@ answered-refuses text n k = go (enough n)
     go false e = let q : k ≡ refusal.TooFewCells = cc in rw q (record { low = omega arith; high = omega arith })
 
 pub read-refused : (text : Bytes) (n : Lengths) → (networkOf (readInto text n .answer) .refused ≡ 0 → ⊥)
-    → (k : Refusal) × InReading k × (networkOf (readInto text n .answer) .refused ≡ numberOf k)
+    → (k : Refusal) × InReading k × (answered text n ≡ refused k) × (networkOf (readInto text n .answer) .refused ≡ numberOf k)
 unfolding readInto
 read-refused text n f = result-refused (answered text n) n (answered-refuses text n) f
 
 -- ---- writing
-
--- a lent network that is written: no refusal of 20 to 22 takes it
-pub record WrittenFrom (l : Lent) (n : ℕ) : Type 0 where
-  pub network : isNetwork l ≡ true
-  pub narrow : any wide (netOf l .gates) ≡ false
-  pub short : length (textOf (netOf l)) ≤ maxText
-  pub room : length (textOf (netOf l)) ≤ n
-  pub is : writeInto l n ≡ writtenText (textOf (netOf l)) n
 
 pub write-zero : (l : Lent) (n : ℕ) → textFor (writeInto l n .answer) .refused ≡ 0 → WrittenFrom l n
 unfolding writeInto
@@ -98,12 +92,16 @@ write-zero l n e = go (not (isNetwork l)) (any wide (netOf l .gates)) (tooLong (
           is = rw (p, q, s);
         }
 
+-- and a text that is written is handed over with 0
+pub write-success : (l : Lent) (n : ℕ) → WrittenFrom l n → textFor (writeInto l n .answer) .refused ≡ 0
+write-success l n f = ap (λ (o : WriteOutcome). textFor (o .answer) .refused) (f .is)
+
 -- any other number is one of writing's
 answer-refused : (a : WriteAnswer) → ((k : Refusal) → a ≡ written.Refused k → InWriting k) → (textFor a .refused ≡ 0 → ⊥)
-    → (k : Refusal) × InWriting k × (textFor a .refused ≡ numberOf k)
+    → (k : Refusal) × InWriting k × (a ≡ written.Refused k) × (textFor a .refused ≡ numberOf k)
 answer-refused (written.Written m) w f = absurd (f refl)
-answer-refused (written.Refused k) w f = (k, w k refl, refl)
+answer-refused (written.Refused k) w f = (k, w k refl, refl, refl)
 
 pub write-refused : (l : Lent) (n : ℕ) → (textFor (writeInto l n .answer) .refused ≡ 0 → ⊥)
-    → (k : Refusal) × InWriting k × (textFor (writeInto l n .answer) .refused ≡ numberOf k)
+    → (k : Refusal) × InWriting k × (writeInto l n .answer ≡ written.Refused k) × (textFor (writeInto l n .answer) .refused ≡ numberOf k)
 write-refused l n f = answer-refused (writeInto l n .answer) (writing-refuses l n) f

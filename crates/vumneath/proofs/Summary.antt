@@ -5,7 +5,7 @@
 --   handed-back     demand 3: written by one call, read back by the other
 --   never-shared    two networks that share a text agree in every output
 --   texts-differ    so two that differ never share a text
-use mathlib.Core.Path.{_≡_, refl, sym, ap, _∙_, subst}
+use mathlib.Core.Path.{_≡_, sym, ap, _∙_, subst}
 use mathlib.Core.Bool.{Bool, true}
 use mathlib.Core.List.{List}
 use mathlib.Core.Logic.{_↔_, _⊎_, inl, inr}
@@ -24,27 +24,26 @@ use Rattle.network.specs.Net.{Net, GateIs}
 use Rattle.network.specs.Cells.{Lent, lent, netOf, Words, countsOf}
 use Rattle.network.specs.Clock.{NetRuns}
 use Rattle.network.specs.Settle.{run}
-use Rattle.network.specs.declared.Counts.{Counts}
 use Rattle.network.proofs.Lent.{network-laid}
 use Rattle.blif_model.specs.Blif.{BlifRuns}
 use Rattle.blif_model.specs.Model.{modelOfText}
 use Rattle.blif_model.specs.Write.{wide, PlainGate}
 use Rattle.blif_model.specs.Render.{textOf}
-use Rattle.blif_model.specs.Read.{read, readText}
+use Rattle.blif_model.specs.Read.{read, refused, readText}
 use Rattle.blif_model.specs.Demand.{Good}
-use Rattle.blif_model.proofs.Summary as model
-use Rattle.blif_read.specs.Into.{Lengths, enough, readInto, ReadOutcome}
+use Rattle.blif_read.specs.Into.{Lengths, enough, answered, readInto}
 use Rattle.blif_read.specs.declared.ReadAnswer.the-variants as answer-read
 use Rattle.blif_read.proofs.Summary.{read-counts}
 use Rattle.blif_read.proofs.CellsRead.{read-decodes}
-use Rattle.blif_write.specs.Into.{writtenText, writeInto, WriteOutcome}
+use Rattle.blif_write.specs.Into.{writeInto, WriteOutcome}
+use Rattle.blif_write.specs.declared.WriteAnswer.the-variants as written
 use Rattle.round_trip.specs.Trip.{Meets}
 use Rattle.round_trip.proofs.Demand as demand
 use Rattle.round_trip.proofs.Summary as trip
-use Rattle.vumneath.specs.Handed.{networkOf, textFor, ReadHanded, WriteHanded, countsHanded, netHanded, HandedBack, Runnable}
+use Rattle.vumneath.specs.Handed.{networkOf, textFor, ReadHanded, WriteHanded, countsHanded, netHanded, WrittenFrom, HandedBack, Runnable}
 use Rattle.vumneath.specs.declared.VumneathNetwork.{VumneathNetwork}
 use Rattle.vumneath.specs.declared.VumneathText.{VumneathText}
-use Rattle.vumneath.proofs.Answered.{read-zero, read-refused, WrittenFrom, write-zero, write-refused}
+use Rattle.vumneath.proofs.Answered.{read-zero, read-success, read-refused, write-zero, write-success, write-refused}
 
 -- ---- reading
 
@@ -53,18 +52,19 @@ module _ (text : Bytes) (n : Lengths) {r : VumneathNetwork} {gs ps os wgs wps : 
   told : r .refused ≡ networkOf (readInto text n .answer) .refused
   told = ap (λ (x : VumneathNetwork). x .refused) (h .answer)
 
-  -- "Every text .. gets a result or a numbered refusal": 0 tells a network read into enough cells, any other number one of 1 to 14
-  pub refused-reading : (r .refused ≡ 0 → (net : Net) × (enough n ≡ true) × (readText text ≡ read net))
-      × ((r .refused ≡ 0 → ⊥) → (k : Refusal) × InReading k × (r .refused ≡ numberOf k))
+  -- "Every text .. gets a result or a numbered refusal": 0 is told exactly of a network read into enough cells, and any other number is that
+  -- of the refusal, one of 1 to 14
+  pub refused-reading : ((r .refused ≡ 0) ↔ ((net : Net) × (enough n ≡ true) × (readText text ≡ read net)))
+      × ((r .refused ≡ 0 → ⊥) → (k : Refusal) × InReading k × (answered text n ≡ refused k) × (r .refused ≡ numberOf k))
   refused-reading = (
-    (λ z. read-zero text n (sym told ∙ z)),
-    (λ f. let k = read-refused text n (λ z. f (told ∙ z)) in (k .0, k .1, told ∙ k .2)),
+    ((λ z. read-zero text n (sym told ∙ z)), (λ q. told ∙ read-success text n (q .0) (q .1) (q .2))),
+    (λ f. let k = read-refused text n (λ z. f (told ∙ z)) in (k .0, k .1, k .2, told ∙ k .3)),
   )
 
   module _ (z : r .refused ≡ 0) where
     -- what is read
     was : (net : Net) × (enough n ≡ true) × (readText text ≡ read net)
-    was = refused-reading .0 z
+    was = refused-reading .0 .0 z
 
     counts-are : countsHanded r ≡ countsOf (was .0)
     counts-are = ap countsHanded (h .answer ∙ ap networkOf (read-counts text (was .0) n (was .1) (was .2)))
@@ -90,17 +90,19 @@ module _ (l : Lent) (n : ℕ) {w : VumneathText} {out : Bytes} (h : WriteHanded 
   told-writing : w .refused ≡ textFor (writeInto l n .answer) .refused
   told-writing = ap (λ (x : VumneathText). x .refused) (h .answer)
 
-  -- "every lent network .. gets a result or a numbered refusal": 0 tells a text, any other number one of 20 to 22
-  pub refused-writing : (w .refused ≡ 0 → WrittenFrom l n) × ((w .refused ≡ 0 → ⊥) → (k : Refusal) × InWriting k × (w .refused ≡ numberOf k))
+  -- "every lent network .. gets a result or a numbered refusal": 0 is told exactly of a text written, and any other number is that of the
+  -- refusal, one of 20 to 22
+  pub refused-writing : ((w .refused ≡ 0) ↔ WrittenFrom l n)
+      × ((w .refused ≡ 0 → ⊥) → (k : Refusal) × InWriting k × (writeInto l n .answer ≡ written.Refused k) × (w .refused ≡ numberOf k))
   refused-writing = (
-    (λ z. write-zero l n (sym told-writing ∙ z)),
-    (λ f. let k = write-refused l n (λ z. f (told-writing ∙ z)) in (k .0, k .1, told-writing ∙ k .2)),
+    ((λ z. write-zero l n (sym told-writing ∙ z)), (λ f. told-writing ∙ write-success l n f)),
+    (λ f. let k = write-refused l n (λ z. f (told-writing ∙ z)) in (k .0, k .1, k .2, told-writing ∙ k .3)),
   )
 
   -- where a text is written, the bytes up to the length are the network's text
   pub text-written : w .refused ≡ 0 → take (w .length) out ≡ textOf (netOf l)
   text-written z =
-      let f = refused-writing .0 z in
+      let f = refused-writing .0 .0 z in
       let k : w .length ≡ length (textOf (netOf l)) = ap (λ (x : VumneathText). x .length) (h .answer ∙ ap (λ (o : WriteOutcome). textFor (o .answer)) (f .is)) in
       let t : out ≡ over (textOf (netOf l)) (zeros n) = h .bytes ∙ ap (λ (o : WriteOutcome). o .out) (f .is) in
       (λ i. take (k i) (t i)) ∙ take-over (textOf (netOf l)) (zeros n) (omega (arith, f .room, length-replicate {A = ℕ} n 0))
@@ -157,7 +159,7 @@ module _ (a b : Lent) (m n : ℕ) {v w : VumneathText} {out out′ : Bytes} (ra 
       → (netOf a .inputs ≡ netOf b .inputs) × (length (netOf a .outputs) ≡ length (netOf b .outputs)) × ((rows : List (List Bool)) → run (netOf a) rows ≡ run (netOf b) rows)
       × ((rows outs : List (List Bool)) → NetRuns (netOf a) rows outs ↔ NetRuns (netOf b) rows outs)
   never-shared e =
-      trip.never-shared (netOf a) (netOf b) (good a m ra (refused-writing a m wa .0 za)) (good b n rb (refused-writing b n wb .0 zb))
+      trip.never-shared (netOf a) (netOf b) (good a m ra (refused-writing a m wa .0 .0 za)) (good b n rb (refused-writing b n wb .0 .0 zb))
       (sym (text-written a m wa za) ∙ e ∙ text-written b n wb zb)
 
   -- "So two networks that differ never share a text": that differ in those numbers, or at an output for some list of rows

@@ -1,26 +1,27 @@
 -- What the exported functions hand to their callers: the answers of `read_blif` and `write_blif` as structs in C's layout. Assumes
 -- nothing: these are definitions.
 use mathlib.Core.Path.{_≡_}
-use mathlib.Core.Bool.{Bool}
+use mathlib.Core.Bool.{Bool, true, false}
 use mathlib.Core.List.{List}
 use mathlib.Core.Logic.{_↔_}
 use Prim.Native.Nat.{ℕ, _≤_}
 use lib.ListN.{length, take}
-use Rattle.lists.specs.Lists.{Bytes}
+use Rattle.lists.specs.Lists.{Bytes, any}
 use Rattle.refusals.specs.Numbers.{numberOf}
 use Rattle.signal.specs.Signal.{zeroS, oneS}
 use Rattle.gates.specs.Gate.{FlipFlop, Dff}
 use Rattle.network.specs.Net.{Net, GateIs, Loop}
 use Rattle.network.specs.Clock.{NetRuns}
 use Rattle.network.specs.Settle.{run}
-use Rattle.network.specs.Cells.{WithinSizes, Lent, lent, netOf, Words}
+use Rattle.network.specs.Cells.{WithinSizes, Lent, lent, netOf, isNetwork, Words}
 use Rattle.network.specs.declared.Counts.{Counts}
 use Rattle.blif_text.specs.Places.{maxText}
+use Rattle.blif_model.specs.Write.{wide}
 use Rattle.blif_model.specs.Render.{textOf}
 use Rattle.blif_read.specs.Into.{ReadOutcome}
 use Rattle.blif_read.specs.declared.ReadAnswer.{ReadAnswer}
 use Rattle.blif_read.specs.declared.ReadAnswer.the-variants as read
-use Rattle.blif_write.specs.Into.{WriteOutcome}
+use Rattle.blif_write.specs.Into.{WriteOutcome, writtenText, writeInto}
 use Rattle.blif_write.specs.declared.WriteAnswer.{WriteAnswer}
 use Rattle.blif_write.specs.declared.WriteAnswer.the-variants as write
 use Rattle.vumneath.specs.declared.VumneathNetwork.{VumneathNetwork}
@@ -77,6 +78,19 @@ countsHanded r = record { inputs = r .inputs; gates = r .gates; pins = r .pins; 
 -- the network in the cells that reading left
 abbrev pub netHanded : VumneathNetwork → List ℕ → List ℕ → List ℕ → Net
 netHanded r gs ps os = netOf (lent (countsHanded r) gs ps os)
+
+-- a lent network that is written into n bytes: no refusal of 20 to 22 takes it
+pub record WrittenFrom (l : Lent) (n : ℕ) : Type 0 where
+  -- it has "the layout and signals that 20 asks for"
+  pub network : isNetwork l ≡ true
+  -- "its exclusive gates are those of 21"
+  pub narrow : any wide (netOf l .gates) ≡ false
+  -- its text is not "longer .. than 32,768 bytes"
+  pub short : length (textOf (netOf l)) ≤ maxText
+  -- nor "than the output slice"
+  pub room : length (textOf (netOf l)) ≤ n
+  -- "Success gives the length and zero bytes after it"
+  pub is : writeInto l n ≡ writtenText (textOf (netOf l)) n
 
 -- demand 3 of what two calls handed over, one that wrote the network and one that read exactly the bytes written
 pub record HandedBack (net : Net) (w : VumneathText) (out : Bytes) (r : VumneathNetwork) (gs ps os : List ℕ) : Type 0 where
