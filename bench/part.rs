@@ -42,17 +42,11 @@ impl Lent {
         Lent { gates: vec![0; 3072], pins: vec![0; 16384], outputs: vec![0; 256], work_gates: vec![0; 3072], work_pins: vec![0; 16384], out: vec![0; 32768] }
     }
 
-    // Ones in every cell.
-    pub fn fill(&mut self) {
+    // The same word in every cell.
+    pub fn fill(&mut self, word: u32) {
         for cells in [&mut self.gates, &mut self.pins, &mut self.outputs, &mut self.work_gates, &mut self.work_pins] {
-            cells.fill(u32::MAX);
+            cells.fill(word);
         }
-    }
-
-    // Whether every cell is zero, block by block, without a stop within a block, so that the compiler looks at several cells at once.
-    pub fn all_zero(&self) -> bool {
-        let blocks = |cells: &[u32]| cells.chunks_exact(256).all(|b| b.iter().fold(0, |all, c| all | *c) == 0);
-        blocks(&self.gates) && blocks(&self.pins) && blocks(&self.outputs) && blocks(&self.work_gates) && blocks(&self.work_pins)
     }
 
     pub fn read(&mut self, text: &[u8]) -> NetworkAnswer {

@@ -100,7 +100,7 @@ fn slower(rows: &[Measured], what: &str, alone: f64, f: fn(&Measured) -> Option<
 }
 
 pub fn report(rows: &[Measured], made: usize, worst: &[Measured], rule: &Rule, folder: &str, docs: &str) {
-    let behind = slower(rows, "reading", rule.look, |m| m.read) + &slower(rows, "writing", rule.clear, |m| m.write);
+    let behind = slower(rows, "reading", rule.cells, |m| m.read) + &slower(rows, "writing", rule.bytes, |m| m.write);
     let cores = std::thread::available_parallelism().map_or(1, |n| n.get());
     let (made, given) = rows.split_at(made);
     let mut lines = vec![summary("reading", made, |m| m.read), summary("writing", made, |m| m.write)];
@@ -123,7 +123,7 @@ pub fn report(rows: &[Measured], made: usize, worst: &[Measured], rule: &Rule, f
     println!("names of one tree: {}\nnames of one hash: {}", told[0], told[1]);
     print!("{behind}");
     let points: String = lines.iter().map(|l| format!("- {l}\n")).collect();
-    let page = include_str!("speed.template").replace("@CORES@", &cores.to_string()).replace("@SUMMARY@", points.trim_end()).replace("@TABLE@", table(made, folder).trim_end()).replace("@FILLED@", filled.trim_end()).replace("@TREE@", &told[0]).replace("@HASH@", &told[1]).replace("@LOOK@", &format!("{:.2}", rule.look / 1e3)).replace("@CLEAR@", &format!("{:.2}", rule.clear / 1e3)).replace("@SLOWER@", behind.trim_end());
+    let page = include_str!("speed.template").replace("@CORES@", &cores.to_string()).replace("@SUMMARY@", points.trim_end()).replace("@TABLE@", table(made, folder).trim_end()).replace("@FILLED@", filled.trim_end()).replace("@TREE@", &told[0]).replace("@HASH@", &told[1]).replace("@CELLS@", &format!("{:.2}", rule.cells / 1e3)).replace("@BYTES@", &format!("{:.2}", rule.bytes / 1e3)).replace("@SLOWER@", behind.trim_end());
     std::fs::write(format!("{docs}/speed.md"), page).unwrap();
     std::fs::write(format!("{docs}/speed.svg"), svg(made)).unwrap();
 }

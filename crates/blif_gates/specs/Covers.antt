@@ -34,8 +34,9 @@ pub record BuiltBy (ds : List Def) (gates pinsIn : List ℕ) (used : ℕ) (gates
   pub counted : (look : Bytes → Signal) → r .gates ≡ length (builtGates look ds)
   -- and the pins in use: those of the gates placed first, and those that building adds
   pub pins : r .pins ≡ used + sumOf builtPins ds
-  -- both within their limits
+  -- "1,024 gates"
   pub fewGates : r .gates ≤ maxGates
+  -- "16,384 pins"
   pub fewPins : r .pins ≤ maxPins
   -- whatever signals the names have
   pub gates-in : (look : Bytes → Signal) → GatesIn gates pinsIn used (map (placed look) ds) → GatesIn gates′ pinsIn′ (r .pins) (builtGates look ds)

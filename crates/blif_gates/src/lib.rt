@@ -14,7 +14,7 @@ use signal::Signal;
 ghost use mathlib.Core.Path.{_≡_};
 ghost use mathlib.Core.List.{[], _∷_, map};
 ghost use Prim.Native.Nat.{_+_, _*_, _≤_, _<_};
-ghost use lib.ListN.{length, take};
+ghost use lib.ListN.{length, getD, take};
 ghost use Rattle.lists.specs.Lists.{overAt, same};
 ghost use Rattle.signal.specs.Cell.{sigCell};
 ghost use Rattle.network.specs.Cells.{gateWidth, maxGates, firstAt, countAt};
@@ -81,13 +81,15 @@ fn write_literals(columns: &[u8], pins: &mut [u32], source: usize, at: usize) ->
     m
 }
 
-// The pin of a line's Buf, with this many literals, none or one.
-fn single_pin(count: usize, literal: u32, one: bool) -> u32
-    ensures { λ r. ⌜ r ≡ singleCell one count literal ⌝ }
+// The pin of a line's Buf, with this many literals from pin at on, none or one.
+fn single_pin(count: usize, pins: &[u32], at: usize, one: bool) -> u32
+    requires { ⌜ at < length (now pins) ⌝ }
+    ensures { λ r. ⌜ r ≡ singleCell one count (getD (now (pins .entry)) at 0) ⌝ }
 {
     if count == 0 {
         return Signal::zero().xor(one).raw();
     }
+    let literal = pins[at];
     if one {
         return literal;
     }
@@ -132,7 +134,7 @@ fn put_line(
         put_record(gates, gate, many_form(one), at, m);
         return at + m;
     }
-    pins[at] = single_pin(m, pins[at], one);
+    pins[at] = single_pin(m, pins, at, one);
     put_record(gates, gate, BUF, at, 1);
     at + 1
 }

@@ -1,9 +1,11 @@
 -- What `read_blif` answers, as a reviewer would read it. Assumes nothing.
 use mathlib.Core.Path.{_≡_, ap, _∙_}
-use mathlib.Core.Bool.{Bool, true}
+use mathlib.Core.Bool.{Bool, true, false}
 use mathlib.Core.List.{List}
 use mathlib.Core.Logic.{_↔_}
+use native.Mathlib.Omega.{arith}
 use Rattle.lists.specs.Lists.{if_then_else_, Bytes}
+use Rattle.refusals.specs.Numbers.{InReading}
 use Rattle.refusals.specs.declared.Refusal.{Refusal}
 use Rattle.refusals.specs.declared.Refusal.the-variants as refusal
 use Rattle.network.specs.Net.{Net}
@@ -13,7 +15,8 @@ use Rattle.blif_model.specs.Blif.{BlifRuns}
 use Rattle.blif_model.specs.Model.{modelOfText}
 use Rattle.blif_model.specs.Read.{Result, read, refused, readText}
 use Rattle.blif_model.proofs.Summary as model
-use Rattle.blif_read.specs.Into.{Lengths, enough, ReadOutcome, filled, readInto}
+use Rattle.blif_model.proofs.Refusals as texts
+use Rattle.blif_read.specs.Into.{Lengths, enough, ReadOutcome, filled, answered, readInto}
 use Rattle.blif_read.specs.declared.ReadAnswer.the-variants.{Read, Refused}
 
 -- demand 2: where a text is read as a network, for every list of input rows the text has just one list of outputs, by the Berkeley text,
@@ -34,3 +37,11 @@ read-counts text net n e r = ap (λ (o : ReadOutcome). o .answer) (read-answers 
 -- a refusal is answered
 pub refusal-answered : (text : Bytes) (r : Refusal) (n : Lengths) → enough n ≡ true → readText text ≡ refused r → readInto text n .answer ≡ Refused r
 refusal-answered text r n e q = ap (λ (o : ReadOutcome). o .answer) (read-answers text n e ∙ ap (λ (x : Result). filled x n) q)
+
+-- "Reading refuses, in order: 1 .. 14", and nothing else
+pub reading-refuses : (text : Bytes) (n : Lengths) (r : Refusal) → answered text n ≡ refused r → InReading r
+reading-refuses text n r = go (enough n)
+  where
+    go : (b : Bool) → (if b then readText text else refused refusal.TooFewCells) ≡ refused r → InReading r
+    go true e = texts.reading-refuses text r e
+    go false e = let q : r ≡ refusal.TooFewCells = cc in rw q (record { low = omega arith; high = omega arith })

@@ -15,10 +15,9 @@ use Rattle.network.specs.Cells.{Lent, netOf, isNetwork, countsOf}
 use Rattle.blif_model.specs.Write.{wide}
 use Rattle.blif_model.specs.Render.{textOf}
 use Rattle.blif_model.specs.Read.{Result, read, refused, readText}
-use Rattle.blif_model.proofs.Refusals.{reading-refuses}
 use Rattle.blif_read.specs.Into.{Lengths, enough, filled, answered, readInto}
 use Rattle.blif_read.specs.declared.ReadAnswer.{ReadAnswer}
-use Rattle.blif_read.proofs.Summary.{read-counts}
+use Rattle.blif_read.proofs.Summary.{read-counts, reading-refuses}
 use Rattle.blif_write.specs.Into.{WriteOutcome, refusedText, writtenText, tooLong, writeInto}
 use Rattle.blif_write.specs.declared.WriteAnswer.{WriteAnswer}
 use Rattle.blif_write.specs.declared.WriteAnswer.the-variants as written
@@ -55,18 +54,10 @@ result-refused : (r : Result) (n : Lengths) → ((k : Refusal) → r ≡ refused
 result-refused (read net) n w f = absurd (f refl)
 result-refused (refused k) n w f = (k, w k refl, refl, refl)
 
--- 1, or one of 2 to 14
-answered-refuses : (text : Bytes) (n : Lengths) (k : Refusal) → answered text n ≡ refused k → InReading k
-answered-refuses text n k = go (enough n)
-  where
-    go : (b : Bool) → (if b then readText text else refused refusal.TooFewCells) ≡ refused k → InReading k
-    go true e = reading-refuses text k e
-    go false e = let q : k ≡ refusal.TooFewCells = cc in rw q (record { low = omega arith; high = omega arith })
-
 pub read-refused : (text : Bytes) (n : Lengths) → (networkOf (readInto text n .answer) .refused ≡ 0 → ⊥)
     → (k : Refusal) × InReading k × (answered text n ≡ refused k) × (networkOf (readInto text n .answer) .refused ≡ numberOf k)
 unfolding readInto
-read-refused text n f = result-refused (answered text n) n (answered-refuses text n) f
+read-refused text n f = result-refused (answered text n) n (reading-refuses text n) f
 
 -- ---- writing
 

@@ -2,6 +2,7 @@
 -- cell and byte (`ReadHanded`, `WriteHanded`, specs/Handed). Assumes nothing.
 --   refused-reading, refused-writing  `refused` is 0 exactly on success, else a number of 1 to 14, of 20 to 22
 --   read-outputs    the network in the cells has exactly the outputs that the text has, by the Berkeley text
+--   text-written    the bytes up to the length are the network's text
 --   handed-back     demand 3: written by one call, read back by the other
 --   never-shared    two networks that share a text agree in every output
 --   texts-differ    so two that differ never share a text
@@ -52,7 +53,7 @@ module _ (text : Bytes) (n : Lengths) {r : VumneathNetwork} {gs ps os wgs wps : 
   told : r .refused ≡ networkOf (readInto text n .answer) .refused
   told = ap (λ (x : VumneathNetwork). x .refused) (h .answer)
 
-  -- "Every text .. gets a result or a numbered refusal": 0 is told exactly of a network read into enough cells, and any other number is that
+  -- every text gets a result or a numbered refusal: 0 is told exactly of a network read into enough cells, and any other number is that
   -- of the refusal, one of 1 to 14
   pub refused-reading : ((r .refused ≡ 0) ↔ ((net : Net) × (enough n ≡ true) × (readText text ≡ read net)))
       × ((r .refused ≡ 0 → ⊥) → (k : Refusal) × InReading k × (answered text n ≡ refused k) × (r .refused ≡ numberOf k))
@@ -75,7 +76,7 @@ module _ (text : Bytes) (n : Lengths) {r : VumneathNetwork} {gs ps os wgs wps : 
         (λ i. netOf (lent (counts-are i) (h .gates i) (h .pins i) (h .outputs i)))
         ∙ read-decodes text (was .0) n (was .1) (was .2)
 
-    -- "for every list of rows": the network in the cells has exactly the outputs that the text has by the Berkeley text, and one such list
+    -- for every list of rows the network in the cells has exactly the outputs that the text has by the Berkeley text, and one such list
     pub read-outputs : (rows outs : List (List Bool))
         → (BlifRuns (modelOfText text) rows outs ↔ NetRuns (netHanded r gs ps os) rows outs)
         × (BlifRuns (modelOfText text) rows outs ↔ (outs ≡ run (netHanded r gs ps os) rows))
@@ -90,7 +91,7 @@ module _ (l : Lent) (n : ℕ) {w : VumneathText} {out : Bytes} (h : WriteHanded 
   told-writing : w .refused ≡ textFor (writeInto l n .answer) .refused
   told-writing = ap (λ (x : VumneathText). x .refused) (h .answer)
 
-  -- "every lent network .. gets a result or a numbered refusal": 0 is told exactly of a text written, and any other number is that of the
+  -- every lent network gets a result or a numbered refusal: 0 is told exactly of a text written, and any other number is that of the
   -- refusal, one of 20 to 22
   pub refused-writing : ((w .refused ≡ 0) ↔ WrittenFrom l n)
       × ((w .refused ≡ 0 → ⊥) → (k : Refusal) × InWriting k × (writeInto l n .answer ≡ written.Refused k) × (w .refused ≡ numberOf k))
@@ -110,7 +111,7 @@ module _ (l : Lent) (n : ℕ) {w : VumneathText} {out : Bytes} (h : WriteHanded 
 -- ---- demand 3
 
 -- the conditions hold: one call writes the network, the other reads exactly the bytes written, and the network in the cells has as many
--- inputs and outputs and "for every list of rows, the empty one too" equal outputs at every clock
+-- inputs and outputs and, for "every list of rows, the empty one too", equal outputs at every clock
 pub handed-back : (l : Lent) (n : ℕ) (m : Lengths) {w : VumneathText} {out : Bytes} {r : VumneathNetwork} {gs ps os wgs wps : List ℕ} → Words l → Meets l n m
     → WriteHanded (writeInto l n) w out → ReadHanded (readInto (take (w .length) out) m) r gs ps os wgs wps → HandedBack (netOf l) w out r gs ps os
 handed-back l n m {w} {out} {r} {gs} {ps} {os} {wgs} {wps} words meets write read-of =
@@ -162,7 +163,7 @@ module _ (a b : Lent) (m n : ℕ) {v w : VumneathText} {out out′ : Bytes} (ra 
       trip.never-shared (netOf a) (netOf b) (good a m ra (refused-writing a m wa .0 .0 za)) (good b n rb (refused-writing b n wb .0 .0 zb))
       (sym (text-written a m wa za) ∙ e ∙ text-written b n wb zb)
 
-  -- "So two networks that differ never share a text": that differ in those numbers, or at an output for some list of rows
+  -- so two networks that differ never share a text: that differ in those numbers, or at an output for some list of rows
   pub texts-differ : ((netOf a .inputs ≡ netOf b .inputs → ⊥) ⊎ (length (netOf a .outputs) ≡ length (netOf b .outputs) → ⊥)
       ⊎ ((rows : List (List Bool)) × (run (netOf a) rows ≡ run (netOf b) rows → ⊥)))
       → take (v .length) out ≡ take (w .length) out′ → ⊥

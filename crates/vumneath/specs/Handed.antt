@@ -100,11 +100,11 @@ pub record HandedBack (net : Net) (w : VumneathText) (out : Bytes) (r : Vumneath
   pub text : take (w .length) out ≡ textOf net
   -- they are read
   pub reads : r .refused ≡ 0
-  -- "as many inputs"
+  -- as many inputs
   pub inputs : r .inputs ≡ net .inputs
-  -- "and outputs"
+  -- as many outputs
   pub outputs : r .outputs ≡ length (net .outputs)
-  -- "for every list of rows, the empty one too": equal outputs at every clock from zero
+  -- for "every list of rows, the empty one too", equal outputs at every clock from zero
   pub runs : (rows : List (List Bool)) → run (netHanded r gs ps os) rows ≡ run net rows
   -- the run of the network lent is there, and is the only one
   pub one : (rows outs : List (List Bool)) → NetRuns net rows outs ↔ (outs ≡ run net rows)

@@ -37,12 +37,6 @@ returns c =
     let w = write-literals in
     line-many (w .ensures) (if1 .taken) (c .before .before .before .many-form .ensures) (c .before .before .put-record .ensures)
 
-mul-single-pin : tie.Need-mul-single-pin
-mul-single-pin c = search needs
-
-slice-read-single-pin : tie.Need-slice-read-single-pin
-slice-read-single-pin c = search needs
-
 single-pin-requires : tie.Need-single-pin-requires
 single-pin-requires c κs = search needs
 
@@ -85,8 +79,6 @@ put-line-spec =
     same-length
     same-length-2
     returns
-    mul-single-pin
-    slice-read-single-pin
     single-pin-requires
     mul-pins
     slice-write-pins
