@@ -1,20 +1,20 @@
 -- Demand 3 follows from what the writer and the reader answer. Assumes nothing.
 use mathlib.Core.Path.{_≡_, sym, ap, ap₂, _∙_, subst}
-use mathlib.Core.Bool.{Bool, true}
+use mathlib.Core.Bool.{Bool, true, false}
 use mathlib.Core.List.{List}
 use mathlib.Core.Logic.{_↔_}
 use Prim.Native.Nat.{ℕ}
 use native.Mathlib.Omega.{arith}
 use lib.ListN.{length, take, length-replicate}
 use borrow.Author.Tests.{le-ltb}
-use Rattle.lists.specs.Lists.{Bytes, zeros, over}
+use Rattle.lists.specs.Lists.{Bytes, zeros, any, over}
 use Rattle.lists.proofs.Places.{place-mem}
 use Rattle.lists.proofs.Range.{any-none}
 use Rattle.lists.proofs.Over.{length-over, take-over}
 use Rattle.gates.specs.Gate.{Gate, Comb, Dff}
 use Rattle.gates.specs.Forms.{formed}
-use Rattle.network.specs.Net.{Net, GateIs}
-use Rattle.network.specs.Cells.{Lent, lent, netOf, Words, countsOf}
+use Rattle.network.specs.Net.{Net, GateIs, Loop}
+use Rattle.network.specs.Cells.{Lent, lent, netOf, isNetwork, Words, countsOf}
 use Rattle.network.specs.Clock.{NetRuns, zeroBits}
 use Rattle.network.specs.Settle.{run}
 use Rattle.network.proofs.Lent.{network-laid}
@@ -30,29 +30,29 @@ use Rattle.blif_read.specs.Into.{Lengths, readInto}
 use Rattle.blif_read.proofs.Summary.{read-counts}
 use Rattle.blif_read.proofs.CellsRead.{read-decodes}
 use Rattle.blif_write.specs.Into.{writtenText, writeInto, WriteOutcome}
-use Rattle.round_trip.specs.Trip.{writtenLength, readAnswer, answerOf, TripOutcome, tripInto, Meets, ReadsBack}
+use Rattle.round_trip.specs.Trip.{writtenLength, readAnswer, answerOf, TripOutcome, tripInto, PlainFlops, Meets, ReadsBack}
 
 -- ---- the conditions are those of the theorem
 
-module _ {l : Lent} {n : ℕ} {m : Lengths} (w : Words l) (c : Meets l n m) where
-  -- the network
-  abbrev net : Net
-  net = netOf l
+-- a lent network that has the layout, no loop, no wide exclusive gate and plain flip-flops is one of demand 3's
+pub lent-good : (l : Lent) → Words l → isNetwork l ≡ true → (Loop (netOf l) → ⊥) → any wide (netOf l .gates) ≡ false → PlainFlops (netOf l) → Good (netOf l)
+lent-good l words layout free narrow plain =
+    let k = network-laid l words layout in
+    record {
+      valid = k .1;
+      free = free;
+      plainGates = plain-gate (k .2);
+      narrow = λ g x e. any-none wide (netOf l .gates) narrow x (place-mem (netOf l .gates) g x e);
+    }
+  where
+    plain-gate : ((g : ℕ) (x : Gate) → GateIs (netOf l) g x → formed x ≡ true) → (g : ℕ) (x : Gate) → GateIs (netOf l) g x → PlainGate x
+    plain-gate f g (Comb t ps) e = f g (Comb t ps) e
+    plain-gate f g (Dff s) e = plain g s e
 
+module _ {l : Lent} {n : ℕ} {m : Lengths} (w : Words l) (c : Meets l n m) where
   -- it is one of demand 3's
-  pub good : Good (netOf l)
-  good =
-      let k = network-laid l w (c .layout) in
-      record {
-        valid = k .1;
-        free = c .free;
-        plainGates = plain-gate (k .2);
-        narrow = λ g x e. any-none wide (netOf l .gates) (c .narrow) x (place-mem (netOf l .gates) g x e);
-      }
-    where
-      plain-gate : ((g : ℕ) (x : Gate) → GateIs (netOf l) g x → formed x ≡ true) → (g : ℕ) (x : Gate) → GateIs (netOf l) g x → PlainGate x
-      plain-gate f g (Comb t ps) e = f g (Comb t ps) e
-      plain-gate f g (Dff s) e = c .plain g s e
+  good : Good (netOf l)
+  good = lent-good l w (c .layout) (c .free) (c .narrow) (c .plain)
 
   -- the text is written
   pub written : writeInto l n ≡ writtenText (textOf (netOf l)) n

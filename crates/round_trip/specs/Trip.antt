@@ -77,6 +77,10 @@ tripInto l n m =
 
 -- ---- demand 3
 
+-- plain flip-flops: enable one, reset zero
+abbrev pub PlainFlops : Net → Type 0
+PlainFlops net = (g : ℕ) (s : FlipFlop) → GateIs net g (Dff s) → (s .enable ≡ oneS) × (s .reset ≡ zeroS)
+
 -- the conditions: n is the length of the text's slice, m are the lengths of those to be filled
 pub record Meets (l : Lent) (n : ℕ) (m : Lengths) : Type 0 where
   -- "Its networks have the layout and signals that 20 asks for"
@@ -85,8 +89,8 @@ pub record Meets (l : Lent) (n : ℕ) (m : Lengths) : Type 0 where
   pub free : Loop (netOf l) → ⊥
   -- "its exclusive gates are those of 21"
   pub narrow : any wide (netOf l .gates) ≡ false
-  -- plain flip-flops: enable one, reset zero
-  pub plain : (g : ℕ) (s : FlipFlop) → GateIs (netOf l) g (Dff s) → (s .enable ≡ oneS) × (s .reset ≡ zeroS)
+  -- its flip-flops are plain
+  pub plain : PlainFlops (netOf l)
   -- the text, counted as a text to be read, is within the sizes
   pub sized : tooLarge (declsOf (textOf (netOf l))) ≡ false
   -- and within the bytes of a text

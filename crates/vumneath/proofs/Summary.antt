@@ -15,20 +15,14 @@ use native.Mathlib.Omega.{arith}
 use lib.ListN.{length, take, length-replicate}
 use Rattle.lists.specs.Lists.{Bytes, zeros, over}
 use Rattle.lists.proofs.Over.{take-over}
-use Rattle.lists.proofs.Places.{place-mem}
-use Rattle.lists.proofs.Range.{any-none}
 use Rattle.refusals.specs.Numbers.{numberOf, InReading, InWriting}
 use Rattle.refusals.specs.declared.Refusal.{Refusal}
-use Rattle.gates.specs.Gate.{Gate, Comb, Dff}
-use Rattle.gates.specs.Forms.{formed}
-use Rattle.network.specs.Net.{Net, GateIs}
+use Rattle.network.specs.Net.{Net}
 use Rattle.network.specs.Cells.{Lent, lent, netOf, Words, countsOf}
 use Rattle.network.specs.Clock.{NetRuns}
 use Rattle.network.specs.Settle.{run}
-use Rattle.network.proofs.Lent.{network-laid}
 use Rattle.blif_model.specs.Blif.{BlifRuns}
 use Rattle.blif_model.specs.Model.{modelOfText}
-use Rattle.blif_model.specs.Write.{wide, PlainGate}
 use Rattle.blif_model.specs.Render.{textOf}
 use Rattle.blif_model.specs.Read.{read, refused, readText}
 use Rattle.blif_model.specs.Demand.{Good}
@@ -139,18 +133,7 @@ handed-back l n m {w} {out} {r} {gs} {ps} {os} {wgs} {wps} words meets write rea
 
 -- a lent network that is written is one of demand 3's
 good : (l : Lent) (n : ℕ) → Runnable l → WrittenFrom l n → Good (netOf l)
-good l n c f =
-    let k = network-laid l (c .words) (f .network) in
-    record {
-      valid = k .1;
-      free = c .free;
-      plainGates = plain-gate (k .2);
-      narrow = λ g x e. any-none wide (netOf l .gates) (f .narrow) x (place-mem (netOf l .gates) g x e);
-    }
-  where
-    plain-gate : ((g : ℕ) (x : Gate) → GateIs (netOf l) g x → formed x ≡ true) → (g : ℕ) (x : Gate) → GateIs (netOf l) g x → PlainGate x
-    plain-gate p g (Comb t ps) e = p g (Comb t ps) e
-    plain-gate p g (Dff s) e = c .plain g s e
+good l n c f = demand.lent-good l (c .words) (f .network) (c .free) (f .narrow) (c .plain)
 
 module _ (a b : Lent) (m n : ℕ) {v w : VumneathText} {out out′ : Bytes} (ra : Runnable a) (rb : Runnable b)
     (wa : WriteHanded (writeInto a m) v out) (wb : WriteHanded (writeInto b n) w out′) (za : v .refused ≡ 0) (zb : w .refused ≡ 0) where

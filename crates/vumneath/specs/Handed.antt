@@ -8,9 +8,7 @@ use Prim.Native.Nat.{ℕ, _≤_}
 use lib.ListN.{length, take}
 use Rattle.lists.specs.Lists.{Bytes, any}
 use Rattle.refusals.specs.Numbers.{numberOf}
-use Rattle.signal.specs.Signal.{zeroS, oneS}
-use Rattle.gates.specs.Gate.{FlipFlop, Dff}
-use Rattle.network.specs.Net.{Net, GateIs, Loop}
+use Rattle.network.specs.Net.{Net, Loop}
 use Rattle.network.specs.Clock.{NetRuns}
 use Rattle.network.specs.Settle.{run}
 use Rattle.network.specs.Cells.{WithinSizes, Lent, lent, netOf, isNetwork, Words}
@@ -24,6 +22,7 @@ use Rattle.blif_read.specs.declared.ReadAnswer.the-variants as read
 use Rattle.blif_write.specs.Into.{WriteOutcome, writtenText, writeInto}
 use Rattle.blif_write.specs.declared.WriteAnswer.{WriteAnswer}
 use Rattle.blif_write.specs.declared.WriteAnswer.the-variants as write
+use Rattle.round_trip.specs.Trip.{PlainFlops}
 use Rattle.vumneath.specs.declared.VumneathNetwork.{VumneathNetwork}
 use Rattle.vumneath.specs.declared.VumneathText.{VumneathText}
 
@@ -117,5 +116,5 @@ pub record Runnable (l : Lent) : Type 0 where
   pub words : Words l
   -- no combinational loop
   pub free : Loop (netOf l) → ⊥
-  -- plain flip-flops: enable one, reset zero
-  pub plain : (g : ℕ) (s : FlipFlop) → GateIs (netOf l) g (Dff s) → (s .enable ≡ oneS) × (s .reset ≡ zeroS)
+  -- its flip-flops are plain
+  pub plain : PlainFlops (netOf l)
