@@ -1,5 +1,5 @@
 // The oracle: Quaigh's answers, as lists that programs of this repository replay.
-// usage: oracle checks SEED COUNT                  texts and networks with what is read and written, as the file specs/Stored of model_checks
+// usage: oracle checks SEED COUNT                  texts and networks with what is read and written, as the file specs/Stored of worked_cases
 //        oracle sort SEED COUNT GIVEN WANTED       files of networks and of what `topo_sort` makes of them
 //        oracle texts SEED COUNT GIVEN WANTED      files of texts and of the statements that `read_statements` finds
 //        oracle reads SEED COUNT GIVEN WANTED      files of texts and of what `read_blif` answers, as document 01 has it

@@ -115,7 +115,7 @@ pub fn text(r: &mut Numbers) -> String {
     s
 }
 
-// ---- the same as terms of crate model_checks, specs/Checks.antt
+// ---- the same as terms of crate worked_cases, specs/Checks.antt
 
 fn signal(s: &Signal) -> String {
     let bare = s.without_inversion();
@@ -181,7 +181,7 @@ use Rattle.lists.specs.Lists.{bytes}
 use Rattle.signal.specs.Signal.{Input, Gated, plain, zeroS, oneS, turned}
 use Rattle.gates.specs.Gate.{And2, Xor2, And3, Xor3, Maj3, Mux3, AndN, OrN, NandN, NorN, XorN, XnorN, Buf, Comb, Dff}
 use Rattle.network.specs.Net.{netFrom}
-use Rattle.model_checks.specs.Checks.{Check, reads, writes, network, number}
+use Rattle.worked_cases.specs.Checks.{Check, reads, writes, network, number}
 
 -- the checks
 unfoldable pub stored : List Check

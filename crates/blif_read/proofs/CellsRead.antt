@@ -12,8 +12,8 @@ use Rattle.network.specs.Net.{Net}
 use Rattle.network.specs.Cells.{gateCells, pinCells, lent, countsOf, netOf, isNetwork}
 use Rattle.network.proofs.Laying.{laid-over}
 use Rattle.network.proofs.Lent.{laid-network}
-use Rattle.blif_model.specs.Read.{Result, read, readText}
-use Rattle.blif_model.proofs.ReadNet.{NetRead, read-net}
+use Rattle.blif_reading.specs.Read.{Result, read, readText}
+use Rattle.blif_reading.proofs.ReadNet.{NetRead, read-net}
 use Rattle.blif_read.specs.Into.{Lengths, lengths, enough, ReadOutcome, filled, readInto}
 use Rattle.blif_read.specs.Stages.{Enough}
 use Rattle.blif_read.proofs.Lending.{enough-cells}

@@ -29,17 +29,17 @@ use Rattle.blif_text.specs.Statements.{parsed, firstBad}
 use Rattle.blif_text.specs.Places.{maxText}
 use Rattle.blif_text.specs.Decls.{Def, outs, declsOf}
 use Rattle.blif_text.specs.Blocks.{defsAt}
-use Rattle.blif_model.specs.Read.{declFault, readFault, Result, read, refused, answer, look, builtFrom, readText}
-use Rattle.blif_model.specs.Working.{GatesIn, placed, builtGates, WorkRoom}
-use Rattle.blif_gates.specs.Covers.{Buildable, BuiltBy}
-use Rattle.blif_gates.specs.declared.Built.{Built}
+use Rattle.blif_reading.specs.Read.{declFault, readFault, Result, read, refused, answer, look, builtFrom, readText}
+use Rattle.blif_reading.specs.Working.{GatesIn, placed, builtGates, WorkRoom}
+use Rattle.blif_read_gates.specs.Covers.{Buildable, BuiltBy}
+use Rattle.blif_read_gates.specs.declared.Built.{Built}
 use Rattle.blif_read.specs.Stages.{Holds, Placing}
 use Rattle.blif_read.specs.declared.ReadAnswer.{ReadAnswer}
 use Rattle.blif_read.specs.declared.ReadAnswer.the-variants.{Read, Refused}
-use Rattle.blif_model.proofs.BuiltNet.{BuiltIn}
-use Rattle.blif_model.proofs.Passed.{passed}
-use Rattle.blif_model.proofs.SizeLimits.{sizes-within}
-use Rattle.blif_model.proofs.BuiltNet.{built-net, built-sortable}
+use Rattle.blif_reading.proofs.BuiltNet.{BuiltIn}
+use Rattle.blif_reading.proofs.Passed.{passed}
+use Rattle.blif_reading.proofs.SizeLimits.{sizes-within}
+use Rattle.blif_reading.proofs.BuiltNet.{built-net, built-sortable}
 use Rattle.blif_read.proofs.Refusing.{sorted-or-loop}
 
 -- ---- no refusal took the text

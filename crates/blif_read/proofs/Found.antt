@@ -10,10 +10,10 @@ use Rattle.refusals.specs.declared.Checked.the-variants.{Fine}
 use Rattle.signal.specs.Cell.{sigCell}
 use Rattle.blif_text.specs.Decls.{Decl, ins, outs, defs, defines, usedNames}
 use Rattle.name_index.specs.Search.{signalIn}
-use Rattle.blif_model.specs.Read.{tooLarge, naming, undefined, look}
-use Rattle.blif_decls.specs.Entries.{entries}
-use Rattle.blif_uses.specs.Resolve.{isFound, Signals}
-use Rattle.blif_decls.proofs.EntryLaws.{entry-signal, entry-found}
+use Rattle.blif_reading.specs.Read.{tooLarge, naming, undefined, look}
+use Rattle.blif_read_names.specs.Entries.{entries}
+use Rattle.blif_read_signals.specs.Resolve.{isFound, Signals}
+use Rattle.blif_read_names.proofs.EntryLaws.{entry-signal, entry-found}
 
 -- ---- a test of every element
 

@@ -10,7 +10,7 @@ use Rattle.refusals.specs.declared.Refusal.the-variants as refusal
 use Rattle.network.specs.Cells.{countsOf}
 use Rattle.network.specs.declared.Counts.{Counts}
 use Rattle.network.proofs.Laying.{length-gateCells}
-use Rattle.blif_model.specs.Read.{Result, read, refused, readText}
+use Rattle.blif_reading.specs.Read.{Result, read, refused, readText}
 use Rattle.blif_read.specs.Into.{Lengths, enough, readOutcome, leaving, filled, readInto, answered}
 use Rattle.blif_read.specs.Stages.{countsIn, Holds}
 use Rattle.blif_read.specs.declared.ReadAnswer.{ReadAnswer}

@@ -19,17 +19,17 @@ use Rattle.blif_text.specs.Walk.{stmtsFrom, Inside}
 use Rattle.blif_text.specs.Blocks.{defsAt}
 use Rattle.name_index.specs.Search.{Entry, signalIn}
 use Rattle.name_index.specs.Index.{entriesOf}
-use Rattle.blif_model.specs.Read.{pinCount, tooLarge, naming, undefined, coverFaults, readFault, refused, look, readText}
-use Rattle.blif_model.specs.Working.{GatesIn, placed, placedCount}
-use Rattle.blif_decls.specs.Entries.{entries}
-use Rattle.blif_decls.specs.Tables.{Tables}
-use Rattle.blif_decls.specs.declared.Declared.{Declared}
-use Rattle.blif_uses.specs.Resolve.{isFound, allFound, Resolved, PlacedBy, Signals}
-use Rattle.blif_uses.specs.declared.Placed.the-variants as answer
-use Rattle.blif_uses.proofs.Placing.{pins-found, refused-found}
+use Rattle.blif_reading.specs.Read.{pinCount, tooLarge, naming, undefined, coverFaults, readFault, refused, look, readText}
+use Rattle.blif_reading.specs.Working.{GatesIn, placed, placedCount}
+use Rattle.blif_read_names.specs.Entries.{entries}
+use Rattle.blif_read_names.specs.Tables.{Tables}
+use Rattle.blif_read_names.specs.declared.Declared.{Declared}
+use Rattle.blif_read_signals.specs.Resolve.{isFound, allFound, Resolved, PlacedBy, Signals}
+use Rattle.blif_read_signals.specs.declared.Placed.the-variants as answer
+use Rattle.blif_read_signals.proofs.Placing.{pins-found, refused-found}
 use Rattle.blif_read.specs.Stages.{Sized, Defining, Resolving, Placing}
-use Rattle.blif_model.proofs.SizeLimits.{sizes-within}
-use Rattle.blif_decls.proofs.DefiningGates.{defs-few}
+use Rattle.blif_reading.proofs.SizeLimits.{sizes-within}
+use Rattle.blif_read_names.proofs.DefiningGates.{defs-few}
 use Rattle.blif_read.proofs.Refusing.{refuses, refuses-when, goes-on, passes-when}
 use Rattle.blif_read.proofs.Found.{found-all, found-signals, found-signal, output-missing, use-missing, none-missing}
 

@@ -19,7 +19,7 @@ use Rattle.blif_text.specs.Decls.{decls, defs, declsOf}
 use Rattle.blif_text.specs.Places.{maxText, TokensMarked}
 use Rattle.blif_text.specs.Walk.{stmtsFrom}
 use Rattle.blif_text.proofs.RefusalLaws.{stmts-start, stmts-all}
-use Rattle.blif_model.specs.Read.{tooLarge, naming, undefined, coverFaults, declFault, readFault, Result, refused, answer, builtFrom, readText}
+use Rattle.blif_reading.specs.Read.{tooLarge, naming, undefined, coverFaults, declFault, readFault, Result, refused, answer, builtFrom, readText}
 use Rattle.blif_read.specs.Stages.{Holds, PlainText, Sized}
 use Rattle.blif_read.specs.declared.ReadAnswer.the-variants.{Refused}
 

@@ -1,8 +1,6 @@
 -- What `read_blif` answers, as a reviewer would read it. Assumes nothing.
 use mathlib.Core.Path.{_≡_, ap, _∙_}
 use mathlib.Core.Bool.{Bool, true, false}
-use mathlib.Core.List.{List}
-use mathlib.Core.Logic.{_↔_}
 use native.Mathlib.Omega.{arith}
 use Rattle.lists.specs.Lists.{if_then_else_, Bytes}
 use Rattle.refusals.specs.Numbers.{InReading}
@@ -10,20 +8,10 @@ use Rattle.refusals.specs.declared.Refusal.{Refusal}
 use Rattle.refusals.specs.declared.Refusal.the-variants as refusal
 use Rattle.network.specs.Net.{Net}
 use Rattle.network.specs.Cells.{countsOf}
-use Rattle.network.specs.Settle.{run}
-use Rattle.blif_model.specs.Blif.{BlifRuns}
-use Rattle.blif_model.specs.Model.{modelOfText}
-use Rattle.blif_model.specs.Read.{Result, read, refused, readText}
-use Rattle.blif_model.proofs.Summary as model
-use Rattle.blif_model.proofs.Refusals as texts
+use Rattle.blif_reading.specs.Read.{Result, read, refused, readText}
+use Rattle.blif_reading.proofs.Summary as texts
 use Rattle.blif_read.specs.Into.{Lengths, enough, ReadOutcome, filled, answered, readInto}
 use Rattle.blif_read.specs.declared.ReadAnswer.the-variants.{Read, Refused}
-
--- demand 2: where a text is read as a network, for every list of input rows the text has just one list of outputs, by the Berkeley text,
--- and it is the network's
-pub read-means : (text : Bytes) (net : Net) → readText text ≡ read net → (rows outs : List (List Bool))
-    → BlifRuns (modelOfText text) rows outs ↔ (outs ≡ run net rows)
-read-means = model.read-means
 
 -- with enough cells the answer and the cells are those of `readText`'s result
 pub read-answers : (text : Bytes) (n : Lengths) → enough n ≡ true → readInto text n ≡ filled (readText text) n

@@ -8,7 +8,7 @@ use Rattle.lists.specs.Lists.{if_then_else_, Bytes, zeros, over}
 use Rattle.refusals.specs.declared.Refusal.the-variants as refusal
 use Rattle.signal.specs.Cell.{sigCell}
 use Rattle.network.specs.Cells.{gateWidth, maxGates, maxPins, maxOutputs, gateCells, pinCells, countsOf}
-use Rattle.blif_model.specs.Read.{Result, read, refused, readText}
+use Rattle.blif_reading.specs.Read.{Result, read, refused, readText}
 use Rattle.blif_read.specs.declared.ReadAnswer.{ReadAnswer}
 use Rattle.blif_read.specs.declared.ReadAnswer.the-variants.{Read, Refused}
 

@@ -18,9 +18,9 @@ use Rattle.blif_text.specs.Decls as names
 use Rattle.blif_text.specs.Places.{maxText, maxTokens}
 use Rattle.blif_text.specs.Walk.{stmtsFrom, StmtsAt}
 use Rattle.blif_text.specs.Blocks.{Blocks, defsAt}
-use Rattle.blif_model.specs.Read.{tooLarge, naming, undefined, coverFaults, declFault, readFault, Result, read, refused, look, readText}
-use Rattle.blif_model.specs.Working.{GatesIn, placed, placedCount}
-use Rattle.blif_decls.specs.Tables.{Named, Tables}
+use Rattle.blif_reading.specs.Read.{tooLarge, naming, undefined, coverFaults, declFault, readFault, Result, read, refused, look, readText}
+use Rattle.blif_reading.specs.Working.{GatesIn, placed, placedCount}
+use Rattle.blif_read_names.specs.Tables.{Named, Tables}
 use Rattle.blif_read.specs.declared.ReadAnswer.{ReadAnswer}
 use Rattle.blif_read.specs.declared.ReadAnswer.the-variants.{Read, Refused}
 

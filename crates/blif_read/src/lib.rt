@@ -1,16 +1,16 @@
 // The BLIF reader (Quaigh's src/io/blif.rs: read_blif).
-use blif_covers::check_covers;
-use blif_decls::Declared;
-use blif_decls::Defined;
-use blif_decls::build_name_to_sig;
-use blif_gates::build_covers;
-use blif_sizes::too_large;
+use blif_read_covers::check_covers;
+use blif_read_gates::build_covers;
+use blif_read_names::Declared;
+use blif_read_names::Defined;
+use blif_read_names::build_name_to_sig;
+use blif_read_signals::Placed;
+use blif_read_signals::place_gates;
+use blif_read_signals::resolve_names;
+use blif_read_sizes::too_large;
 use blif_text::MAX_TEXT;
 use blif_text::first_bad;
 use blif_text::mark_tokens;
-use blif_uses::Placed;
-use blif_uses::place_gates;
-use blif_uses::resolve_names;
 use lists::fill_zero;
 use network::Counts;
 use network::GATE_CELLS;
@@ -26,7 +26,7 @@ ghost use lib.Dec.{leb};
 ghost use lib.ListN.{length, take};
 ghost use Rattle.lists.specs.Lists.{any, over, zeros};
 ghost use Rattle.refusals.specs.declared.Checked.the-variants.{Fine};
-ghost use Rattle.blif_model.specs.Read.{readFault, readText};
+ghost use Rattle.blif_reading.specs.Read.{readFault, readText};
 ghost use Rattle.blif_read.specs.Into.{lengths, enough, readOutcome, readInto, answered};
 ghost use Rattle.blif_read.specs.Stages.{countsIn, Holds, Enough, PlainText, Sized, Defining, Resolving, Placing};
 

@@ -11,8 +11,8 @@ use Rattle.refusals.specs.declared.Refusal.{Refusal}
 use Rattle.refusals.specs.declared.Refusal.the-variants as refusal
 use Rattle.network.specs.Cells.{Lent, isNetwork, netOf}
 use Rattle.blif_text.specs.Places.{maxText}
-use Rattle.blif_model.specs.Write.{wide}
-use Rattle.blif_model.specs.Render.{textOf}
+use Rattle.blif_writing.specs.WrittenModel.{wide}
+use Rattle.blif_writing.specs.Text.{textOf}
 use Rattle.blif_write.specs.Into.{WriteOutcome, refusedText, writtenText, tooLong, writeInto}
 
 -- a text that is not too long is within the slice, and within the bytes of a text

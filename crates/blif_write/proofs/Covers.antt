@@ -22,12 +22,12 @@ use Rattle.gates.specs.declared.NaryType.{NaryType}
 use Rattle.gates.specs.declared.NaryType.the-variants as N
 use Rattle.gates.specs.declared.Gate as code
 use Rattle.gates.specs.declared.Gate.the-variants as G
-use Rattle.blif_model.specs.Blif.{Block}
-use Rattle.blif_model.specs.Names.{nameBytes}
-use Rattle.blif_model.specs.Write.{formBlock, bufBlock, combBlock, tooWide, wide}
-use Rattle.blif_model.specs.Render.{line, blockLines}
-use Rattle.blif_cubes.specs.Lines.{Narrow}
-use Rattle.blif_put.specs.Blocks.{blockText, storedText}
+use Rattle.blif_meaning.specs.Model.{Block}
+use Rattle.blif_writing.specs.Names.{nameBytes}
+use Rattle.blif_writing.specs.WrittenModel.{formBlock, bufBlock, combBlock, tooWide, wide}
+use Rattle.blif_writing.specs.Text.{line, blockLines}
+use Rattle.blif_write_cubes.specs.Lines.{Narrow}
+use Rattle.blif_write_gates.specs.Blocks.{blockText, storedText}
 use Rattle.blif_write.specs.Parts.{blocksText, coverText, latchText}
 
 -- ---- runs of pins

@@ -4,10 +4,10 @@ use mathlib.Core.List.{List, _∷_, _++_, map, flatMap, append-assoc}
 use Prim.Native.Nat.{ℕ}
 use Rattle.lists.specs.Lists.{Bytes, bytes}
 use Rattle.signal.specs.Signal.{Input, Signal, plain}
-use Rattle.blif_model.specs.Write.{inputNames}
-use Rattle.blif_model.specs.Names.{nameBytes}
-use Rattle.blif_model.specs.Render.{spaced, line}
-use Rattle.blif_names.proofs.Parts.{Parts}
+use Rattle.blif_writing.specs.WrittenModel.{inputNames}
+use Rattle.blif_writing.specs.Names.{nameBytes}
+use Rattle.blif_writing.specs.Text.{spaced, line}
+use Rattle.blif_write_names.proofs.Parts.{Parts}
 use Rattle.blif_write.specs.Parts.{headText}
 
 -- an input's name is a part of the text of all

@@ -17,10 +17,10 @@ use Rattle.gates.proofs.Forms.{From, comb-number}
 use Rattle.network.specs.Cells.{formAt, firstAt, countAt, CellIs, runAt, gateAt, orBuf, HasRun}
 use Rattle.network.proofs.GateRead.{has-run, gate-is, run-pins}
 use Rattle.network.proofs.Records.{cut-run}
-use Rattle.blif_model.specs.Write.{named, exclusive, maxExclusive, tooWide, wide}
+use Rattle.blif_writing.specs.WrittenModel.{named, exclusive, maxExclusive, tooWide, wide}
 use Rattle.blif_write.specs.Parts.{latchText, coverText, HeldAt}
-use Rattle.blif_inverters.specs.Marks.{SignalsMarked}
-use Rattle.blif_inverters.proofs.Marking.{as-marked}
+use Rattle.blif_write_inverters.specs.Marks.{SignalsMarked}
+use Rattle.blif_write_inverters.proofs.Marking.{as-marked}
 
 -- ---- by the form number
 

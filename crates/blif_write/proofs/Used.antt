@@ -15,13 +15,13 @@ use Rattle.lists.proofs.Tests.{by-test, and-true, and-false}
 use Rattle.signal.specs.Signal.{Node, Const, Input, Gated, Signal}
 use Rattle.gates.specs.Gate.{Gate}
 use Rattle.network.specs.Net.{Net}
-use Rattle.blif_model.specs.Names.{nameBytes}
-use Rattle.blif_model.specs.Write.{sameNode, usedAmong, named, usedIn, inverted, downTo, inverterBlock}
-use Rattle.blif_model.specs.Render.{line, blockLines, allLines}
-use Rattle.blif_put.specs.Blocks.{blockText}
+use Rattle.blif_writing.specs.Names.{nameBytes}
+use Rattle.blif_writing.specs.WrittenModel.{sameNode, usedAmong, named, usedIn, inverted, downTo, inverterBlock}
+use Rattle.blif_writing.specs.Text.{line, blockLines, allLines}
+use Rattle.blif_write_gates.specs.Blocks.{blockText}
 use Rattle.blif_write.specs.Parts.{blocksText, invertersText}
-use Rattle.blif_inverters.specs.Marks.{gateOf, inputOf, marked, markAll, namedIn, inverterAt, gateInverters, inputInverters}
-use Rattle.blif_inverters.proofs.Marking.{marked-length}
+use Rattle.blif_write_inverters.specs.Marks.{gateOf, inputOf, marked, markAll, namedIn, inverterAt, gateInverters, inputInverters}
+use Rattle.blif_write_inverters.proofs.Marking.{marked-length}
 
 -- ---- marks and uses
 

@@ -16,10 +16,10 @@ use Rattle.gates.specs.declared.Decoded.{Decoded}
 use Rattle.gates.specs.declared.Decoded.the-variants.{Good, Bad}
 use Rattle.network.specs.Cells.{gateAt, decodedAt, orBuf, cellGates}
 use Rattle.network.proofs.GateRead.{decoded-is, cell-gate}
-use Rattle.blif_model.specs.Names.{nameBytes}
-use Rattle.blif_model.specs.Write.{combBlock, combBlocks, latchBlocks, wide}
-use Rattle.blif_model.specs.Render.{line, blockLines, allLines}
-use Rattle.blif_names.proofs.Parts.{Parts}
+use Rattle.blif_writing.specs.Names.{nameBytes}
+use Rattle.blif_writing.specs.WrittenModel.{combBlock, combBlocks, latchBlocks, wide}
+use Rattle.blif_writing.specs.Text.{line, blockLines, allLines}
+use Rattle.blif_write_names.proofs.Parts.{Parts}
 use Rattle.blif_write.specs.Parts.{latchText, coverText, latchesText, coversText, HeldAt}
 use Rattle.blif_write.proofs.Covers.{block-alone}
 use Rattle.blif_write.proofs.Told.{held-is}

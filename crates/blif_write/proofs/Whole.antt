@@ -19,10 +19,10 @@ use Rattle.network.specs.Net.{Net}
 use Rattle.network.specs.Cells.{Lent, isNetwork, netOf}
 use Rattle.network.proofs.Lent.{network-readable, network-sizes}
 use Rattle.blif_text.specs.Places.{maxText}
-use Rattle.blif_model.specs.Names.{nameBytes}
-use Rattle.blif_model.specs.Write.{latchBlocks, combBlocks, inverterBlock, inverters, wide, inputNames}
-use Rattle.blif_model.specs.Render.{line, allLines, headLines, textOf}
-use Rattle.blif_names.specs.Text.{Wrote}
+use Rattle.blif_writing.specs.Names.{nameBytes}
+use Rattle.blif_writing.specs.WrittenModel.{latchBlocks, combBlocks, inverterBlock, inverters, wide, inputNames}
+use Rattle.blif_writing.specs.Text.{line, allLines, headLines, textOf}
+use Rattle.blif_write_names.specs.Text.{Wrote}
 use Rattle.blif_write.specs.Into.{writeOutcome, refusedText, writtenText, tooLong, writeInto}
 use Rattle.blif_write.specs.declared.WriteAnswer.the-variants.{Written}
 use Rattle.blif_write.specs.Parts.{latchesText, coversText, headText, Readable, invertersText, Writable}

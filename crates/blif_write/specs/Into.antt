@@ -9,8 +9,8 @@ use Rattle.refusals.specs.declared.Refusal.{Refusal}
 use Rattle.refusals.specs.declared.Refusal.the-variants as refusal
 use Rattle.network.specs.Cells.{Lent, netOf, isNetwork}
 use Rattle.blif_text.specs.Places.{maxText}
-use Rattle.blif_model.specs.Write.{wide}
-use Rattle.blif_model.specs.Render.{textOf}
+use Rattle.blif_writing.specs.WrittenModel.{wide}
+use Rattle.blif_writing.specs.Text.{textOf}
 use Rattle.blif_write.specs.declared.WriteAnswer.{WriteAnswer}
 use Rattle.blif_write.specs.declared.WriteAnswer.the-variants.{Written, Refused}
 

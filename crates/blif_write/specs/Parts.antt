@@ -9,10 +9,10 @@ use Rattle.signal.specs.Signal.{Signal}
 use Rattle.gates.specs.Gate.{Gate}
 use Rattle.network.specs.Net.{Net}
 use Rattle.network.specs.Cells.{maxGates, gateAt, Lent, isNetwork, netOf}
-use Rattle.blif_model.specs.Blif.{Block}
-use Rattle.blif_model.specs.Names.{nameBytes}
-use Rattle.blif_model.specs.Write.{inputNames, wide, latchBlocks, combBlocks, inverterBlock, inverters}
-use Rattle.blif_model.specs.Render.{line, allLines, headLines}
+use Rattle.blif_meaning.specs.Model.{Block}
+use Rattle.blif_writing.specs.Names.{nameBytes}
+use Rattle.blif_writing.specs.WrittenModel.{inputNames, wide, latchBlocks, combBlocks, inverterBlock, inverters}
+use Rattle.blif_writing.specs.Text.{line, allLines, headLines}
 
 -- the lines of blocks, each with its end
 abbrev pub blocksText : List (Block Bytes) → Bytes

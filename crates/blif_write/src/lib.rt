@@ -1,9 +1,9 @@
 // The BLIF writer (Quaigh's src/io/blif.rs: write_blif, and src/io/utils.rs: get_inverted_signals).
-use blif_inverters::append_gate_inverters;
-use blif_inverters::append_input_inverters;
-use blif_inverters::mark_signals;
-use blif_names::append;
-use blif_names::append_name;
+use blif_write_inverters::append_gate_inverters;
+use blif_write_inverters::append_input_inverters;
+use blif_write_inverters::mark_signals;
+use blif_write_names::append;
+use blif_write_names::append_name;
 use gates::BUF;
 use gates::DFF;
 use gates::Decoded;
@@ -23,13 +23,13 @@ ghost use Rattle.signal.specs.Cell.{sigOf};
 ghost use Rattle.gates.specs.Decode.{runWithin, gateIn};
 ghost use Rattle.network.specs.Cells.{maxGates, maxInputs, gateAt, orBuf, cellGates, cellNet, lent};
 ghost use Rattle.blif_text.specs.Places.{maxText};
-ghost use Rattle.blif_model.specs.Names.{nameBytes};
-ghost use Rattle.blif_model.specs.Write.{inputNames, named, tooWide, wide};
-ghost use Rattle.blif_model.specs.Render.{spaced, textOf};
-ghost use Rattle.blif_names.specs.Text.{Wrote, Appended};
+ghost use Rattle.blif_writing.specs.Names.{nameBytes};
+ghost use Rattle.blif_writing.specs.WrittenModel.{inputNames, named, tooWide, wide};
+ghost use Rattle.blif_writing.specs.Text.{spaced, textOf};
+ghost use Rattle.blif_write_names.specs.Text.{Wrote, Appended};
 ghost use Rattle.blif_write.specs.Into.{writeOutcome, refusedText, writeInto};
 ghost use Rattle.blif_write.specs.Parts.{latchText, coverText, latchesText, coversText, headText, HeldAt, Readable, invertersText, Writable};
-ghost use Rattle.blif_inverters.specs.Marks.{SignalsMarked, namedIn};
+ghost use Rattle.blif_write_inverters.specs.Marks.{SignalsMarked, namedIn};
 
 // How many inputs an Xor or Xnor of the Nary form may have to be written.
 const MAX_EXCLUSIVE: usize = 12;
@@ -50,7 +50,7 @@ fn write_latch(out: &mut [u8], gate: Gate, g: usize) -> usize
         Gate::Ternary(_, _, _, _) => 0,
         Gate::Nary(_, _) => 0,
         Gate::Buf(_) => 0,
-        Gate::Dff(d, e, r) => blif_put::write_stored(out, d, e, r, g),
+        Gate::Dff(d, e, r) => blif_write_gates::write_stored(out, d, e, r, g),
     }
 }
 
@@ -74,14 +74,14 @@ fn write_cover(out: &mut [u8], gate: Gate, pins: &[u32], g: usize) -> usize
     ensures { λ r. ⌜ Wrote (coverText g (gateIn gate (now (pins .entry)))) (now (out .entry)) (now (out .exit)) r ⌝ }
 {
     match gate {
-        Gate::Binary(t, a, b) => blif_put::write_binary(out, t, a, b, g),
-        Gate::Ternary(t, a, b, c) => blif_put::write_ternary(out, t, a, b, c, g),
+        Gate::Binary(t, a, b) => blif_write_gates::write_binary(out, t, a, b, g),
+        Gate::Ternary(t, a, b, c) => blif_write_gates::write_ternary(out, t, a, b, c, g),
         Gate::Nary(t, run) => {
             let start = run.first;
             let end = start + run.count;
-            blif_put::write_nary(out, t, &pins[start..end], g)
+            blif_write_gates::write_nary(out, t, &pins[start..end], g)
         }
-        Gate::Buf(s) => blif_put::write_buf(out, s, g),
+        Gate::Buf(s) => blif_write_gates::write_buf(out, s, g),
         Gate::Dff(_, _, _) => 0,
     }
 }
@@ -171,7 +171,7 @@ fn write_head(out: &mut [u8], inputs: usize, outputs: &[u32]) -> usize
     at = append(out, at, b".inputs");
     at = append_inputs(out, at, inputs);
     at = append(out, at, b"\n\n.outputs");
-    at = blif_put::append_signals(out, at, outputs);
+    at = blif_write_gates::append_signals(out, at, outputs);
     append(out, at, b"\n\n")
 }
 

@@ -13,11 +13,11 @@ use Rattle.network.specs.declared.Counts.{Counts}
 use Rattle.refusals.specs.declared.Refusal.{Refusal}
 use Rattle.refusals.specs.declared.Refusal.the-variants as refusal
 use Rattle.refusals.specs.Numbers.{numberOf}
-use Rattle.blif_model.specs.Names.{decimal}
-use Rattle.blif_model.specs.Write.{wide}
-use Rattle.blif_model.specs.Render.{textOf}
-use Rattle.blif_names.specs.Text.{Wrote}
-use Rattle.blif_names.proofs.Numbers.{decimal-then}
+use Rattle.blif_writing.specs.Names.{decimal}
+use Rattle.blif_writing.specs.WrittenModel.{wide}
+use Rattle.blif_writing.specs.Text.{textOf}
+use Rattle.blif_write_names.specs.Text.{Wrote}
+use Rattle.blif_write_names.proofs.Numbers.{decimal-then}
 use Rattle.blif_read.specs.Into.{Lengths, readInto, ReadOutcome, readOutcome}
 use Rattle.blif_read.specs.declared.ReadAnswer.{ReadAnswer}
 use Rattle.blif_read.specs.declared.ReadAnswer.the-variants as read

@@ -14,13 +14,13 @@ use Rattle.network.specs.Net.{Net}
 use Rattle.network.specs.Renumber.{remapGate, placeOf, gateOr, permuted}
 use Rattle.sort_order.proofs.Sorting.{sorted-order}
 use Rattle.blif_text.specs.Decls.{Decl, defs, declsOf}
-use Rattle.blif_model.specs.Blif.{Line, Block, Latch, Cover}
-use Rattle.blif_model.specs.Build.{literals, literalGate, lineGate, coverGate, lineGates, blockGate, moreGates, mains, extras}
-use Rattle.blif_model.specs.Model.{blockOf}
-use Rattle.blif_model.specs.Write.{exclusive, maxExclusive, wide}
-use Rattle.blif_model.specs.Read.{read, look, builtFrom, readText}
-use Rattle.blif_model.proofs.Passed.{passed-valid}
-use Rattle.blif_model.proofs.Accepted.{passed-read}
+use Rattle.blif_meaning.specs.Model.{Line, Block, Latch, Cover}
+use Rattle.blif_reading.specs.Build.{literals, literalGate, lineGate, coverGate, lineGates, blockGate, moreGates, mains, extras}
+use Rattle.blif_reading.specs.TextModel.{blockOf}
+use Rattle.blif_writing.specs.WrittenModel.{exclusive, maxExclusive, wide}
+use Rattle.blif_reading.specs.Read.{read, look, builtFrom, readText}
+use Rattle.blif_reading.proofs.Passed.{passed-valid}
+use Rattle.blif_reading.proofs.Accepted.{passed-read}
 
 -- an Xor or Xnor of the Nary form, with any number of inputs
 abbrev pub exclusiveGate : Gate → Bool

@@ -9,9 +9,9 @@ use Rattle.refusals.specs.declared.Refusal.{Refusal}
 use Rattle.refusals.specs.declared.Refusal.the-variants as refusal
 use Rattle.network.specs.Net.{Net}
 use Rattle.network.specs.Cells.{gateCells, pinCells, Lent, lent, countsOf, netOf, isNetwork}
-use Rattle.blif_model.specs.Write.{wide}
-use Rattle.blif_model.specs.Render.{textOf}
-use Rattle.blif_model.specs.Read.{Result, read, refused, readText}
+use Rattle.blif_writing.specs.WrittenModel.{wide}
+use Rattle.blif_writing.specs.Text.{textOf}
+use Rattle.blif_reading.specs.Read.{Result, read, refused, readText}
 use Rattle.blif_read.specs.Into.{Lengths, enough, ReadOutcome, filled, readInto}
 use Rattle.blif_read.proofs.CellsRead.{read-layout, read-decodes}
 use Rattle.blif_write.specs.Into.{tooLong, writeInto}

@@ -7,7 +7,7 @@ use Rattle.lists.specs.Lists.{Bytes, bytes}
 use Rattle.refusals.specs.declared.Refusal.{Refusal}
 use Rattle.refusals.specs.Numbers.{numberOf}
 use Rattle.network.specs.Cells.{lent}
-use Rattle.blif_model.specs.Names.{decimal}
+use Rattle.blif_writing.specs.Names.{decimal}
 use Rattle.blif_read.specs.Into.{Lengths, readInto, ReadOutcome}
 use Rattle.blif_read.specs.declared.ReadAnswer.{ReadAnswer}
 use Rattle.blif_read.specs.declared.ReadAnswer.the-variants.{Read, Refused}

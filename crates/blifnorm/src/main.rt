@@ -1,18 +1,18 @@
 // Reads a BLIF text from standard input and prints the text of the network read, or the line `refused=N`. `answer` says which bytes are
 // printed for which text; that main hands it standard input and prints its answer is for the reader to see, since no contract can say
 // which bytes a call of the operating system moves.
-use blif_names::append;
-use blif_names::append_number;
 use blif_read::ReadAnswer;
 use blif_read::read_blif;
 use blif_write::WriteAnswer;
 use blif_write::write_blif;
+use blif_write_names::append;
+use blif_write_names::append_number;
 use lists::fill_zero_bytes;
 use refusals::Refusal;
 ghost use mathlib.Core.Path.{_≡_};
 ghost use lib.ListN.{length};
 ghost use Rattle.lists.specs.Lists.{zeros};
-ghost use Rattle.blif_names.specs.Text.{Wrote};
+ghost use Rattle.blif_write_names.specs.Text.{Wrote};
 ghost use Rattle.blif_read.specs.Into.{lengths};
 ghost use Rattle.blif_write.specs.Into.{writeOutcome};
 ghost use Rattle.blifnorm.specs.Norm.{refusedLine, normInto, printed};

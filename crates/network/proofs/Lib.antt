@@ -5,6 +5,7 @@ pub mod Steps
 pub mod Renumbering
 pub mod Permuting
 pub mod Records
+pub mod SignalBits
 pub mod Summary
 pub mod RecordCells
 pub mod PinCells

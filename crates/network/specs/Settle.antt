@@ -1,5 +1,6 @@
 -- The bits of a clock and the outputs of a run, worked out (document 01, "A clock": "without a loop just one choice fits").
 -- That they are the ones that fit is proved in `proofs/OneChoice.antt`. Assumes nothing: these are definitions.
+use mathlib.Core.Path.{_≡_}
 use mathlib.Core.Bool.{Bool, false}
 use mathlib.Core.List.{List, [], _∷_, map}
 use mathlib.Core.Option.{Option, none, some}
@@ -43,3 +44,12 @@ runFrom net held (row ∷ rows) =
 -- the same from all flip-flops at zero
 abbrev pub run : Net → List (List Bool) → List (List Bool)
 run net rows = runFrom net zeroBits rows
+
+-- as many inputs and outputs, and for every list of input rows equal outputs at every clock from zero
+pub record SameOutputs (a b : Net) : Type 0 where
+  -- as many inputs
+  pub inputs : a .inputs ≡ b .inputs
+  -- as many outputs
+  pub outputs : length (a .outputs) ≡ length (b .outputs)
+  -- for every list of rows the same lists of outputs
+  pub runs : (rows : List (List Bool)) → run a rows ≡ run b rows

@@ -16,16 +16,16 @@ use Rattle.gates.specs.Forms.{formed}
 use Rattle.network.specs.Net.{Net, GateIs, Loop}
 use Rattle.network.specs.Cells.{Lent, lent, netOf, isNetwork, Words, countsOf}
 use Rattle.network.specs.Clock.{NetRuns, zeroBits}
-use Rattle.network.specs.Settle.{run}
+use Rattle.network.specs.Settle.{run, SameOutputs}
 use Rattle.network.proofs.Lent.{network-laid}
 use Rattle.network.proofs.Summary.{one-run}
 use Rattle.blif_text.specs.Places.{maxText}
-use Rattle.blif_model.specs.Render.{textOf}
-use Rattle.blif_model.specs.Read.{read, readText}
-use Rattle.blif_model.specs.Write.{wide, PlainGate}
-use Rattle.blif_model.specs.Demand.{Good, SameOutputs}
-use Rattle.blif_model.proofs.ReadNet.{read-net}
-use Rattle.blif_model.proofs.Summary.{read-back}
+use Rattle.blif_writing.specs.Text.{textOf}
+use Rattle.blif_reading.specs.Read.{read, readText}
+use Rattle.blif_writing.specs.WrittenModel.{wide}
+use Rattle.round_trip.specs.Conditions.{Good, PlainGate}
+use Rattle.blif_reading.proofs.ReadNet.{read-net}
+use Rattle.round_trip.proofs.ReadBack.{read-back}
 use Rattle.blif_read.specs.Into.{Lengths, readInto}
 use Rattle.blif_read.proofs.Summary.{read-counts}
 use Rattle.blif_read.proofs.CellsRead.{read-decodes}

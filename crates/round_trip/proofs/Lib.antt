@@ -1,3 +1,10 @@
+pub mod Written
+pub mod WrittenOnce
+pub mod WrittenMeans
+pub mod BlocksSaid
+pub mod Rendered
+pub mod NoFault
+pub mod ReadBack
 pub mod Demand
 pub mod Determined
 pub mod Witnessed

@@ -5,22 +5,33 @@ use mathlib.Core.List.{List}
 use mathlib.Core.Logic.{_↔_}
 use Prim.Native.Nat.{ℕ}
 use lib.ListN.{length}
-use Rattle.lists.specs.Lists.{Bytes}
 use Rattle.network.specs.Net.{Net}
 use Rattle.network.specs.Cells.{Lent, netOf, Words}
 use Rattle.network.specs.Clock.{NetRuns, zeroBits}
 use Rattle.network.specs.Settle.{run}
 use Rattle.network.proofs.Summary.{one-run}
-use Rattle.blif_model.specs.Blif.{BlifRuns}
-use Rattle.blif_model.specs.Render.{textOf}
-use Rattle.blif_model.specs.Model.{modelOfText}
-use Rattle.blif_model.specs.Read.{read, readText}
-use Rattle.blif_model.specs.Demand.{Good}
-use Rattle.blif_model.proofs.ReadNet.{read-net}
-use Rattle.blif_model.proofs.Summary as model
+use Rattle.blif_meaning.specs.Model.{BlifRuns}
+use Rattle.blif_writing.specs.Text.{textOf}
+use Rattle.blif_reading.specs.TextModel.{modelOfText}
+use Rattle.blif_reading.specs.Read.{read, readText}
+use Rattle.round_trip.specs.Conditions.{Good}
 use Rattle.blif_read.specs.Into.{Lengths}
 use Rattle.round_trip.specs.Trip.{tripInto, Meets, ReadsBack}
 use Rattle.round_trip.proofs.Demand as demand
+use Rattle.round_trip.proofs.ReadBack as back
+use Rattle.round_trip.proofs.WrittenMeans as writing
+use Rattle.blif_writing.specs.WrittenModel.{written}
+use Rattle.blif_writing.specs.Names.{nameBytes}
+use Rattle.blif_writing.proofs.NamesDiffer.{unname, unname-name}
+use Rattle.blif_reading.specs.Lookup.{byte-names}
+use Rattle.blif_reading.specs.Accepts.{Accepts}
+use Rattle.network.specs.Net.{Valid, Formed, Loop}
+use Rattle.network.specs.Settle.{SameOutputs}
+use Rattle.blif_reading.specs.Read.{tooLarge}
+use Rattle.blif_text.specs.Decls.{declsOf}
+use Rattle.blif_text.specs.Places.{maxText}
+use Prim.Native.Nat.{_≤_}
+use mathlib.Core.Bool.{false}
 
 -- demand 3: whatever is lent, where the conditions hold the network is written and read back with as many inputs and outputs, and for every
 -- list of rows, the empty one too, the two give equal outputs at every clock from zero, by the function and by the relation.
@@ -33,7 +44,7 @@ pub never-shared : (a b : Net) → Good a → Good b → textOf a ≡ textOf b
     → (a .inputs ≡ b .inputs) × (length (a .outputs) ≡ length (b .outputs)) × ((rows : List (List Bool)) → run a rows ≡ run b rows)
     × ((rows outs : List (List Bool)) → NetRuns a rows outs ↔ NetRuns b rows outs)
 never-shared a b goodA goodB e =
-    let s = model.never-shared a b goodA goodB e in (
+    let s = back.never-shared a b goodA goodB e in (
       s .inputs,
       s .outputs,
       s .runs,
@@ -43,11 +54,21 @@ never-shared a b goodA goodB e =
           ((λ r. y .1 (x .0 r ∙ s .runs rows)), (λ r. x .1 (y .0 r ∙ sym (s .runs rows)))),
     )
 
--- demand 2: for every text that is read, the runs of its Berkeley model are exactly the runs of the network read
-pub read-means : (text : Bytes) (net : Net) → readText text ≡ read net → (rows outs : List (List Bool))
-    → (BlifRuns (modelOfText text) rows outs ↔ NetRuns net rows outs) × (BlifRuns (modelOfText text) rows outs ↔ (outs ≡ run net rows))
-read-means text net e rows outs =
-    let k = read-net text net e in
-    let x = one-run net (k .valid) (k .free) zeroBits rows outs in
-    let m = model.read-means text net e rows outs in
-    (((λ r. x .1 (m .0 r)), (λ r. m .1 (x .0 r))), m)
+-- the model written for a network gives the network's outputs and no others, whatever enables and resets its flip-flops have
+pub written-means : (net : Net) → Valid net → (Loop net → ⊥) → Formed net → (rows outs : List (List Bool))
+    → BlifRuns (written nameBytes net) rows outs ↔ (outs ≡ run net rows)
+written-means net valid free formed = writing.written-means byte-names nameBytes unname unname-name net valid free formed
+
+-- and it is one that reading accepts
+pub written-accepted : (net : Net) → Valid net → (Loop net → ⊥) → Formed net → Accepts byte-names (written nameBytes net)
+written-accepted net valid free formed = writing.written-accepts byte-names nameBytes unname unname-name net valid free formed
+
+-- the text written for a network of demand 3 is parsed as the model written for it
+pub written-parses : (net : Net) → Good net → modelOfText (textOf net) ≡ written nameBytes net
+written-parses = back.good-parses
+
+-- what is written for "a valid, loop-free network with no exclusive gate over 12 inputs and plain flip-flops" is read, where it
+-- is within our sizes, as a network with as many inputs and outputs and equal outputs at every clock
+pub read-back : (net : Net) → Good net → length (textOf net) ≤ maxText → tooLarge (declsOf (textOf net)) ≡ false
+    → (new : Net) × (readText (textOf net) ≡ read new) × SameOutputs new net
+read-back = back.read-back

@@ -24,9 +24,9 @@ use Rattle.blif_text.specs.Lines.{consFirst, split, dropCR, lines, cut, continu
 use Rattle.blif_text.specs.Keywords.{keywordOf}
 use Rattle.blif_text.specs.Statements.{modelStmt, latchStmt, stmtOf, parsedLine, parsed, stmts}
 use Rattle.blif_text.specs.Decls.{cubes, decls, insOf, outsOf, defsOf, ins, outs, defs, declsOf}
-use Rattle.blif_model.specs.Write.{wide}
-use Rattle.blif_model.specs.Render.{spaced, line, textOf}
-use Rattle.blif_model.specs.Read.{added, gateCount, pinCount, tooLarge}
+use Rattle.blif_writing.specs.WrittenModel.{wide}
+use Rattle.blif_writing.specs.Text.{spaced, line, textOf}
+use Rattle.blif_reading.specs.Read.{added, gateCount, pinCount, tooLarge}
 use Rattle.blif_read.specs.Into.{enough}
 use Rattle.round_trip.specs.Trip.{Meets}
 use Rattle.round_trip.specs.Witness.{flop, net, witness, cells}

@@ -17,9 +17,9 @@ use Rattle.network.specs.Clock.{NetRuns}
 use Rattle.network.specs.Settle.{run}
 use Rattle.network.specs.declared.Counts.{Counts}
 use Rattle.blif_text.specs.Places.{maxText}
-use Rattle.blif_model.specs.Write.{wide}
-use Rattle.blif_model.specs.Render.{textOf}
-use Rattle.blif_model.specs.Read.{tooLarge}
+use Rattle.blif_writing.specs.WrittenModel.{wide}
+use Rattle.blif_writing.specs.Text.{textOf}
+use Rattle.blif_reading.specs.Read.{tooLarge}
 use Rattle.blif_text.specs.Decls.{declsOf}
 use Rattle.blif_read.specs.Into.{Lengths, enough, readInto}
 use Rattle.blif_read.specs.declared.ReadAnswer.{ReadAnswer}

@@ -12,9 +12,9 @@ use Rattle.refusals.specs.declared.Refusal.the-variants as refusal
 use Rattle.refusals.proofs.Numbers.{number-pos}
 use Rattle.network.specs.Net.{Net}
 use Rattle.network.specs.Cells.{Lent, netOf, isNetwork, countsOf}
-use Rattle.blif_model.specs.Write.{wide}
-use Rattle.blif_model.specs.Render.{textOf}
-use Rattle.blif_model.specs.Read.{Result, read, refused, readText}
+use Rattle.blif_writing.specs.WrittenModel.{wide}
+use Rattle.blif_writing.specs.Text.{textOf}
+use Rattle.blif_reading.specs.Read.{Result, read, refused, readText}
 use Rattle.blif_read.specs.Into.{Lengths, enough, filled, answered, readInto}
 use Rattle.blif_read.specs.declared.ReadAnswer.{ReadAnswer}
 use Rattle.blif_read.proofs.Summary.{read-counts, reading-refuses}

@@ -10,8 +10,8 @@ use Rattle.refusals.specs.declared.Refusal.the-variants as refusal
 use Rattle.network.specs.Cells.{WithinSizes, Lent, countsOf}
 use Rattle.network.specs.declared.Counts.{Counts}
 use Rattle.blif_text.specs.Places.{maxText}
-use Rattle.blif_model.specs.Read.{Result, read, refused, readText}
-use Rattle.blif_model.proofs.ReadNet.{read-net}
+use Rattle.blif_reading.specs.Read.{Result, read, refused, readText}
+use Rattle.blif_reading.proofs.ReadNet.{read-net}
 use Rattle.blif_read.specs.Into.{Lengths, enough, filled, readInto, ReadOutcome, readOutcome}
 use Rattle.blif_read.specs.declared.ReadAnswer.{ReadAnswer}
 use Rattle.blif_read.specs.declared.ReadAnswer.the-variants as answer

@@ -21,11 +21,11 @@ use Rattle.network.specs.Net.{Net}
 use Rattle.network.specs.Cells.{Lent, lent, netOf, Words, countsOf}
 use Rattle.network.specs.Clock.{NetRuns}
 use Rattle.network.specs.Settle.{run}
-use Rattle.blif_model.specs.Blif.{BlifRuns}
-use Rattle.blif_model.specs.Model.{modelOfText}
-use Rattle.blif_model.specs.Render.{textOf}
-use Rattle.blif_model.specs.Read.{read, refused, readText}
-use Rattle.blif_model.specs.Demand.{Good}
+use Rattle.blif_meaning.specs.Model.{BlifRuns}
+use Rattle.blif_reading.specs.TextModel.{modelOfText}
+use Rattle.blif_writing.specs.Text.{textOf}
+use Rattle.blif_reading.specs.Read.{read, refused, readText}
+use Rattle.round_trip.specs.Conditions.{Good}
 use Rattle.blif_read.specs.Into.{Lengths, enough, answered, readInto}
 use Rattle.blif_read.specs.declared.ReadAnswer.the-variants as answer-read
 use Rattle.blif_read.proofs.Summary.{read-counts}
@@ -35,6 +35,7 @@ use Rattle.blif_write.specs.declared.WriteAnswer.the-variants as written
 use Rattle.round_trip.specs.Trip.{Meets}
 use Rattle.round_trip.proofs.Demand as demand
 use Rattle.round_trip.proofs.Summary as trip
+use Rattle.blif_reading.proofs.Summary as reading
 use Rattle.vumneath.specs.Handed.{networkOf, textFor, ReadHanded, WriteHanded, countsHanded, netHanded, WrittenFrom, HandedBack, Runnable}
 use Rattle.vumneath.specs.declared.VumneathNetwork.{VumneathNetwork}
 use Rattle.vumneath.specs.declared.VumneathText.{VumneathText}
@@ -76,7 +77,7 @@ module _ (text : Bytes) (n : Lengths) {r : VumneathNetwork} {gs ps os wgs wps : 
         × (BlifRuns (modelOfText text) rows outs ↔ (outs ≡ run (netHanded r gs ps os) rows))
     read-outputs rows outs =
         subst (λ (x : Net). (BlifRuns (modelOfText text) rows outs ↔ NetRuns x rows outs) × (BlifRuns (modelOfText text) rows outs ↔ (outs ≡ run x rows))) (sym net-is)
-        (trip.read-means text (was .0) (was .2) rows outs)
+        (reading.read-means text (was .0) (was .2) rows outs)
 
 -- ---- writing
 

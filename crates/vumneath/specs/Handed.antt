@@ -14,8 +14,8 @@ use Rattle.network.specs.Settle.{run}
 use Rattle.network.specs.Cells.{WithinSizes, Lent, lent, netOf, isNetwork, Words}
 use Rattle.network.specs.declared.Counts.{Counts}
 use Rattle.blif_text.specs.Places.{maxText}
-use Rattle.blif_model.specs.Write.{wide}
-use Rattle.blif_model.specs.Render.{textOf}
+use Rattle.blif_writing.specs.WrittenModel.{wide}
+use Rattle.blif_writing.specs.Text.{textOf}
 use Rattle.blif_read.specs.Into.{ReadOutcome}
 use Rattle.blif_read.specs.declared.ReadAnswer.{ReadAnswer}
 use Rattle.blif_read.specs.declared.ReadAnswer.the-variants as read

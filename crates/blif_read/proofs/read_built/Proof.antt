@@ -7,7 +7,7 @@ use Rattle.blif_read.proofs.read_built.Statement.{statement}
 use Rattle.blif_read.proofs.read_built.Tie as tie
 use Rattle.blif_read.proofs.read_built.Reads as reads
 use Rattle.blif_read.proofs.read_built.Lts as lts
-use Rattle.blif_gates.proofs.build_covers.Reads as build-covers-reads
+use Rattle.blif_read_gates.proofs.build_covers.Reads as build-covers-reads
 use Rattle.sort.proofs.topo_sort.Reads as topo-sort-reads
 
 build-covers-requires : tie.Need-build-covers-requires

@@ -2,7 +2,7 @@
 use mathlib.Core.Path.{refl, subst}
 use native.Mathlib.Omega.{arith}
 use borrow.Author.Needs.{needs}
-use Rattle.blif_decls.specs.Tables.{DefinedBy}
+use Rattle.blif_read_names.specs.Tables.{DefinedBy}
 use Rattle.blif_read.proofs.Refusing.{holds-refused}
 use Rattle.blif_read.proofs.Lending.{enough-same}
 use Rattle.blif_read.proofs.Naming.{sized-again, name-refused, names-entered}

@@ -6,7 +6,7 @@ use Prim.Native.Nat.{_-_}
 use native.Mathlib.Nat.{sub-zero}
 use Rattle.lists.specs.Lists.{any}
 use Rattle.network.specs.Cells.{cellGates}
-use Rattle.blif_model.specs.Write.{wide}
+use Rattle.blif_writing.specs.WrittenModel.{wide}
 use Rattle.blif_write.proofs.Walks.{cells-end, wide-next}
 use Rattle.blif_write.proofs.Told.{held-run, wide-told}
 use Rattle.blif_write.proofs.any_wide.Statement.{statement}

@@ -3,8 +3,8 @@ use native.Mathlib.Omega.{arith}
 use Prim.Native.Nat.{ℕ, _-_}
 use borrow.Author.Needs.{needs}
 use Rattle.network.specs.Cells.{cellGates}
-use Rattle.blif_names.proofs.Laws.{append-past}
-use Rattle.blif_names.proofs.Parts.{going-kept, going-high, going-full, Before, before-start, before-part, before-done}
+use Rattle.blif_write_names.proofs.Laws.{append-past}
+use Rattle.blif_write_names.proofs.Parts.{going-kept, going-high, going-full, Before, before-start, before-part, before-done}
 use Rattle.blif_write.specs.Parts.{coversText}
 use Rattle.blif_write.proofs.Walks.{cover-parts, not-wide}
 use Rattle.blif_write.proofs.append_covers.Statement.{statement}

@@ -5,12 +5,12 @@ use Prim.Native.Nat.{ℕ, _-_}
 use mathlib.Core.Path.{ap}
 use mathlib.Core.List.{_∷_}
 use Rattle.signal.specs.Signal.{Signal}
-use Rattle.blif_model.specs.Names.{nameBytes}
-use Rattle.blif_model.specs.Render.{spaced}
-use Rattle.blif_model.specs.Write.{inputNames}
-use Rattle.blif_names.proofs.Laws.{append-past, as-text}
-use Rattle.blif_names.proofs.Parts.{going-kept, going-full, Before, before-start, before-next, before-done}
-use Rattle.blif_put.proofs.Texts.{input-signal}
+use Rattle.blif_writing.specs.Names.{nameBytes}
+use Rattle.blif_writing.specs.Text.{spaced}
+use Rattle.blif_writing.specs.WrittenModel.{inputNames}
+use Rattle.blif_write_names.proofs.Laws.{append-past, as-text}
+use Rattle.blif_write_names.proofs.Parts.{going-kept, going-full, Before, before-start, before-next, before-done}
+use Rattle.blif_write_gates.proofs.Texts.{input-signal}
 use Rattle.blif_write.proofs.Heads.{input-parts}
 use Rattle.blif_write.proofs.append_inputs.Statement.{statement}
 use Rattle.blif_write.proofs.append_inputs.Tie as tie

@@ -3,7 +3,7 @@ use borrow.Author.Needs.{needs}
 use mathlib.Core.Path.{sym}
 use Rattle.network.specs.Cells.{cellNet}
 use Rattle.network.proofs.GateRead.{cell-count}
-use Rattle.blif_names.proofs.Laws.{and-append, as-text}
+use Rattle.blif_write_names.proofs.Laws.{and-append, as-text}
 use Rattle.blif_write.proofs.Used.{inverters-written}
 use Rattle.blif_write.proofs.append_inverters.Statement.{statement}
 use Rattle.blif_write.proofs.append_inverters.Tie as tie

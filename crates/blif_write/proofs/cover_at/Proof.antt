@@ -1,8 +1,8 @@
 -- `cover_at` reads the gate unless its form is the flip-flop's. Assumes nothing.
 use mathlib.Core.Path.{_∙_, ap}
 use Rattle.network.proofs.GateRead.{decoded-within}
-use Rattle.blif_names.proofs.Laws.{as-wrote, wrote-nothing}
-use Rattle.blif_model.specs.Write.{wide}
+use Rattle.blif_write_names.proofs.Laws.{as-wrote, wrote-nothing}
+use Rattle.blif_writing.specs.WrittenModel.{wide}
 use Rattle.blif_write.specs.Parts.{coverText}
 use Rattle.blif_write.proofs.Walks.{read-bad, read-good}
 use Rattle.blif_write.proofs.Told.{held-run, cover-none}

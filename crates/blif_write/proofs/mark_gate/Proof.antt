@@ -1,6 +1,6 @@
 -- `mark_gate` marks the run of pins unless the form is a buffer's. Assumes nothing.
 use native.Mathlib.Omega.{arith}
-use Rattle.blif_inverters.proofs.Marking.{marked-none, as-marked}
+use Rattle.blif_write_inverters.proofs.Marking.{marked-none, as-marked}
 use Rattle.blif_write.proofs.Told.{held-run, names-none, run-marked}
 use borrow.Author.Needs.{needs}
 use Rattle.blif_write.proofs.mark_gate.Statement.{statement}

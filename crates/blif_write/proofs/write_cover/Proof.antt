@@ -4,7 +4,7 @@ use native.Mathlib.Omega.{arith}
 use borrow.Author.Needs.{needs}
 use lib.ListN.{length}
 use Rattle.gates.specs.declared.PinRun.{PinRun}
-use Rattle.blif_names.proofs.Laws.{as-wrote, wrote-nothing}
+use Rattle.blif_write_names.proofs.Laws.{as-wrote, wrote-nothing}
 use Rattle.blif_write.proofs.Covers.{run-ends, narrow-run, cover-binary, cover-ternary, cover-nary, cover-buf, cover-dff}
 use Rattle.blif_write.proofs.write_cover.Statement.{statement}
 use Rattle.blif_write.proofs.write_cover.Tie as tie

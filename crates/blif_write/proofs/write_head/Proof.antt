@@ -2,7 +2,7 @@
 use borrow.Author.Needs.{needs}
 use mathlib.Core.List.{map}
 use Rattle.signal.specs.Cell.{sigOf}
-use Rattle.blif_names.proofs.Laws.{and-append, append-kept, as-text, from-start}
+use Rattle.blif_write_names.proofs.Laws.{and-append, append-kept, as-text, from-start}
 use Rattle.blif_write.proofs.Heads.{head-text}
 use Rattle.blif_write.proofs.write_head.Statement.{statement}
 use Rattle.blif_write.proofs.write_head.Tie as tie

@@ -1,7 +1,7 @@
 -- `write_text` writes its six parts. Assumes nothing.
 use borrow.Author.Needs.{needs}
 use Rattle.network.specs.Cells.{cellNet}
-use Rattle.blif_names.proofs.Laws.{and-append, as-text, from-start, to-start}
+use Rattle.blif_write_names.proofs.Laws.{and-append, as-text, from-start, to-start}
 use Rattle.blif_write.proofs.Whole.{whole-text}
 use Rattle.blif_write.proofs.write_text.Statement.{statement}
 use Rattle.blif_write.proofs.write_text.Tie as tie

@@ -1,5 +1,5 @@
 -- `put_refusal` writes the three parts of the line. Assumes nothing.
-use Rattle.blif_names.proofs.Laws.{and-append, as-text, from-start}
+use Rattle.blif_write_names.proofs.Laws.{and-append, as-text, from-start}
 use Rattle.blifnorm.proofs.Printing.{line-is}
 use borrow.Author.Needs.{needs}
 use Rattle.blifnorm.proofs.put_refusal.Statement.{statement}

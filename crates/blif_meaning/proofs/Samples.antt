@@ -1,0 +1,56 @@
+-- The meaning, computed on samples. Assumes nothing.
+use mathlib.Core.Path.{_≡_, refl, sym, subst}
+use mathlib.Core.Bool.{Bool, true, false, not, cond}
+use mathlib.Core.List.{List, [], _∷_, List·Memᴰ, List·Memᴰ·cases-cons, List·Memᴰ·not-nil}
+use mathlib.Core.Logic.{⊎-elim}
+use mathlib.Core.Option.{none, Option·none-ne-some}
+use Prim.Native.Nat.{ℕ}
+use native.Mathlib.Omega.{arith}
+use lib.Dec.{eqb}
+use Rattle.network.specs.Clock.{done, tick}
+use Rattle.blif_meaning.specs.Model.{Line, Feed, Block, Latch, Cover, target, blockBit, coverBit, nextHeld, BlifFits, BlifClock, BlifRuns}
+use Rattle.blif_meaning.specs.Samples.{sampleCover, offCover, toggle}
+
+-- 0111 meets the second and the third row, 1001 none
+pub sample-one : coverBit sampleCover (false ∷ true ∷ true ∷ true ∷ []) ≡ true
+sample-one = refl
+
+pub sample-zero : coverBit sampleCover (true ∷ false ∷ false ∷ true ∷ []) ≡ false
+sample-zero = refl
+
+-- an OFF-set is zero where a row is met, and one elsewhere
+pub off-zero : coverBit offCover (true ∷ true ∷ []) ≡ false
+off-zero = refl
+
+pub off-one : coverBit offCover (true ∷ false ∷ []) ≡ true
+off-one = refl
+
+-- the values while the latch holds b
+abbrev values : Bool → ℕ → Bool
+values b x = cond (eqb x 0) b (not b)
+
+toggle-blocks : (b : Bool) (x : Block ℕ) → List·Memᴰ x (toggle .blocks) → values b (target x) ≡ blockBit (values b) b x
+toggle-blocks b x m =
+    let P : Block ℕ → Type 0 = λ y. values b (target y) ≡ blockBit (values b) b y in
+    ⊎-elim (λ e. subst P (sym e) refl) (λ n. ⊎-elim (λ e. subst P (sym e) (inverse b)) (λ o. absurd (List·Memᴰ·not-nil o)) (List·Memᴰ·cases-cons n)) (List·Memᴰ·cases-cons m)
+  where
+    inverse : (c : Bool) → values c 1 ≡ coverBit (record { cols = Rattle.blif_meaning.specs.Model.C0 ∷ []; out = true } ∷ []) (values c 0 ∷ [])
+    inverse true = refl
+    inverse false = refl
+
+-- a clock shows what the latch holds and leaves the inverse
+toggle-clock : (b : Bool) → BlifClock toggle (λ x. b) [] (b ∷ []) (λ x. not b)
+toggle-clock b = record {
+  env = values b;
+  fits = record { ins = λ i x e. absurd (Option·none-ne-some x e); blocks = toggle-blocks b };
+  answers = refl;
+  steps = toggle-steps;
+}
+  where
+    toggle-steps : (f : Feed ℕ) (q : ℕ) → List·Memᴰ (Latch f q) (toggle .blocks) → not b ≡ nextHeld (values b) b f
+    toggle-steps f q m = ⊎-elim (λ e. let p : f ≡ record { input = 1; enable = none; reset = none } = cc in rw p refl)
+        (λ n. ⊎-elim (λ e. absurd (let z : _≡_ {A = ℕ} 0 1 = cc in omega arith)) (λ o. absurd (List·Memᴰ·not-nil o)) (List·Memᴰ·cases-cons n)) (List·Memᴰ·cases-cons m)
+
+-- from zero: 0, 1, 0
+pub toggle-runs : BlifRuns toggle ([] ∷ [] ∷ [] ∷ []) ((false ∷ []) ∷ (true ∷ []) ∷ (false ∷ []) ∷ [])
+toggle-runs = tick (toggle-clock false) (tick (toggle-clock true) (tick (toggle-clock false) done))

@@ -1,0 +1,343 @@
+// The gates of covers (Quaigh's src/io/blif.rs: build_network, its second loop).
+use blif_text::block_at;
+use blif_text::line_columns;
+use blif_text::row_end;
+use gates::BUF;
+use gates::NARY_AND;
+use gates::NARY_NAND;
+use gates::NARY_OR;
+use lists::equal;
+use network::count_at;
+use network::first_at;
+use network::put_record;
+use signal::Signal;
+ghost use mathlib.Core.Path.{_≡_};
+ghost use mathlib.Core.List.{[], _∷_, map};
+ghost use Prim.Native.Nat.{_+_, _*_, _≤_, _<_};
+ghost use lib.ListN.{length, getD, take};
+ghost use Rattle.lists.specs.Lists.{overAt, same};
+ghost use Rattle.signal.specs.Cell.{sigCell};
+ghost use Rattle.network.specs.Cells.{gateWidth, maxGates, firstAt, countAt};
+ghost use Rattle.blif_text.specs.Decls.{columns, isOne};
+ghost use Rattle.blif_text.specs.Places.{InText, tokenOf};
+ghost use Rattle.blif_text.specs.Walk.{rowsFrom};
+ghost use Rattle.blif_text.specs.Blocks.{defAt, defsAt, Blocks};
+ghost use Rattle.blif_reading.specs.Build.{gateRun};
+ghost use Rattle.blif_reading.specs.Read.{added};
+ghost use Rattle.blif_read_gates.specs.Covers.{Buildable, BuiltBy};
+ghost use Rattle.blif_read_gates.specs.Steps.{columnCells, literalsAt, singleCell, manyForm, joinForm, LineRoom, LinePut};
+ghost use Rattle.blif_read_gates.specs.Steps.{rowTokens, GoodRow, GoodRows, LinesRoom, LinesPut, CoverRoom, CoverBuilt, BlockRoom, BlockBuilt};
+
+// How many gates are built, and how many pins are in use.
+pub struct Built {
+    pub gates: usize,
+    pub pins: usize,
+}
+
+// The sources of a cover: the run of pins that its And has.
+struct Sources {
+    first: usize,
+    count: usize,
+}
+
+// The sources of the cover that is gate j.
+fn sources_at(gates: &[u32], j: usize) -> Sources
+    requires { ⌜ j * gateWidth + 2 < length (now gates) ⌝ }
+    ensures { λ r. ⌜ (r .first ≡ firstAt (now (gates .entry)) j) × (r .count ≡ countAt (now (gates .entry)) j) ⌝ }
+{
+    let first = first_at(gates, j);
+    let count = count_at(gates, j);
+    Sources { first, count }
+}
+
+// Writes the literal of a column, none for a dash. Answers how many are written.
+fn write_literal(column: u8, source: u32, pins: &mut [u32], at: usize) -> usize
+    requires { ⌜ at < length (now pins) ⌝ }
+    ensures { λ r. ⌜ (now (pins .exit) ≡ overAt at (columnCells column source) (now (pins .entry))) × (r ≡ length (columnCells column source)) ⌝ }
+{
+    if column == 48 {
+        pins[at] = Signal { a: source }.not().raw();
+        return 1;
+    }
+    if column == 49 {
+        pins[at] = source;
+        return 1;
+    }
+    0
+}
+
+// Writes the literals of a line from pin at on; its sources are the pins from source on. Answers how many are written.
+fn write_literals(columns: &[u8], pins: &mut [u32], source: usize, at: usize) -> usize
+    requires { ⌜ (source + length (now columns) ≤ at) × (at + length (now columns) ≤ length (now pins)) ⌝ }
+    ensures { λ r. ⌜ (now (pins .exit) ≡ overAt at (literalsAt (now (columns .entry)) source (now (pins .entry))) (now (pins .entry))) × (r ≡ length (literalsAt (now (columns .entry)) source (now (pins .entry)))) ⌝ }
+{
+    let mut m = 0;
+    let mut i = 0;
+    while i < columns.len() {
+        let cell = pins[source + i];
+        m += write_literal(columns[i], cell, pins, at + m);
+        i += 1;
+    }
+    m
+}
+
+// The pin of a line's Buf, with this many literals from pin at on, none or one.
+fn single_pin(count: usize, pins: &[u32], at: usize, one: bool) -> u32
+    requires { ⌜ at < length (now pins) ⌝ }
+    ensures { λ r. ⌜ r ≡ singleCell one count (getD (now (pins .entry)) at 0) ⌝ }
+{
+    if count == 0 {
+        return Signal::zero().xor(one).raw();
+    }
+    let literal = pins[at];
+    if one {
+        return literal;
+    }
+    Signal { a: literal }.not().raw()
+}
+
+// The form of a line with two or more literals.
+fn many_form(one: bool) -> u32
+    ensures { λ r. ⌜ r ≡ manyForm one ⌝ }
+{
+    if one {
+        return NARY_AND;
+    }
+    NARY_NAND
+}
+
+// The form that joins lines.
+fn join_form(one: bool) -> u32
+    ensures { λ r. ⌜ r ≡ joinForm one ⌝ }
+{
+    if one {
+        return NARY_OR;
+    }
+    NARY_AND
+}
+
+// Puts a line's gate into a record, its pins from pin at on. Answers the pins' end.
+fn put_line(
+    columns: &[u8],
+    one: bool,
+    gates: &mut [u32],
+    gate: usize,
+    pins: &mut [u32],
+    source: usize,
+    at: usize,
+) -> usize
+    requires { ⌜ LineRoom (length (now columns)) source at gate (now gates) (now pins) ⌝ }
+    ensures { λ r. ⌜ LinePut (now (columns .entry)) one source at gate (now (gates .entry)) (now (pins .entry)) (now (gates .exit)) (now (pins .exit)) r ⌝ }
+{
+    let m = write_literals(columns, pins, source, at);
+    if m > 1 {
+        put_record(gates, gate, many_form(one), at, m);
+        return at + m;
+    }
+    pins[at] = single_pin(m, pins, at, one);
+    put_record(gates, gate, BUF, at, 1);
+    at + 1
+}
+
+// Whether a token is 1.
+fn is_one(text: &[u8], cell: u32) -> bool
+    requires { ⌜ InText (now text) cell ⌝ }
+    ensures { λ r. ⌜ r ≡ same (tokenOf (now (text .entry)) cell) (49 ∷ []) ⌝ }
+{
+    equal(blif_text::token(text, cell), b"1")
+}
+
+// Puts the gate of the line from row to end into a record.
+fn put_row(
+    text: &[u8],
+    tokens: &[u32],
+    row: usize,
+    end: usize,
+    sources: Sources,
+    gates: &mut [u32],
+    gate: usize,
+    pins: &mut [u32],
+    at: usize,
+) -> usize
+    requires { ⌜ GoodRow (now text) (now tokens) row end (sources .count) ⌝ }
+    requires { ⌜ LineRoom (sources .count) (sources .first) at gate (now gates) (now pins) ⌝ }
+    ensures { λ r. ⌜ LinePut (columns (rowTokens (now (text .entry)) (now (tokens .entry)) row end)) (isOne (rowTokens (now (text .entry)) (now (tokens .entry)) row end)) (sources .first) at gate (now (gates .entry)) (now (pins .entry)) (now (gates .exit)) (now (pins .exit)) r ⌝ }
+{
+    let columns = line_columns(text, tokens, row, end);
+    let one = is_one(text, tokens[end - 1]);
+    put_line(columns, one, gates, gate, pins, sources.first, at)
+}
+
+// Writes the signals of the gates next, next + 1, .. from pin at on.
+fn put_joins(pins: &mut [u32], at: usize, next: usize, count: usize)
+    requires { ⌜ (at + count ≤ length (now pins)) × (next + count ≤ maxGates) ⌝ }
+    ensures { λ _. ⌜ now (pins .exit) ≡ overAt at (map sigCell (gateRun next count)) (now (pins .entry)) ⌝ }
+{
+    let mut i = 0;
+    while i < count {
+        pins[at + i] = Signal::from_var((next + i) as u32).raw();
+        i += 1;
+    }
+}
+
+// Puts the gates of a cover's lines into the records from next on. Answers the pins' end.
+fn build_lines(
+    text: &[u8],
+    tokens: &[u32],
+    n: usize,
+    first: usize,
+    count: usize,
+    sources: Sources,
+    gates: &mut [u32],
+    next: usize,
+    pins: &mut [u32],
+    start: usize,
+) -> usize
+    requires { ⌜ GoodRows (now text) (now tokens) n first count (sources .count) ⌝ }
+    requires { ⌜ LinesRoom (sources .count) count (sources .first) start next (now gates) (now pins) ⌝ }
+    ensures { λ r. ⌜ LinesPut (take count (rowsFrom (now (text .entry)) (now (tokens .entry)) n first)) (sources .count) (sources .first) start next (now (gates .entry)) (now (pins .entry)) (now (gates .exit)) (now (pins .exit)) r ⌝ }
+{
+    let mut row = first;
+    let mut at = start;
+    let mut i = 0;
+    while i < count {
+        let end = row_end(tokens, row, n);
+        at = put_row(text, tokens, row, end, sources, gates, next + i, pins, at);
+        row = end;
+        i += 1;
+    }
+    at
+}
+
+// Joins the gates of two or more lines in gate j, and puts them into the records from next on. Answers the pins' end.
+fn join_lines(
+    text: &[u8],
+    tokens: &[u32],
+    n: usize,
+    row: usize,
+    count: usize,
+    j: usize,
+    gates: &mut [u32],
+    next: usize,
+    pins: &mut [u32],
+    at: usize,
+) -> usize
+    requires { ⌜ (1 < count) × GoodRows (now text) (now tokens) n row count (countAt (now gates) j) ⌝ }
+    requires { ⌜ CoverRoom count j next at (now gates) (now pins) ⌝ }
+    ensures { λ r. ⌜ CoverBuilt (take count (rowsFrom (now (text .entry)) (now (tokens .entry)) n row)) j next at (now (gates .entry)) (now (pins .entry)) (now (gates .exit)) (now (pins .exit)) r ⌝ }
+{
+    let sources = sources_at(gates, j);
+    let end = row_end(tokens, row, n);
+    let last = tokens[end - 1];
+    put_joins(pins, at, next, count);
+    put_record(gates, j, join_form(is_one(text, last)), at, count);
+    build_lines(
+        text,
+        tokens,
+        n,
+        row,
+        count,
+        sources,
+        gates,
+        next,
+        pins,
+        at + count,
+    )
+}
+
+// Puts a cover's gate in place of its And, gate j, and those of two or more lines into the records from next on.
+// Answers the pins' end.
+fn build_cover(
+    text: &[u8],
+    tokens: &[u32],
+    n: usize,
+    row: usize,
+    count: usize,
+    j: usize,
+    gates: &mut [u32],
+    next: usize,
+    pins: &mut [u32],
+    at: usize,
+) -> usize
+    requires { ⌜ GoodRows (now text) (now tokens) n row count (countAt (now gates) j) ⌝ }
+    requires { ⌜ CoverRoom count j next at (now gates) (now pins) ⌝ }
+    ensures { λ r. ⌜ CoverBuilt (take count (rowsFrom (now (text .entry)) (now (tokens .entry)) n row)) j next at (now (gates .entry)) (now (pins .entry)) (now (gates .exit)) (now (pins .exit)) r ⌝ }
+{
+    if count == 0 {
+        pins[at] = Signal::zero().raw();
+        put_record(gates, j, BUF, at, 1);
+        return at + 1;
+    }
+    if count > 1 {
+        return join_lines(text, tokens, n, row, count, j, gates, next, pins, at);
+    }
+    let sources = sources_at(gates, j);
+    let end = row_end(tokens, row, n);
+    put_row(text, tokens, row, end, sources, gates, j, pins, at)
+}
+
+// How many gates a cover with this many lines adds.
+fn new_gates(count: usize) -> usize
+    ensures { λ r. ⌜ r ≡ added count ⌝ }
+{
+    if count > 1 {
+        return count;
+    }
+    0
+}
+
+// Builds the gates of block j: a latch's gate stays.
+fn build_block(
+    text: &[u8],
+    tokens: &[u32],
+    n: usize,
+    blocks: &[u32],
+    g: usize,
+    j: usize,
+    gates: &mut [u32],
+    pins: &mut [u32],
+    w: Built,
+) -> Built
+    requires { ⌜ (j < g) × Blocks (now text) (now tokens) n (now blocks) g ⌝ }
+    requires { ⌜ BlockRoom (defAt (now text) (now tokens) n (now blocks) j) j (w .gates) (w .pins) (now gates) (now pins) ⌝ }
+    ensures { λ r. ⌜ BlockBuilt (defAt (now (text .entry)) (now (tokens .entry)) n (now (blocks .entry)) j) j (w .gates) (w .pins) (now (gates .entry)) (now (pins .entry)) (now (gates .exit)) (now (pins .exit)) (r .gates) (r .pins) ⌝ }
+{
+    let block = block_at(blocks, j);
+    if block.names == 0 {
+        return w;
+    }
+    let row = block.first + block.names;
+    let count = block.lines;
+    let at = build_cover(text, tokens, n, row, count, j, gates, w.gates, pins, w.pins);
+    Built {
+        gates: w.gates + new_gates(count),
+        pins: at,
+    }
+}
+
+// Builds the gates of every cover in place of the And placed first, and those of its lines behind the last gate.
+pub fn build_covers(
+    text: &[u8],
+    tokens: &[u32],
+    n: usize,
+    blocks: &[u32],
+    g: usize,
+    gates: &mut [u32],
+    pins: &mut [u32],
+    used: usize,
+) -> Built
+    requires { ⌜ Blocks (now text) (now tokens) n (now blocks) g ⌝ }
+    requires { ⌜ Buildable (defsAt (now text) (now tokens) n (now blocks) g) (now gates) (now pins) used ⌝ }
+    ensures { λ r. ⌜ BuiltBy (defsAt (now (text .entry)) (now (tokens .entry)) n (now (blocks .entry)) g) (now (gates .entry)) (now (pins .entry)) used (now (gates .exit)) (now (pins .exit)) r ⌝ }
+{
+    let mut w = Built {
+        gates: g,
+        pins: used,
+    };
+    let mut j = 0;
+    while j < g {
+        w = build_block(text, tokens, n, blocks, g, j, gates, pins, w);
+        j += 1;
+    }
+    w
+}

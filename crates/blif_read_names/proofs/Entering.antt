@@ -1,0 +1,228 @@
+-- Names of inputs entered one after the other, names of outputs copied, and a gate defined. Assumes nothing.
+use mathlib.Core.Path.{_≡_, refl, sym, ap, ap₂, _∙_, subst}
+use mathlib.Core.Bool.{Bool, true, false, _||_}
+use mathlib.Core.List.{List, [], _∷_, _++_, map, map-append, append-assoc, append-nil}
+use Prim.Native.Nat.{ℕ, suc, _+_, _-_, _*_, _≤_, _<_}
+use native.Mathlib.Omega.{arith}
+use native.Mathlib.Numerals.{add-one}
+use lib.ListN.{length, getD, take, set, length-map}
+use lib.Seq.{slice, slice-cons, slice-empty, length-slice, take-add}
+use borrow.Author.Tests.{not-true, not-false}
+use Rattle.lists.specs.Lists.{Bytes, known, overAt}
+use Rattle.lists.proofs.OverAt.{run-before, run-overAt}
+use Rattle.lists.proofs.Laying.{Laying, laying-start, laying-next, laying-done}
+use Rattle.signal.specs.Signal.{Input, plain}
+use Rattle.signal.specs.Cell.{sigCell, gateCell, inputCell}
+use Rattle.signal.proofs.Cells.{gate-cell, input-cell}
+use Rattle.blif_text.specs.Places.{tokenOf, tokensOf}
+use Rattle.blif_text.specs.Walk.{Inside}
+use Rattle.blif_text.specs.Blocks.{blockWidth}
+use Rattle.blif_text.specs.declared.Block.{Block}
+use Rattle.blif_text.proofs.WordLaws.{slice-snoc}
+use Rattle.name_index.specs.Search.{Entry, entry}
+use Rattle.name_index.specs.Index.{entriesOf, Index, Entered}
+use Rattle.refusals.specs.declared.Refusal.the-variants as refusal
+use Rattle.refusals.specs.declared.Checked.the-variants.{Fine, Refused}
+use Rattle.refusals.proofs.Order.{refused-ne-fine, when-yes, when-no}
+use Rattle.blif_reading.specs.Read.{twice}
+use Rattle.blif_read_names.specs.Entries.{inputEntries}
+use Rattle.blif_read_names.specs.Naming.{namesIn, InputsFit, InputsEntered, GateFits, GateDefined}
+
+-- ---- lists
+
+-- the first of some cells
+slice-first : (l : List ℕ) (j n : ℕ) → j < n → n ≤ length l → slice j n l ≡ getD l j 0 ∷ slice (j + 1) n l
+slice-first l j n h k = rw add-one (slice-cons j n l 0 h k)
+
+-- one input more
+inputs-snoc : (xs : List Bytes) (i : ℕ) (x : Bytes) → inputEntries i (xs ++ (x ∷ [])) ≡ inputEntries i xs ++ (entry x (sigCell (plain (Input (i + length xs)))) ∷ [])
+inputs-snoc [] i x = let e : i ≡ i + 0 = omega arith in ap (λ (j : ℕ). entry x (sigCell (plain (Input j))) ∷ []) e
+inputs-snoc (y ∷ xs) i x =
+    let e : suc i + length xs ≡ i + suc (length xs) = omega arith in
+    ap (λ (l : List Entry). entry y (sigCell (plain (Input i))) ∷ l)
+    (inputs-snoc xs (suc i) x ∙ ap (λ (j : ℕ). inputEntries (suc i) xs ++ (entry x (sigCell (plain (Input j))) ∷ [])) e)
+
+-- ---- tests
+
+twice-none : (earlier : List Bytes) → twice earlier [] ≡ false
+unfolding twice
+twice-none earlier = refl
+
+twice-new : (earlier : List Bytes) (x : Bytes) (xs : List Bytes) → known x earlier ≡ false → twice earlier (x ∷ xs) ≡ twice (earlier ++ (x ∷ [])) xs
+unfolding twice
+twice-new earlier x xs e = ap (λ (b : Bool). b || twice (earlier ++ (x ∷ [])) xs) e
+
+twice-known : (earlier : List Bytes) (x : Bytes) (xs : List Bytes) → known x earlier ≡ true → twice earlier (x ∷ xs) ≡ true
+unfolding twice
+twice-known earlier x xs e = ap (λ (b : Bool). b || twice (earlier ++ (x ∷ [])) xs) e
+
+-- ---- inputs
+
+-- the names from first to j are entered
+pub record Entering (text tokens : List ℕ) (first end : ℕ) (index₀ : List ℕ) (inputs gates : ℕ) (index : List ℕ) (j i : ℕ) : Type 0 where
+  pub places : Inside text tokens end
+  pub low : first ≤ j
+  pub high : j ≤ end
+  pub counted : i ≡ inputs + (j - first)
+  pub inputs-few : inputs + (end - first) ≤ 256
+  pub gates-few : gates ≤ 1024
+  pub kept : length index ≡ length index₀
+  pub index-is : Index text index (i + gates)
+  pub added : entriesOf text index (i + gates) ≡ entriesOf text index₀ (inputs + gates) ++ inputEntries inputs (tokensOf text (slice first j tokens))
+  pub left : twice (namesIn text index₀ (inputs + gates)) (tokensOf text (slice first end tokens)) ≡ twice (namesIn text index (i + gates)) (tokensOf text (slice j end tokens))
+
+-- before the first
+pub entering-start : {text tokens : List ℕ} {first end : ℕ} {index : List ℕ} {inputs gates : ℕ}
+    → InputsFit text tokens first end index inputs gates → Entering text tokens first end index inputs gates index first inputs
+entering-start {text} {tokens} {first} {end} {index} {inputs} {gates} f =
+    record {
+      places = f .places;
+      low = omega arith;
+      high = f .low;
+      counted = omega arith;
+      inputs-few = f .inputs;
+      gates-few = f .gates;
+      kept = refl;
+      index-is = f .index-is;
+      added =
+          sym (ap (λ (x : List ℕ). entriesOf text index (inputs + gates) ++ inputEntries inputs (tokensOf text x)) (slice-empty first tokens)
+          ∙ append-nil (entriesOf text index (inputs + gates)));
+      left = refl;
+    }
+
+module _ {text tokens : List ℕ} {first end : ℕ} {index₀ : List ℕ} {inputs gates : ℕ} {index : List ℕ} {j i : ℕ}
+    (c : Entering text tokens first end index₀ inputs gates index j i) (h : j < end) where
+  -- the name at j is the next
+  names-next : tokensOf text (slice j end tokens) ≡ tokenOf text (getD tokens j 0) ∷ tokensOf text (slice (j + 1) end tokens)
+  names-next = ap (tokensOf text) (slice-first tokens j end h (c .places .room))
+
+  -- it is known
+  pub entering-known : {index′ : List ℕ} {s : ℕ} {r : Bool} → Entered text index (i + gates) (getD tokens j 0) s index′ r → r ≡ false
+      → InputsEntered text tokens first end index₀ inputs gates index′ (Refused refusal.DefinedTwice)
+  entering-known {index′} {s} {r} e z =
+      let k : known (tokenOf text (getD tokens j 0)) (namesIn text index (i + gates)) ≡ true = not-false _ (sym (e .new) ∙ z) in
+      record {
+        refused = when-yes refusal.DefinedTwice (c .left ∙ ap (twice (namesIn text index (i + gates))) names-next ∙ twice-known _ _ (tokensOf text (slice (j + 1) end tokens)) k);
+        index-is = λ y. absurd (refused-ne-fine y);
+        added = λ y. absurd (refused-ne-fine y);
+      }
+
+  -- it is new
+  pub entering-next : {index′ : List ℕ} {s : ℕ} {r : Bool} → Entered text index (i + gates) (getD tokens j 0) s index′ r → r ≡ true → s ≡ inputCell i
+      → length index′ ≡ length index → Entering text tokens first end index₀ inputs gates index′ (j + 1) (i + 1)
+  entering-next {index′} {s} {r} e z q l =
+      let x = tokenOf text (getD tokens j 0) in
+      let k : known x (namesIn text index (i + gates)) ≡ false = not-true _ (sym (e .new) ∙ z) in
+      let p : i + gates + 1 ≡ i + 1 + gates = omega arith in
+      let m : length (tokensOf text (slice first j tokens)) ≡ j - first =
+      length-map (slice first j tokens) (tokenOf text) ∙ length-slice first j tokens (omega (arith, c .places .room)) in
+      let n : i ≡ inputs + length (tokensOf text (slice first j tokens)) = omega (arith, c .counted) in
+      let u : s ≡ sigCell (plain (Input (inputs + length (tokensOf text (slice first j tokens))))) =
+      q ∙ input-cell i (omega (arith, c .counted, c .inputs-few)) ∙ ap (λ (a : ℕ). sigCell (plain (Input a))) n in
+      let a : entriesOf text index′ (i + 1 + gates) ≡ entriesOf text index (i + gates) ++ (entry x s ∷ []) = ap (entriesOf text index′) (sym p) ∙ e .added z in
+      record {
+        places = c .places;
+        low = omega (arith, c .low);
+        high = omega arith;
+        counted = omega (arith, c .counted, c .low);
+        inputs-few = c .inputs-few;
+        gates-few = c .gates-few;
+        kept = l ∙ c .kept;
+        index-is = subst (Index text index′) p (e .index z);
+        added =
+            a
+            ∙ ap₂ (λ (y : List Entry) (t : ℕ). y ++ (entry x t ∷ [])) (c .added) u
+            ∙ append-assoc (entriesOf text index₀ (inputs + gates)) (inputEntries inputs (tokensOf text (slice first j tokens))) _
+            ∙ ap (λ (y : List Entry). entriesOf text index₀ (inputs + gates) ++ y) (sym (inputs-snoc (tokensOf text (slice first j tokens)) inputs x)
+            ∙ ap (inputEntries inputs) (sym (ap (tokensOf text) (ap (λ (m : ℕ). slice first m tokens) (add-one j) ∙ slice-snoc tokens first j (c .low) (omega (arith, c .places .room))) ∙ map-append (tokenOf text) (slice first j tokens) _)));
+        left =
+            c .left
+            ∙ ap (twice (namesIn text index (i + gates))) names-next
+            ∙ twice-new (namesIn text index (i + gates)) x (tokensOf text (slice (j + 1) end tokens)) k
+            ∙ ap (λ (y : List Bytes). twice y (tokensOf text (slice (j + 1) end tokens)))
+            (sym (ap (map (λ (y : Entry). y .name)) a ∙ map-append (λ (y : Entry). y .name) (entriesOf text index (i + gates)) (entry x s ∷ [])));
+      }
+
+-- all are entered
+pub entering-done : {text tokens : List ℕ} {first end : ℕ} {index₀ : List ℕ} {inputs gates : ℕ} {index : List ℕ} {j i : ℕ}
+    → Entering text tokens first end index₀ inputs gates index j i → end ≤ j → InputsEntered text tokens first end index₀ inputs gates index Fine
+entering-done {text} {tokens} {first} {end} {index₀} {inputs} {gates} {index} {j} {i} c h =
+    let p : j ≡ end = omega (arith, c .high) in
+    let q : i + gates ≡ inputs + (end - first) + gates = omega (arith, c .counted) in
+    record {
+      refused =
+          when-no refusal.DefinedTwice (c .left ∙ ap (λ (m : ℕ). twice (namesIn text index (i + gates)) (tokensOf text (slice m end tokens))) p
+          ∙ ap (λ (x : List ℕ). twice (namesIn text index (i + gates)) (tokensOf text x)) (slice-empty end tokens) ∙ twice-none (namesIn text index (i + gates)));
+      index-is = λ z. subst (Index text index) q (c .index-is);
+      added = λ z.
+          sym (ap (entriesOf text index) q) ∙ c .added
+          ∙ ap (λ (m : ℕ). entriesOf text index₀ (inputs + gates) ++ inputEntries inputs (tokensOf text (slice first m tokens))) p;
+    }
+
+-- ---- outputs
+
+-- the tokens from first to j are copied
+pub record Copying (tokens : List ℕ) (first end : ℕ) (out₀ : List ℕ) (outputs : ℕ) (out : List ℕ) (j o : ℕ) : Type 0 where
+  pub low : first ≤ j
+  pub high : j ≤ end
+  pub room : end ≤ length tokens
+  pub fits : outputs + (end - first) ≤ length out₀
+  pub counted : o ≡ outputs + (j - first)
+  pub laying : Laying (slice first end tokens) out₀ outputs (slice j end tokens) out o
+
+-- before the first
+pub copying-start : {tokens : List ℕ} {first end : ℕ} {out : List ℕ} {outputs : ℕ} → first ≤ end → end ≤ length tokens → outputs + (end - first) ≤ length out
+    → Copying tokens first end out outputs out first outputs
+copying-start a b c = record { low = omega arith; high = a; room = b; fits = c; counted = omega arith; laying = laying-start refl refl }
+
+module _ {tokens : List ℕ} {first end : ℕ} {out₀ : List ℕ} {outputs : ℕ} {out : List ℕ} {j o : ℕ} (c : Copying tokens first end out₀ outputs out j o) where
+  -- one more
+  pub copying-next : j < end → Copying tokens first end out₀ outputs (set out o (getD tokens j 0)) (j + 1) (o + 1)
+  copying-next h =
+      record {
+        low = omega (arith, c .low);
+        high = omega arith;
+        room = c .room;
+        fits = c .fits;
+        counted = omega (arith, c .counted, c .low);
+        laying = laying-next (c .laying) (slice-first tokens j end h (c .room)) refl;
+      }
+
+  -- all are copied
+  pub copying-done : end ≤ j → take (outputs + (end - first)) out ≡ take outputs out₀ ++ slice first end tokens
+  copying-done h =
+      let cs = slice first end tokens in
+      let p : j ≡ end = omega (arith, c .high) in
+      let e : out ≡ overAt outputs cs out₀ = laying-done (c .laying) (ap (λ (m : ℕ). slice m end tokens) p ∙ slice-empty end tokens) in
+      let n : end - first ≡ length cs = sym (length-slice first end tokens (c .room)) in
+      ap₂ (λ (k : ℕ) (l : List ℕ). take (outputs + k) l) n e
+      ∙ take-add outputs (length cs) (overAt outputs cs out₀)
+      ∙ ap₂ (λ (x y : List ℕ). x ++ y) (run-before outputs cs out₀ 0 outputs (omega arith)) (run-overAt outputs cs out₀ (omega (arith, c .fits)))
+
+-- ---- a gate
+
+module _ {text index : List ℕ} {i g cell : ℕ} {block : Block} {blocks : List ℕ} {index′ : List ℕ} {s : ℕ} {r : Bool}
+    (f : GateFits text index i g cell block blocks) (e : Entered text index (i + g) cell s index′ r) where
+  -- its name is known
+  pub gate-known : {blocks′ : List ℕ} → r ≡ false → GateDefined text index i g (tokenOf text cell) block blocks index′ blocks′ (Refused refusal.DefinedTwice)
+  gate-known z =
+      record {
+        refused = when-yes refusal.DefinedTwice (not-false _ (sym (e .new) ∙ z));
+        index-is = λ y. absurd (refused-ne-fine y);
+        added = λ y. absurd (refused-ne-fine y);
+        block-is = λ y. absurd (refused-ne-fine y);
+      }
+
+  -- its name is new
+  pub gate-new : {blocks′ : List ℕ} → r ≡ true → s ≡ gateCell g → blocks′ ≡ overAt (g * blockWidth) (block .first ∷ block .names ∷ block .lines ∷ []) blocks
+      → GateDefined text index i g (tokenOf text cell) block blocks index′ blocks′ Fine
+  gate-new z q b =
+      let p : i + g + 1 ≡ i + (g + 1) = omega arith in
+      record {
+        refused = when-no refusal.DefinedTwice (not-true _ (sym (e .new) ∙ z));
+        index-is = λ y. subst (Index text index′) p (e .index z);
+        added = λ y.
+            ap (entriesOf text index′) (sym p) ∙ e .added z
+            ∙ ap (λ (t : ℕ). entriesOf text index (i + g) ++ (entry (tokenOf text cell) t ∷ [])) (q ∙ gate-cell g (omega (arith, f .gates)));
+        block-is = λ y. b;
+      }

@@ -1,0 +1,282 @@
+// The declarations of a text: names (refusals 7 to 10), and the tables that building starts from
+// (Quaigh's src/io/blif.rs: build_name_to_sig).
+use blif_read_sizes::cover_lines;
+use blif_read_sizes::row_at;
+use blif_text::Block;
+use blif_text::Statement;
+use blif_text::put_block;
+use name_index::enter_name;
+use refusals::Checked;
+use refusals::Refusal;
+use refusals::when;
+use signal::Signal;
+ghost use mathlib.Core.Path.{_≡_};
+ghost use mathlib.Core.Bool.{false};
+ghost use mathlib.Core.List.{_++_};
+ghost use Prim.Native.Nat.{_+_, _-_, _*_, _≤_, _<_};
+ghost use lib.ListN.{length, take};
+ghost use lib.Seq.{slice};
+ghost use Rattle.lists.specs.Lists.{zeros};
+ghost use Rattle.network.specs.Cells.{maxGates, maxOutputs};
+ghost use Rattle.blif_text.specs.Decls.{decls};
+ghost use Rattle.blif_text.specs.Places.{maxTokens, tokenOf};
+ghost use Rattle.blif_text.specs.Walk.{stmtsFrom, StmtsAt};
+ghost use Rattle.blif_text.specs.Blocks.{blockWidth};
+ghost use Rattle.name_index.specs.Index.{indexCells};
+ghost use Rattle.blif_reading.specs.Read.{tooLarge};
+ghost use Rattle.blif_read_names.specs.Naming.{InputsFit, InputsEntered, GateFits, GateDefined, CoverFits, CoverDefined, stepOf, LatchFits, LatchStep, CoverStep, Going, Steps};
+ghost use Rattle.blif_read_names.specs.Tables.{DefinedBy};
+
+// How many inputs, gates and outputs are declared.
+pub struct Declared {
+    pub inputs: usize,
+    pub gates: usize,
+    pub outputs: usize,
+}
+
+// The names are entered, or a refusal of 7 to 10.
+pub enum Defined {
+    Names(Declared),
+    Refused(Refusal),
+}
+
+// A walk that enters names: its place, whether there was a `.model`, and how many inputs, gates and outputs the statements before the
+// place declare.
+struct Walk {
+    at: usize,
+    seen: bool,
+    inputs: usize,
+    gates: usize,
+    outputs: usize,
+}
+
+// The walk behind a statement, or the statement's refusal.
+enum Step {
+    Next(Walk),
+    Refused(Refusal),
+}
+
+// The walk goes on where nothing is refused.
+fn step_of(checked: Checked, next: Walk) -> Step
+    ensures { λ r. ⌜ r ≡ stepOf checked next ⌝ }
+{
+    match checked {
+        Checked::Fine => Step::Next(next),
+        Checked::Refused(r) => Step::Refused(r),
+    }
+}
+
+// Enters the names from first to end as inputs, unless one is defined twice.
+fn enter_inputs(
+    text: &[u8],
+    tokens: &[u32],
+    first: usize,
+    end: usize,
+    index: &mut [u32],
+    inputs: usize,
+    gates: usize,
+) -> Checked
+    requires { ⌜ InputsFit (now text) (now tokens) first end (now index) inputs gates ⌝ }
+    ensures { λ r. ⌜ InputsEntered (now (text .entry)) (now (tokens .entry)) first end (now (index .entry)) inputs gates (now (index .exit)) r ⌝ }
+{
+    let mut j = first;
+    let mut i = inputs;
+    while j < end {
+        let signal = Signal::from_input(i as u32);
+        if !enter_name(text, index, i + gates, tokens[j], signal.a) {
+            return Checked::Refused(Refusal::DefinedTwice);
+        }
+        j += 1;
+        i += 1;
+    }
+    Checked::Fine
+}
+
+// Copies the tokens from first to end behind the names of so many outputs.
+fn copy_outputs(tokens: &[u32], first: usize, end: usize, out_names: &mut [u32], outputs: usize)
+    requires { ⌜ (first ≤ end) × (end ≤ length (now tokens)) × (outputs + (end - first) ≤ length (now «out_names»)) ⌝ }
+    ensures { λ _. ⌜ take (outputs + (end - first)) (now («out_names» .exit)) ≡ take outputs (now («out_names» .entry)) ++ slice first end (now (tokens .entry)) ⌝ }
+{
+    let mut j = first;
+    let mut o = outputs;
+    while j < end {
+        out_names[o] = tokens[j];
+        j += 1;
+        o += 1;
+    }
+}
+
+// Defines a gate by the name at a cell, and places its block, unless the name is defined twice.
+fn define_gate(
+    text: &[u8],
+    index: &mut [u32],
+    blocks: &mut [u32],
+    inputs: usize,
+    gates: usize,
+    cell: u32,
+    block: Block,
+) -> Checked
+    requires { ⌜ GateFits (now text) (now index) inputs gates cell block (now blocks) ⌝ }
+    ensures { λ r. ⌜ GateDefined (now (text .entry)) (now (index .entry)) inputs gates (tokenOf (now (text .entry)) cell) block (now (blocks .entry)) (now (index .exit)) (now (blocks .exit)) r ⌝ }
+{
+    let signal = Signal::from_var(gates as u32);
+    if !enter_name(text, index, inputs + gates, cell, signal.a) {
+        return Checked::Refused(Refusal::DefinedTwice);
+    }
+    put_block(blocks, gates, block);
+    Checked::Fine
+}
+
+// Defines a cover's gate by its last name, unless it has none or the name is defined twice.
+fn define_last(
+    text: &[u8],
+    tokens: &[u32],
+    index: &mut [u32],
+    blocks: &mut [u32],
+    inputs: usize,
+    gates: usize,
+    block: Block,
+) -> Checked
+    requires { ⌜ CoverFits (now text) (now tokens) (now index) inputs gates (block .first) (block .names) (now blocks) × (block .lines ≤ maxTokens) ⌝ }
+    ensures { λ r. ⌜ CoverDefined (now (text .entry)) (now (tokens .entry)) (now (index .entry)) inputs gates block (now (blocks .entry)) (now (index .exit)) (now (blocks .exit)) r ⌝ }
+{
+    if block.names == 0 {
+        return Checked::Refused(Refusal::NamesEmpty);
+    }
+    let last = block.first + block.names - 1;
+    define_gate(text, index, blocks, inputs, gates, tokens[last], block)
+}
+
+// Passes the `.latch` from the walk's place to end: its second name defines a gate.
+fn define_latch(
+    text: &[u8],
+    tokens: &[u32],
+    index: &mut [u32],
+    blocks: &mut [u32],
+    w: Walk,
+    end: usize,
+) -> Step
+    requires { ⌜ LatchFits (now text) (now tokens) (now index) (now blocks) w ⌝ }
+    ensures { λ r. ⌜ LatchStep (now (text .entry)) (now (tokens .entry)) (now (index .entry)) (now (blocks .entry)) (now (index .exit)) (now (blocks .exit)) w end r ⌝ }
+{
+    let at = w.at;
+    let block = Block {
+        first: at + 1,
+        names: 0,
+        lines: 0,
+    };
+    let name = tokens[at + 2];
+    let mut next = w;
+    next.at = end;
+    next.gates += 1;
+    let checked = define_gate(text, index, blocks, w.inputs, w.gates, name, block);
+    step_of(checked, next)
+}
+
+// Passes the `.names` from the walk's place to end, and its cube lines: its last name defines a gate.
+fn define_cover(
+    text: &[u8],
+    tokens: &[u32],
+    n: usize,
+    index: &mut [u32],
+    blocks: &mut [u32],
+    w: Walk,
+    end: usize,
+) -> Step
+    requires { ⌜ CoverFits (now text) (now tokens) (now index) (w .inputs) (w .gates) (w .at + 1) (end - w .at - 1) (now blocks) ⌝ }
+    requires { ⌜ StmtsAt (now text) (now tokens) n end × (n ≤ maxTokens) × (w .at < end) ⌝ }
+    ensures { λ r. ⌜ CoverStep (now (text .entry)) (now (tokens .entry)) n (now (index .entry)) (now (blocks .entry)) (now (index .exit)) (now (blocks .exit)) w end r ⌝ }
+{
+    let at = w.at;
+    let lines = cover_lines(text, tokens, n, end);
+    let block = Block {
+        first: at + 1,
+        names: end - at - 1,
+        lines: lines.count,
+    };
+    let mut next = w;
+    next.at = lines.end;
+    next.gates += 1;
+    let checked = define_last(text, tokens, index, blocks, w.inputs, w.gates, block);
+    step_of(checked, next)
+}
+
+// Passes a statement, and a cover's lines: enters the names that it defines, or copies those of outputs.
+fn define_row(
+    text: &[u8],
+    tokens: &[u32],
+    n: usize,
+    index: &mut [u32],
+    out_names: &mut [u32],
+    blocks: &mut [u32],
+    w: Walk,
+) -> Step
+    requires { ⌜ Going (now text) (now tokens) n (now index) (now «out_names») (now blocks) w × (w .at < n) ⌝ }
+    ensures { λ r. ⌜ Steps (now (text .entry)) (now (tokens .entry)) n (now (index .exit)) (now («out_names» .exit)) (now (blocks .exit)) w r ⌝ }
+{
+    let row = row_at(text, tokens, n, w.at);
+    let end = row.end;
+    let statement = row.statement;
+    let mut next = w;
+    next.at = end;
+    match statement {
+        Statement::Model => {
+            next.seen = true;
+            step_of(when(w.seen, Refusal::SecondModel), next)
+        }
+        Statement::End => step_of(when(!w.seen, Refusal::EndBeforeModel), next),
+        Statement::Inputs(_) => {
+            next.inputs += end - w.at - 1;
+            let checked = enter_inputs(text, tokens, w.at + 1, end, index, w.inputs, w.gates);
+            step_of(checked, next)
+        }
+        Statement::Outputs(_) => {
+            next.outputs += end - w.at - 1;
+            copy_outputs(tokens, w.at + 1, end, out_names, w.outputs);
+            Step::Next(next)
+        }
+        Statement::Latch(_) => define_latch(text, tokens, index, blocks, w, end),
+        Statement::Names(_) => define_cover(text, tokens, n, index, blocks, w, end),
+        Statement::Exdc => {
+            next.at = n;
+            Step::Next(next)
+        }
+        Statement::Cube(_) => Step::Next(next),
+        Statement::Refused(_) => Step::Next(next),
+    }
+}
+
+// Enters every name that is defined into the index, and places the outputs' names and the blocks.
+pub fn build_name_to_sig(
+    text: &[u8],
+    tokens: &[u32],
+    n: usize,
+    index: &mut [u32],
+    out_names: &mut [u32],
+    blocks: &mut [u32],
+) -> Defined
+    requires { ⌜ StmtsAt (now text) (now tokens) n 0 × (n ≤ maxTokens) ⌝ }
+    requires { ⌜ tooLarge (decls (stmtsFrom (now text) (now tokens) n 0)) ≡ false ⌝ }
+    requires { ⌜ (now index ≡ zeros indexCells) × (maxOutputs ≤ length (now «out_names»)) × (maxGates * blockWidth ≤ length (now blocks)) ⌝ }
+    ensures { λ r. ⌜ DefinedBy (decls (stmtsFrom (now (text .entry)) (now (tokens .entry)) n 0)) (now (text .entry)) (now (tokens .entry)) n (now (index .exit)) (now («out_names» .exit)) (now (blocks .exit)) r ⌝ }
+{
+    let mut w = Walk {
+        at: 0,
+        seen: false,
+        inputs: 0,
+        gates: 0,
+        outputs: 0,
+    };
+    while w.at < n {
+        let step = define_row(text, tokens, n, index, out_names, blocks, w);
+        match step {
+            Step::Next(next) => w = next,
+            Step::Refused(r) => return Defined::Refused(r),
+        }
+    }
+    Defined::Names(Declared {
+        inputs: w.inputs,
+        gates: w.gates,
+        outputs: w.outputs,
+    })
+}

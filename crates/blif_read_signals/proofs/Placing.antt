@@ -1,0 +1,207 @@
+-- Gates placed block by block: each stays where the next ones are written. Assumes nothing.
+use mathlib.Core.Path.{_≡_, refl, sym, ap, ap₂, _∙_}
+use mathlib.Core.Bool.{Bool, true, false, _&&_, false≢true}
+use mathlib.Core.List.{List, [], _∷_, _++_, map, flatMap, map-append}
+use mathlib.Core.Option.{some}
+use Prim.Native.Nat.{ℕ, _+_, _-_, _*_, _≤_, _<_}
+use native.Mathlib.Omega.{arith}
+use native.Mathlib.Nat.{sub-zero}
+use native.Mathlib.Decide.{ℕ-discrete}
+use lib.ListN.{length, getElem?, length-take, length-map}
+use Rattle.lists.specs.Lists.{Bytes, all, range, sumOf, overAt}
+use Rattle.lists.proofs.Tests.{and-left, and-right}
+use Rattle.lists.proofs.OverAt.{length-overAt}
+use Rattle.lists.proofs.Places.{map-map, place-lt}
+use Rattle.lists.proofs.Range.{all-append, map-range, length-range, range-cons, range-end}
+use Rattle.signal.specs.Signal.{Signal}
+use Rattle.signal.specs.Cell.{sigCell}
+use Rattle.gates.specs.Gate.{Gate, pins}
+use Rattle.gates.specs.Forms.{formCell}
+use Rattle.network.specs.Cells.{gateWidth, maxGates, maxPins}
+use Rattle.blif_text.specs.Decls.{Def, latch, cover, coverIns, usedNames}
+use Rattle.blif_text.specs.Blocks.{Blocks}
+use Rattle.blif_reading.specs.Working.{GateIn, placed, placedCount, WorkRoom}
+use Rattle.blif_reading.proofs.WorkingLaws.{record-kept, run-kept, used-more, gate-written}
+use Rattle.blif_read_signals.specs.Resolve.{isFound, allFound, placedTo, Signals, PlacedBy}
+use Rattle.blif_read_signals.specs.Steps.{GateRoom, placedForm, placedRun, DefPlaced}
+use Rattle.blif_read_signals.specs.declared.Placed.{Placed}
+use Rattle.blif_read_signals.specs.declared.Placed.the-variants as answer
+use Rattle.refusals.specs.declared.Refusal.{Refusal}
+use Rattle.refusals.specs.declared.Refusal.the-variants as refusal
+
+-- ---- the gate of a definition
+
+-- found names are the cells of their signals
+found-cells : (sig : Bytes → ℕ) (look : Bytes → Signal) → Signals sig look → (ns : List Bytes) → all isFound (map sig ns) ≡ true
+    → map sig ns ≡ map sigCell (map look ns)
+found-cells sig look s [] f = refl
+found-cells sig look s (x ∷ ns) f =
+    let b : Bool = all isFound (map sig ns) in
+    ap₂ (λ (a : ℕ) (l : List ℕ). a ∷ l) (s x (and-left (isFound (sig x)) b f)) (found-cells sig look s ns (and-right (isFound (sig x)) b f))
+
+run-is : (sig : Bytes → ℕ) (look : Bytes → Signal) → Signals sig look → (d : Def) → all isFound (map sig (usedNames d)) ≡ true
+    → placedRun sig d ≡ map sigCell (pins (placed look d))
+unfolding usedNames
+run-is sig look s (latch d q) f = ap (λ (a : ℕ). a ∷ 1 ∷ 0 ∷ []) (s d (and-left (isFound (sig d)) true f))
+run-is sig look s (cover ns ls) f = found-cells sig look s (coverIns ns) f
+
+form-is : (look : Bytes → Signal) (d : Def) → placedForm d ≡ formCell (placed look d)
+form-is look (latch d q) = refl
+form-is look (cover ns ls) = refl
+
+run-length : (sig : Bytes → ℕ) (d : Def) → length (placedRun sig d) ≡ placedCount d
+unfolding coverIns
+run-length sig (latch d q) = refl
+run-length sig (cover ns ls) =
+    let e : length (map sig (coverIns ns)) ≡ length (coverIns ns) = length-map (coverIns ns) sig in
+    omega (arith, e, length-take (length ns - 1) ns)
+
+-- the gate stands in the cells after it was placed
+def-in : {sig : Bytes → ℕ} (d : Def) {j at : ℕ} {gates pinsIn gates′ pinsIn′ : List ℕ} {r : Placed} → DefPlaced sig d j at gates pinsIn gates′ pinsIn′ r
+    → GateRoom gates pinsIn j at (placedCount d) → all isFound (map sig (usedNames d)) ≡ true → (look : Bytes → Signal) → Signals sig look
+    → GateIn gates′ pinsIn′ (at + length (placedRun sig d)) j (placed look d)
+def-in {sig} d {j} {at} {gates} {pinsIn} {gates′} {pinsIn′} {r} p w t look s =
+    let x : Gate = placed look d in
+    let e : placedRun sig d ≡ map sigCell (pins x) = run-is sig look s d t in
+    let n : length (placedRun sig d) ≡ length (pins x) = ap length e ∙ length-map (pins x) sigCell in
+    let g : gates′ ≡ overAt (j * gateWidth) (formCell x ∷ at ∷ length (pins x) ∷ []) gates =
+    p .records t ∙ ap₂ (λ (f k : ℕ). overAt (j * gateWidth) (f ∷ at ∷ k ∷ []) gates) (form-is look d) n in
+    let q : pinsIn′ ≡ overAt at (map sigCell (pins x)) pinsIn = p .runs t ∙ ap (λ (l : List ℕ). overAt at l pinsIn) e in
+    rw (g, q, n)
+    (gate-written gates pinsIn at j x (omega (arith, w .low, w .cells .gateRoom)) (omega (arith, n, run-length sig d, w .few, w .cells .pinRoom)))
+
+-- ---- the answer
+
+-- pins are told where all names were found
+pub pins-found : (b : Bool) (k : ℕ) {end : ℕ} → answer.Pins end ≡ placedTo b k → (b ≡ true) × (end ≡ k)
+pins-found true k e = (refl, (cc))
+pins-found false k e = absurd (let z : _≡_ {A = ℕ} 0 1 = cc in omega arith)
+
+-- a refusal where one was not
+pub refused-found : (b : Bool) (k : ℕ) {r : Refusal} → answer.Refused r ≡ placedTo b k → (b ≡ false) × (r ≡ refusal.Undefined)
+refused-found true k e = absurd (let z : _≡_ {A = ℕ} 0 1 = cc in omega arith)
+refused-found false k e = (refl, (cc))
+
+-- ---- block by block
+
+-- the definitions from j on
+abbrev from : (ℕ → Def) → ℕ → ℕ → List Def
+from def g j = map def (range j (g - j))
+
+from-cons : (def : ℕ → Def) (g j : ℕ) → j < g → from def g j ≡ def j ∷ from def g (j + 1)
+from-cons def g j h = ap (map def) (range-cons g j h)
+
+found-cons : (sig : Bytes → ℕ) (d : Def) (ds : List Def) → allFound sig (d ∷ ds) ≡ (all isFound (map sig (usedNames d)) && allFound sig ds)
+unfolding flatMap
+found-cons sig d ds = ap (all isFound) (map-append sig (usedNames d) (flatMap usedNames ds)) ∙ all-append isFound (map sig (usedNames d)) (map sig (flatMap usedNames ds))
+
+found-nil : (sig : Bytes → ℕ) → allFound sig [] ≡ true
+unfolding flatMap
+found-nil sig = refl
+
+-- the gates of the first j definitions are placed, their pins before cell at
+pub record Placing (sig : Bytes → ℕ) (def : ℕ → Def) (g : ℕ) (gates₀ pinsIn₀ gates pinsIn : List ℕ) (j at : ℕ) : Type 0 where
+  pub within : j ≤ g
+  pub low : g ≤ maxGates
+  pub same-gates : length gates ≡ length gates₀
+  pub same-pins : length pinsIn ≡ length pinsIn₀
+  pub cells : WorkRoom gates pinsIn
+  pub few : sumOf placedCount (map def (range 0 g)) ≤ maxPins
+  pub found : allFound sig (from def g j) ≡ allFound sig (map def (range 0 g))
+  pub counted : at + sumOf placedCount (from def g j) ≡ sumOf placedCount (map def (range 0 g))
+  pub gates-in : (look : Bytes → Signal) → Signals sig look → (h : ℕ) → h < j → GateIn gates pinsIn at h (placed look (def h))
+
+pub placing-start : {sig : Bytes → ℕ} {def : ℕ → Def} {g : ℕ} {gates pinsIn : List ℕ} → WorkRoom gates pinsIn → g ≤ maxGates
+    → sumOf placedCount (map def (range 0 g)) ≤ maxPins → Placing sig def g gates pinsIn gates pinsIn 0 0
+placing-start {def = def} {g = g} w l f =
+    let e : from def g 0 ≡ map def (range 0 g) = ap (λ (k : ℕ). map def (range 0 k)) (sub-zero g) in
+    record {
+      within = omega arith;
+      low = l;
+      same-gates = refl;
+      same-pins = refl;
+      cells = w;
+      few = f;
+      found = rw e;
+      counted = omega (arith, ap (sumOf placedCount) e);
+      gates-in = λ look s h u. absurd (omega arith);
+    }
+
+module _ {sig : Bytes → ℕ} {def : ℕ → Def} {g : ℕ} {gates₀ pinsIn₀ gates pinsIn : List ℕ} {j at : ℕ} (c : Placing sig def g gates₀ pinsIn₀ gates pinsIn j at) where
+  -- there is room for the next
+  pub placing-room : j < g → GateRoom gates pinsIn j at (placedCount (def j))
+  placing-room h =
+      record {
+        cells = c .cells;
+        low = omega (arith, c .low);
+        few = omega (arith, c .few, c .counted, ap (sumOf placedCount) (from-cons def g j h));
+      }
+
+  -- whether this definition's names and the others' are found
+  now-found : j < g → (all isFound (map sig (usedNames (def j))) && allFound sig (from def g (j + 1))) ≡ allFound sig (map def (range 0 g))
+  now-found h = sym (ap (allFound sig) (from-cons def g j h) ∙ found-cons sig (def j) (from def g (j + 1))) ∙ c .found
+
+  module _ {gates′ pinsIn′ : List ℕ} {r : Placed} (h : j < g) (p : DefPlaced sig (def j) j at gates pinsIn gates′ pinsIn′ r) where
+    -- a name was not found
+    pub placing-stops : {k : Refusal} → r ≡ answer.Refused k → PlacedBy sig (map def (range 0 g)) gates′ pinsIn′ (answer.Refused k)
+    placing-stops e =
+        let t = refused-found (all isFound (map sig (usedNames (def j)))) _ (sym e ∙ p .end) in
+        let f = sym (ap (λ (b : Bool). b && allFound sig (from def g (j + 1))) (t .0)) ∙ now-found h in
+        record {
+          counted = ap answer.Refused (t .1) ∙ ap (λ (b : Bool). placedTo b (sumOf placedCount (map def (range 0 g)))) f;
+          gates-in = λ u. absurd (false≢true (f ∙ u));
+        }
+
+    -- the gates before, after this one was placed
+    kept : all isFound (map sig (usedNames (def j))) ≡ true → (look : Bytes → Signal) → Signals sig look → (i : ℕ) → i < j → GateIn gates′ pinsIn′ (at + length (placedRun sig (def j))) i (placed look (def i))
+    kept t look s i u =
+        let k : ℕ = length (placedRun sig (def j)) in
+        let three : List ℕ = placedForm (def j) ∷ at ∷ k ∷ [] in
+        rw (p .records t, p .runs t)
+        (used-more (at + k) (omega arith)
+        (run-kept at (placedRun sig (def j)) (omega arith) (record-kept j three (omega arith) (λ z. omega arith) (c .gates-in look s i u))))
+
+    pub placing-next : {end : ℕ} → r ≡ answer.Pins end → Placing sig def g gates₀ pinsIn₀ gates′ pinsIn′ (j + 1) end
+    placing-next {end} e =
+        let x = pins-found (all isFound (map sig (usedNames (def j)))) _ (sym e ∙ p .end) in
+        let t = x .0 in
+        let three : List ℕ = placedForm (def j) ∷ at ∷ length (placedRun sig (def j)) ∷ [] in
+        let lg : length gates′ ≡ length gates = ap length (p .records t) ∙ length-overAt (j * gateWidth) three gates in
+        let lp : length pinsIn′ ≡ length pinsIn = ap length (p .runs t) ∙ length-overAt at (placedRun sig (def j)) pinsIn in
+        record {
+          within = omega arith;
+          low = c .low;
+          same-gates = lg ∙ c .same-gates;
+          same-pins = lp ∙ c .same-pins;
+          cells = record { gateRoom = omega (arith, c .cells .gateRoom); pinRoom = omega (arith, c .cells .pinRoom) };
+          few = c .few;
+          found = sym (ap (λ (b : Bool). b && allFound sig (from def g (j + 1))) t) ∙ now-found h;
+          counted = omega (arith, c .counted, x .1, run-length sig (def j), ap (sumOf placedCount) (from-cons def g j h));
+          gates-in = λ look s i u.
+              elim (ℕ-discrete i j) [
+                | yes z ↦ rw (z, x .1) (def-in (def j) p (placing-room h) t look s)
+                | no z ↦ rw (x .1) (kept t look s i (omega arith))
+              ];
+        }
+
+  pub placing-done : g ≤ j → PlacedBy sig (map def (range 0 g)) gates pinsIn (answer.Pins at)
+  placing-done h =
+      let e : from def g j ≡ [] = ap (map def) (range-end g j h) in
+      let all-counted : at ≡ sumOf placedCount (map def (range 0 g)) = omega (arith, c .counted, ap (sumOf placedCount) e) in
+      record {
+        counted = ap₂ (λ (k : ℕ) (b : Bool). placedTo b k) all-counted (sym (ap (allFound sig) e ∙ found-nil sig) ∙ c .found);
+        gates-in = λ t look s i x q.
+            let m : map (placed look) (map def (range 0 g)) ≡ map (λ (k : ℕ). placed look (def k)) (range 0 g) = map-map (placed look) def (range 0 g) in
+            let l : i < length (map (placed look) (map def (range 0 g))) = place-lt (map (placed look) (map def (range 0 g))) i x q in
+            let n : length (map (λ (k : ℕ). placed look (def k)) (range 0 g)) ≡ g = length-map (range 0 g) (λ (k : ℕ). placed look (def k)) ∙ length-range 0 g in
+            let u : i < g = omega (arith, ap length m) in
+            let z : 0 + i ≡ i = omega arith in
+            let v : some x ≡ some (placed look (def i)) =
+            sym q ∙ ap (λ (ys : List Gate). getElem? ys i) m ∙ map-range (λ (k : ℕ). placed look (def k)) 0 g i u ∙ ap (λ (k : ℕ). some (placed look (def k))) z in
+            let w : x ≡ placed look (def i) = cc in
+            rw (w, ← all-counted) (c .gates-in look s i (omega arith));
+      }
+
+-- the blocks up to this one
+pub blocks-to : {text tokens : List ℕ} {n : ℕ} {blocks : List ℕ} {g : ℕ} (j : ℕ) → j < g → Blocks text tokens n blocks g → Blocks text tokens n blocks (j + 1)
+blocks-to j h b = record { few = b .few; places = b .places; room = omega (arith, b .room); each = λ i u. b .each i (omega arith) }

@@ -1,0 +1,54 @@
+-- One gate placed in the working cells (document 01, src/io/blif.rs: `build_network`). Assumes nothing: these are definitions.
+use mathlib.Core.Path.{_≡_}
+use mathlib.Core.Bool.{true}
+use mathlib.Core.List.{List, [], _∷_, map}
+use Prim.Native.Nat.{ℕ, _+_, _*_, _≤_, _<_}
+use lib.ListN.{length, getD}
+use Rattle.lists.specs.Lists.{Bytes, all, overAt}
+use Rattle.gates.specs.Gate.{AndN}
+use Rattle.gates.specs.Forms.{formNumber, flopNumber}
+use Rattle.network.specs.Cells.{gateWidth, maxGates, maxPins}
+use Rattle.blif_text.specs.Places.{InText}
+use Rattle.blif_text.specs.Decls.{Def, latch, cover, coverIns, usedNames}
+use Rattle.blif_reading.specs.Working.{WorkRoom}
+use Rattle.blif_read_signals.specs.Resolve.{isFound, placedTo}
+use Rattle.blif_read_signals.specs.declared.Placed.{Placed}
+
+-- names stand in the text, by count cells from token first on
+pub record NamesAt (text tokens : List ℕ) (first count : ℕ) : Type 0 where
+  -- the cells are there
+  pub room : first + count ≤ length tokens
+  -- each is a place within the text
+  pub inside : (i : ℕ) → i < count → InText text (getD tokens (first + i) 0)
+
+-- there is room for gate j's record, and for its pins from cell at on
+pub record GateRoom (gates pinsIn : List ℕ) (j at count : ℕ) : Type 0 where
+  -- the working cells
+  pub cells : WorkRoom gates pinsIn
+  -- "1,024 gates"
+  pub low : j < maxGates
+  -- "16,384 pins"
+  pub few : at + count ≤ maxPins
+
+-- a gate of this form was placed as gate j, with this run of pins from cell at on; or a name that it uses was not found
+pub record GatePlaced (sig : Bytes → ℕ) (form : ℕ) (names : List Bytes) (run : List ℕ) (j at : ℕ) (gates pinsIn gates′ pinsIn′ : List ℕ) (r : Placed) : Type 0 where
+  -- the cell behind the run, where all were found
+  pub end : r ≡ placedTo (all isFound (map sig names)) (at + length run)
+  -- the record
+  pub records : all isFound (map sig names) ≡ true → gates′ ≡ overAt (j * gateWidth) (form ∷ at ∷ length run ∷ []) gates
+  -- the run
+  pub runs : all isFound (map sig names) ≡ true → pinsIn′ ≡ overAt at run pinsIn
+
+-- the form number of the gate first placed for a definition: a Dff, or a Nary And
+abbrev pub placedForm : Def → ℕ
+placedForm (latch d q) = flopNumber
+placedForm (cover ns ls) = formNumber AndN
+
+-- the cells of its pins: a latch's enable is one, its reset zero
+abbrev pub placedRun : (Bytes → ℕ) → Def → List ℕ
+placedRun sig (latch d q) = sig d ∷ 1 ∷ 0 ∷ []
+placedRun sig (cover ns ls) = map sig (coverIns ns)
+
+-- the gate of a definition was placed
+abbrev pub DefPlaced : (Bytes → ℕ) → Def → ℕ → ℕ → List ℕ → List ℕ → List ℕ → List ℕ → Placed → Type 0
+DefPlaced sig d j at gates pinsIn gates′ pinsIn′ r = GatePlaced sig (placedForm d) (usedNames d) (placedRun sig d) j at gates pinsIn gates′ pinsIn′ r

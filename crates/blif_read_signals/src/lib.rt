@@ -1,0 +1,173 @@
+// Names that are used: refusal 11, and the gates first placed (Quaigh's src/io/blif.rs: build_network, its first loop).
+use blif_text::block_at;
+use blif_text::token;
+use gates::DFF;
+use gates::NARY_AND;
+use name_index::find_signal;
+use network::put_record;
+use refusals::Refusal;
+ghost use mathlib.Core.List.{[], _∷_, map};
+ghost use Prim.Native.Nat.{_+_, _≤_};
+ghost use lib.ListN.{length, getD, take, drop};
+ghost use Rattle.lists.specs.Lists.{sumOf};
+ghost use Rattle.network.specs.Cells.{maxGates, maxPins};
+ghost use Rattle.blif_text.specs.Places.{tokenOf, tokensOf};
+ghost use Rattle.blif_text.specs.Walk.{Inside};
+ghost use Rattle.blif_text.specs.Blocks.{defAt, defsAt, Blocks};
+ghost use Rattle.name_index.specs.Search.{signalIn};
+ghost use Rattle.name_index.specs.Index.{entriesOf, Index};
+ghost use Rattle.blif_reading.specs.Working.{placedCount, WorkRoom};
+ghost use Rattle.blif_read_signals.specs.Resolve.{Resolved, PlacedBy};
+ghost use Rattle.gates.specs.Gate.{AndN};
+ghost use Rattle.gates.specs.Forms.{formNumber, flopNumber};
+ghost use Rattle.blif_read_signals.specs.Steps.{NamesAt, GateRoom, GatePlaced, DefPlaced};
+
+// The cells of the constants one and zero.
+const ONE: u32 = 1;
+
+const ZERO: u32 = 0;
+
+// How many pins are in use, or the refusal of a name that is not defined.
+pub enum Placed {
+    Pins(usize),
+    Refused(Refusal),
+}
+
+// Writes the signals of names, given by their places; answers whether all were found.
+pub fn resolve_names(
+    text: &[u8],
+    index: &[u32],
+    k: usize,
+    names: &[u32],
+    signals: &mut [u32],
+) -> bool
+    requires { ⌜ Index (now text) (now index) k ⌝ }
+    requires { ⌜ Inside (now text) (now names) (length (now names)) × (length (now names) ≤ length (now signals)) ⌝ }
+    ensures { λ r. ⌜ Resolved (map (signalIn (entriesOf (now (text .entry)) (now (index .entry)) k)) (tokensOf (now (text .entry)) (now (names .entry)))) (now (signals .entry)) (now (signals .exit)) r ⌝ }
+{
+    let mut i = 0;
+    while i < names.len() {
+        let s = find_signal(text, index, k, token(text, names[i]));
+        if s == 0 {
+            return false;
+        }
+        signals[i] = s;
+        i += 1;
+    }
+    true
+}
+
+// Places gate j for the latch whose input's name is token first, with its pins from cell at on: enable one, reset zero.
+fn place_latch(
+    text: &[u8],
+    tokens: &[u32],
+    index: &[u32],
+    k: usize,
+    first: usize,
+    j: usize,
+    gates: &mut [u32],
+    pins: &mut [u32],
+    at: usize,
+) -> Placed
+    requires { ⌜ Index (now text) (now index) k × NamesAt (now text) (now tokens) first 1 ⌝ }
+    requires { ⌜ GateRoom (now gates) (now pins) j at 3 ⌝ }
+    ensures { λ r. ⌜ GatePlaced (signalIn (entriesOf (now (text .entry)) (now (index .entry)) k)) flopNumber (tokenOf (now (text .entry)) (getD (now (tokens .entry)) first 0) ∷ []) (signalIn (entriesOf (now (text .entry)) (now (index .entry)) k) (tokenOf (now (text .entry)) (getD (now (tokens .entry)) first 0)) ∷ 1 ∷ 0 ∷ []) j at (now (gates .entry)) (now (pins .entry)) (now (gates .exit)) (now (pins .exit)) r ⌝ }
+{
+    let end = first + 1;
+    if !resolve_names(text, index, k, &tokens[first..end], &mut pins[at..]) {
+        return Placed::Refused(Refusal::Undefined);
+    }
+    pins[at + 1] = ONE;
+    pins[at + 2] = ZERO;
+    put_record(gates, j, DFF, at, 3);
+    Placed::Pins(at + 3)
+}
+
+// Places gate j for the cover whose inputs' names are count tokens from first on, with its pins from cell at on.
+fn place_cover(
+    text: &[u8],
+    tokens: &[u32],
+    index: &[u32],
+    k: usize,
+    first: usize,
+    count: usize,
+    j: usize,
+    gates: &mut [u32],
+    pins: &mut [u32],
+    at: usize,
+) -> Placed
+    requires { ⌜ Index (now text) (now index) k × NamesAt (now text) (now tokens) first count ⌝ }
+    requires { ⌜ GateRoom (now gates) (now pins) j at count ⌝ }
+    ensures { λ r. ⌜ GatePlaced (signalIn (entriesOf (now (text .entry)) (now (index .entry)) k)) (formNumber AndN) (tokensOf (now (text .entry)) (take count (drop first (now (tokens .entry))))) (map (signalIn (entriesOf (now (text .entry)) (now (index .entry)) k)) (tokensOf (now (text .entry)) (take count (drop first (now (tokens .entry)))))) j at (now (gates .entry)) (now (pins .entry)) (now (gates .exit)) (now (pins .exit)) r ⌝ }
+{
+    let end = first + count;
+    if !resolve_names(text, index, k, &tokens[first..end], &mut pins[at..]) {
+        return Placed::Refused(Refusal::Undefined);
+    }
+    put_record(gates, j, NARY_AND, at, count);
+    Placed::Pins(at + count)
+}
+
+// Places gate j for block j, with its pins from cell at on.
+fn place_block(
+    text: &[u8],
+    tokens: &[u32],
+    n: usize,
+    index: &[u32],
+    k: usize,
+    blocks: &[u32],
+    j: usize,
+    gates: &mut [u32],
+    pins: &mut [u32],
+    at: usize,
+) -> Placed
+    requires { ⌜ Index (now text) (now index) k × Blocks (now text) (now tokens) n (now blocks) (j + 1) ⌝ }
+    requires { ⌜ GateRoom (now gates) (now pins) j at (placedCount (defAt (now text) (now tokens) n (now blocks) j)) ⌝ }
+    ensures { λ r. ⌜ DefPlaced (signalIn (entriesOf (now (text .entry)) (now (index .entry)) k)) (defAt (now (text .entry)) (now (tokens .entry)) n (now (blocks .entry)) j) j at (now (gates .entry)) (now (pins .entry)) (now (gates .exit)) (now (pins .exit)) r ⌝ }
+{
+    let block = block_at(blocks, j);
+    if block.names == 0 {
+        return place_latch(text, tokens, index, k, block.first, j, gates, pins, at);
+    }
+    place_cover(
+        text,
+        tokens,
+        index,
+        k,
+        block.first,
+        block.names - 1,
+        j,
+        gates,
+        pins,
+        at,
+    )
+}
+
+// Places a gate for each block: a latch's Dff, and for a cover an And of its inputs.
+pub fn place_gates(
+    text: &[u8],
+    tokens: &[u32],
+    n: usize,
+    index: &[u32],
+    k: usize,
+    blocks: &[u32],
+    g: usize,
+    gates: &mut [u32],
+    pins: &mut [u32],
+) -> Placed
+    requires { ⌜ Index (now text) (now index) k × Blocks (now text) (now tokens) n (now blocks) g ⌝ }
+    requires { ⌜ WorkRoom (now gates) (now pins) × (g ≤ maxGates) × (sumOf placedCount (defsAt (now text) (now tokens) n (now blocks) g) ≤ maxPins) ⌝ }
+    ensures { λ r. ⌜ PlacedBy (signalIn (entriesOf (now (text .entry)) (now (index .entry)) k)) (defsAt (now (text .entry)) (now (tokens .entry)) n (now (blocks .entry)) g) (now (gates .exit)) (now (pins .exit)) r ⌝ }
+{
+    let mut at = 0;
+    let mut j = 0;
+    while j < g {
+        let placed = place_block(text, tokens, n, index, k, blocks, j, gates, pins, at);
+        match placed {
+            Placed::Pins(end) => at = end,
+            Placed::Refused(r) => return Placed::Refused(r),
+        }
+        j += 1;
+    }
+    Placed::Pins(at)
+}

@@ -1,0 +1,176 @@
+-- The gates built for definitions: how many there are, how many pins they have in all, and that the form of each can have its pins.
+-- Assumes nothing.
+use mathlib.Core.Path.{_≡_, refl, sym, ap, _∙_, subst}
+use mathlib.Core.Bool.{Bool, true, false, cond}
+use mathlib.Core.List.{List, [], _∷_, _++_, map}
+use Prim.Native.Nat.{ℕ, zero, suc, _+_, _-_, _*_, _≤_}
+use native.Mathlib.Omega.{arith}
+use native.Mathlib.Nat.{suc-mul, add-mul, mul-suc}
+use lib.ListN.{length, length-map, length-append, length-take}
+use borrow.Author.Tests.{lt-ltb}
+use Rattle.lists.specs.Lists.{if_then_else_, Bytes, sumOf}
+use Rattle.lists.proofs.Counting.{sum-append}
+use Rattle.lists.proofs.Every.{Every, every-nil, every-cons, every-append, every-map}
+use Rattle.signal.specs.Signal.{Signal}
+use Rattle.signal.specs.Cell.{sigCell}
+use Rattle.gates.specs.Gate.{AndN, OrN, Gate, Comb, pins}
+use Rattle.gates.specs.Forms.{formed}
+use Rattle.network.specs.Cells.{pinCells}
+use Rattle.blif_text.specs.Decls.{Def, latch, cover, coverIns}
+use Rattle.blif_meaning.specs.Model.{Col, C0, C1, Dash, Line}
+use Rattle.blif_reading.specs.Build.{literals, literalGate, lineGate, gateRun, coverGate, lineGates, blockGate, moreGates, mains, extras}
+use Rattle.blif_reading.specs.TextModel.{lineOf, blockOf}
+use Rattle.blif_reading.specs.Read.{added, gateCount, pinCount}
+use Rattle.blif_reading.specs.Working.{builtGates}
+use Rattle.blif_reading.proofs.ModelToBuilt.{mains-length}
+
+-- ---- sums
+
+-- how many pins a gate has
+abbrev pinsOf : Gate → ℕ
+pinsOf x = length (pins x)
+
+pins-sum : (xs : List Gate) → length (pinCells xs) ≡ sumOf pinsOf xs
+unfolding pinCells
+pins-sum [] = refl
+pins-sum (x ∷ xs) = omega (arith, length-append (map sigCell (pins x)) (pinCells xs), length-map (pins x) sigCell, pins-sum xs)
+
+-- ---- the gate of a line
+
+literals-le : (cs : List Col) (ss : List Signal) → length (literals cs ss) ≤ length ss
+literals-le [] ss = omega arith
+literals-le (c ∷ cs) [] = omega arith
+literals-le (C0 ∷ cs) (s ∷ ss) = omega (arith, literals-le cs ss)
+literals-le (C1 ∷ cs) (s ∷ ss) = omega (arith, literals-le cs ss)
+literals-le (Dash ∷ cs) (s ∷ ss) = omega (arith, literals-le cs ss)
+
+literal-pins : (p : Bool) (ls : List Signal) → pinsOf (literalGate p ls) ≤ length ls + 1
+literal-pins true [] = omega arith
+literal-pins true (l ∷ []) = omega arith
+literal-pins true (l ∷ k ∷ ls) = omega arith
+literal-pins false [] = omega arith
+literal-pins false (l ∷ []) = omega arith
+literal-pins false (l ∷ k ∷ ls) = omega arith
+
+literal-formed : (p : Bool) (ls : List Signal) → formed (literalGate p ls) ≡ true
+literal-formed true [] = refl
+literal-formed true (l ∷ []) = refl
+literal-formed true (l ∷ k ∷ ls) = refl
+literal-formed false [] = refl
+literal-formed false (l ∷ []) = refl
+literal-formed false (l ∷ k ∷ ls) = refl
+
+line-pins : (ss : List Signal) (l : Line) → pinsOf (lineGate ss l) ≤ length ss + 1
+line-pins ss l = omega (arith, literal-pins (l .out) (literals (l .cols) ss), literals-le (l .cols) ss)
+
+lines-pins : (ss : List Signal) (ls : List Line) → sumOf pinsOf (map (lineGate ss) ls) ≤ length ls * (length ss + 1)
+lines-pins ss [] = omega arith
+lines-pins ss (l ∷ ls) = omega (arith, line-pins ss l, lines-pins ss ls, suc-mul (length ls) (length ss + 1))
+
+-- ---- the gates of a cover
+
+run-length : (k n : ℕ) → length (gateRun k n) ≡ n
+run-length k zero = refl
+run-length k (suc n) = ap suc (run-length (suc k) n)
+
+product : (k n : ℕ) → (suc (suc k) + 1) * (n + 2) ≡ k * (n + 1) + k + 3 * (n + 2)
+product k n =
+    let e : n + 2 ≡ suc (n + 1) = omega arith in
+    let f : suc (suc k) + 1 ≡ k + 3 = omega arith in
+    ap (λ (x : ℕ). x * (n + 2)) f ∙ add-mul k 3 (n + 2) ∙ ap (λ (x : ℕ). x + 3 * (n + 2)) (ap (λ (x : ℕ). k * x) e ∙ mul-suc k (n + 1))
+
+cover-pins : (k : ℕ) (ss : List Signal) (ls : List Line) → pinsOf (coverGate k ss ls) + sumOf pinsOf (lineGates ss ls) ≤ (length ls + 1) * (length ss + 2)
+cover-pins k ss [] = omega arith
+cover-pins k ss (l ∷ []) = omega (arith, line-pins ss l)
+cover-pins k ss (l ∷ m ∷ ls) =
+    omega
+    (arith, run-length (suc (suc k)) (length ls), line-pins ss l, line-pins ss m, lines-pins ss ls, product (length ls) (length ss))
+
+joined-formed : (b : Bool) (ps : List Signal) → formed (Comb (cond b OrN AndN) ps) ≡ true
+joined-formed true ps = refl
+joined-formed false ps = refl
+
+cover-formed : (k : ℕ) (ss : List Signal) (ls : List Line) → formed (coverGate k ss ls) ≡ true
+cover-formed k ss [] = refl
+cover-formed k ss (l ∷ []) = literal-formed (l .out) (literals (l .cols) ss)
+cover-formed k ss (l ∷ m ∷ ls) = joined-formed (l .out) (gateRun k (suc (suc (length ls))))
+
+-- each gate of a list has pins that its form can have
+abbrev AllFormed : List Gate → Type 0
+AllFormed xs = Every (λ x. formed x ≡ true) xs
+
+lines-formed : (ss : List Signal) (ls : List Line) → AllFormed (lineGates ss ls)
+lines-formed ss [] = every-nil
+lines-formed ss (l ∷ []) = every-nil
+lines-formed ss (l ∷ m ∷ ls) = every-map (lineGate ss) (l ∷ m ∷ ls) (λ n. literal-formed (n .out) (literals (n .cols) ss))
+
+-- a cover of two lines or more adds a gate for each
+lines-added : (ss : List Signal) (ls : List Line) → length (lineGates ss ls) ≡ added (length ls)
+unfolding added
+lines-added ss [] = refl
+lines-added ss (l ∷ []) = refl
+lines-added ss (l ∷ m ∷ ls) =
+    ap (λ (x : ℕ). suc (suc x)) (length-map ls (lineGate ss))
+    ∙ sym (ap (λ (b : Bool). if b then suc (suc (length ls)) else 0) (lt-ltb 1 (suc (suc (length ls))) (omega arith)))
+
+-- ---- the gates of a definition
+
+module _ (look : Bytes → Signal) where
+  def-pins : (k : ℕ) (g : Def) → pinsOf (blockGate look k (blockOf g)) + sumOf pinsOf (moreGates look (blockOf g)) ≤ pinCount g
+  unfolding pinCount coverIns
+  def-pins k (latch d q) = omega arith
+  def-pins k (cover ns ls) =
+      let n : length (map look (coverIns ns)) ≡ length ns - 1 = length-map (coverIns ns) look ∙ length-take (length ns - 1) ns ∙ omega arith in
+      let m : length (map lineOf ls) ≡ length ls = length-map ls lineOf in
+      subst (λ (x : ℕ). pinsOf (coverGate k (map look (coverIns ns)) (map lineOf ls)) + sumOf pinsOf (lineGates (map look (coverIns ns)) (map lineOf ls)) ≤ x)
+      (λ i. (m i + 1) * (n i + 2))
+      (cover-pins k (map look (coverIns ns)) (map lineOf ls))
+
+  def-gates : (g : Def) → 1 + length (moreGates look (blockOf g)) ≡ gateCount g
+  unfolding gateCount
+  def-gates (latch d q) = refl
+  def-gates (cover ns ls) = ap (λ (x : ℕ). 1 + x) (lines-added (map look (coverIns ns)) (map lineOf ls) ∙ ap added (length-map ls lineOf))
+
+  main-formed : (k : ℕ) (g : Def) → formed (blockGate look k (blockOf g)) ≡ true
+  main-formed k (latch d q) = refl
+  main-formed k (cover ns ls) = cover-formed k (map look (coverIns ns)) (map lineOf ls)
+
+  more-formed : (g : Def) → AllFormed (moreGates look (blockOf g))
+  more-formed (latch d q) = every-nil
+  more-formed (cover ns ls) = lines-formed (map look (coverIns ns)) (map lineOf ls)
+
+  -- ---- all gates
+
+  mains-formed : (k : ℕ) (gs : List Def) → AllFormed (mains look k (map blockOf gs))
+  mains-formed k [] = every-nil
+  mains-formed k (g ∷ gs) = every-cons (main-formed k g) (mains-formed (k + length (moreGates look (blockOf g))) gs)
+
+  extras-formed : (gs : List Def) → AllFormed (extras look (map blockOf gs))
+  extras-formed [] = every-nil
+  extras-formed (g ∷ gs) = every-append (more-formed g) (extras-formed gs)
+
+  both-pins : (k : ℕ) (gs : List Def) → sumOf pinsOf (mains look k (map blockOf gs)) + sumOf pinsOf (extras look (map blockOf gs)) ≤ sumOf pinCount gs
+  both-pins k [] = omega arith
+  both-pins k (g ∷ gs) =
+      omega
+      (arith, def-pins k g, both-pins (k + length (moreGates look (blockOf g))) gs, sum-append pinsOf (moreGates look (blockOf g)) (extras look (map blockOf gs)))
+
+  both-gates : (gs : List Def) → length gs + length (extras look (map blockOf gs)) ≡ sumOf gateCount gs
+  both-gates [] = refl
+  both-gates (g ∷ gs) = omega (arith, def-gates g, both-gates gs, length-append (moreGates look (blockOf g)) (extras look (map blockOf gs)))
+
+  -- as many gates are built as are counted
+  pub built-gates : (gs : List Def) → length (builtGates look gs) ≡ sumOf gateCount gs
+  built-gates gs =
+      omega
+      (arith, length-append (mains look (length (map blockOf gs)) (map blockOf gs)) (extras look (map blockOf gs)), mains-length look (length (map blockOf gs)) (map blockOf gs), length-map gs blockOf, both-gates gs)
+
+  -- and no more pins
+  pub built-pins : (gs : List Def) → length (pinCells (builtGates look gs)) ≤ sumOf pinCount gs
+  built-pins gs =
+      omega
+      (arith, pins-sum (builtGates look gs), sum-append pinsOf (mains look (length (map blockOf gs)) (map blockOf gs)) (extras look (map blockOf gs)), both-pins (length (map blockOf gs)) gs)
+
+  -- the form of each can have its pins
+  pub built-formed : (gs : List Def) → AllFormed (builtGates look gs)
+  built-formed gs = every-append (mains-formed (length (map blockOf gs)) gs) (extras-formed gs)

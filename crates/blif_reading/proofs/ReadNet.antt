@@ -1,0 +1,68 @@
+-- A network that is read: valid, formed, without a loop, and within the sizes. Assumes nothing.
+use mathlib.Core.Path.{_≡_, refl, sym, ap, _∙_}
+use mathlib.Core.List.{List, map}
+use mathlib.Core.Option.{some}
+use Prim.Native.Nat.{ℕ, _<_}
+use native.Mathlib.Omega.{arith}
+use lib.ListN.{length, getElem?, length-map}
+use Rattle.lists.specs.Lists.{Bytes, sumOf}
+use Rattle.lists.proofs.Every.{every-place}
+use Rattle.gates.specs.Gate.{Gate}
+use Rattle.network.specs.Net.{Net, Valid, Formed, Feeds, Way, last, more, Loop}
+use Rattle.network.specs.Cells.{WithinSizes, pinCells}
+use Rattle.sort_order.specs.Sorted.{sorted}
+use Rattle.sort_order.proofs.Summary.{sorted-keeps, inputs-lower}
+use Rattle.blif_text.specs.Decls.{Decl, ins, outs, defs, declsOf}
+use Rattle.blif_reading.specs.Read.{read, look, builtFrom, readText}
+use Rattle.blif_reading.proofs.BuiltCounts.{built-gates, built-pins, built-formed}
+use Rattle.blif_reading.proofs.BuiltNet.{gates-are}
+use Rattle.blif_reading.proofs.SizeLimits.{sizes-within}
+use Rattle.blif_reading.proofs.Passed.{passed-valid}
+use Rattle.blif_reading.proofs.Accepted.{passed-read}
+
+-- what is known of a network that is read
+pub record NetRead (net : Net) : Type 0 where
+  pub valid : Valid net
+  pub formed : Formed net
+  pub free : Loop net → ⊥
+  pub sizes : WithinSizes (net .inputs) (length (net .outputs)) (length (net .gates)) (length (pinCells (net .gates)))
+
+module _ (net new : Net) (valid : Valid net) (e : sorted net ≡ some new) where
+  -- a way goes upwards in a sorted network
+  way-rises : {a b : ℕ} → Way new a b → a < b
+  way-rises (last f) = inputs-lower net new valid e _ _ (f .formB) (f .pinsB) (f .by) (f .isB) (f .among) (f .points)
+  way-rises (more f w) =
+      let h = inputs-lower net new valid e _ _ (f .formB) (f .pinsB) (f .by) (f .isB) (f .among) (f .points) in
+      let k = way-rises w in
+      omega (arith, h, k)
+
+  -- so none comes back
+  sorted-no-loop : Loop new → ⊥
+  sorted-no-loop l = let h = way-rises (l .1) in absurd (omega (arith, h))
+
+-- the gates as built have pin counts that their forms can have
+formed-built : (ds : List Decl) → Formed (builtFrom ds)
+formed-built ds g x e = every-place (built-formed (look ds) (defs ds)) g x (ap (λ (l : List Gate). getElem? l g) (gates-are ds) ∙ e)
+
+pub read-net : (s : Bytes) (new : Net) → readText s ≡ read new → NetRead new
+unfolding builtFrom
+read-net s new e =
+    let r = passed-read s new e in
+    let ds = declsOf s in
+    let w = sizes-within ds (r .0 .within) in
+    let valid = passed-valid ds (r .0) in
+    let k = sorted-keeps (builtFrom ds) new valid (r .1) in
+    let g = ap length (gates-are ds) in
+    let p = ap (λ (l : List Gate). length (pinCells l)) (gates-are ds) in
+    record {
+      valid = k .valid;
+      formed = k .formed (formed-built ds);
+      free = sorted-no-loop (builtFrom ds) new valid (r .1);
+      sizes =
+          record {
+            inputs = omega (arith, k .inputs, w .inputs);
+            outputs = omega (arith, k .outputs, length-map (outs ds) (look ds), w .outputs);
+            gates = omega (arith, k .gates, g, built-gates (look ds) (defs ds), w .gates);
+            pins = omega (arith, k .pins, p, built-pins (look ds) (defs ds), w .pins);
+          };
+    }

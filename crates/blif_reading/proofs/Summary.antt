@@ -1,0 +1,46 @@
+-- What reading means, as a reviewer would read it (document 01, src/io/blif.rs). Assumes nothing.
+--   built-means      a model that is accepted runs as the gates built for it
+--   read-means       demand 2: a text that is read runs as the network read
+--   reading-refuses  which refusals reading answers
+use mathlib.Core.Path.{_≡_}
+use mathlib.Core.Bool.{Bool}
+use mathlib.Core.List.{List}
+use mathlib.Core.Logic.{_↔_}
+use Rattle.lists.specs.Lists.{Bytes}
+use Rattle.network.specs.Net.{Net}
+use Rattle.network.specs.Clock.{NetRuns}
+use Rattle.network.specs.Settle.{run}
+use Rattle.blif_meaning.specs.Model.{Model, BlifRuns}
+use Rattle.network.specs.Clock.{zeroBits}
+use Rattle.network.proofs.Summary.{one-run}
+use Rattle.refusals.specs.Numbers.{InReading}
+use Rattle.refusals.specs.declared.Refusal.{Refusal}
+use Rattle.blif_reading.specs.TextModel.{modelOfText}
+use Rattle.blif_reading.specs.Lookup.{lookup}
+use Rattle.blif_reading.specs.Build.{build}
+use Rattle.blif_reading.specs.Accepts.{Accepts}
+use Rattle.blif_reading.specs.Read.{read, refused, readText}
+use Rattle.blif_reading.proofs.Meaning as meaning
+use Rattle.blif_reading.proofs.Accepted as reading
+use Rattle.blif_reading.proofs.ReadNet.{read-net}
+use Rattle.blif_reading.proofs.Refusals as texts
+
+-- a model that reading accepts, by whatever names, runs as the gates built for it run, and they run as it does: for every list of input
+-- rows the same lists of output rows, by the Berkeley text on one side and by document 01's "A clock" on the other
+pub built-means : {Name : Type 0} (dec : (x y : Name) → Dec (x ≡ y)) (m : Model Name) → Accepts dec m → (rows outs : List (List Bool))
+    → BlifRuns m rows outs ↔ NetRuns (build (lookup dec m) m) rows outs
+built-means dec m acc = meaning.built-means dec m acc
+
+-- demand 2: where a text is read as a network, for every list of input rows the text has just one list of outputs, by the Berkeley text,
+-- and it is the network's, by the relation and by the function
+pub read-means : (text : Bytes) (net : Net) → readText text ≡ read net → (rows outs : List (List Bool))
+    → (BlifRuns (modelOfText text) rows outs ↔ NetRuns net rows outs) × (BlifRuns (modelOfText text) rows outs ↔ (outs ≡ run net rows))
+read-means text net e rows outs =
+    let k = read-net text net e in
+    let x = one-run net (k .valid) (k .free) zeroBits rows outs in
+    let m = reading.read-means text net e rows outs in
+    (((λ r. x .1 (m .0 r)), (λ r. m .1 (x .0 r))), m)
+
+-- "Reading refuses, in order: .. 2 .. 14", and nothing else; 1 is told of the lent cells
+pub reading-refuses : (text : Bytes) (r : Refusal) → readText text ≡ refused r → InReading r
+reading-refuses = texts.reading-refuses

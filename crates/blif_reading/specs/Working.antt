@@ -1,0 +1,52 @@
+-- Gates in the reader's working cells while a network is built (document 01, src/io/blif.rs: `build_network`). Runs of pins stand in no
+-- fixed order there. Assumes nothing: these are definitions.
+use mathlib.Core.Path.{_≡_}
+use mathlib.Core.List.{List, [], _∷_, _++_, map}
+use mathlib.Core.Option.{Option, some}
+use Prim.Native.Nat.{ℕ, _+_, _-_, _*_, _≤_}
+use lib.ListN.{length, getElem?}
+use Rattle.lists.specs.Lists.{Bytes, sumOf}
+use Rattle.signal.specs.Signal.{Signal, zeroS, oneS}
+use Rattle.signal.specs.Cell.{sigCell}
+use Rattle.gates.specs.Gate.{AndN, Gate, Comb, Dff, pins}
+use Rattle.gates.specs.Forms.{formCell}
+use Rattle.network.specs.Cells.{gateWidth, maxGates, maxPins, formAt, firstAt, countAt, runAt}
+use Rattle.blif_text.specs.Decls.{Def, latch, cover, coverIns}
+use Rattle.blif_reading.specs.Build.{gatesFor}
+use Rattle.blif_reading.specs.TextModel.{blockOf}
+
+-- record h and its run of pins, within the first `used` pins, are those of the gate x
+pub record GateIn (gates pinsIn : List ℕ) (used h : ℕ) (x : Gate) : Type 0 where
+  -- the form number
+  pub form : formAt gates h ≡ formCell x
+  -- the pin count
+  pub count : countAt gates h ≡ length (pins x)
+  -- the run is within the pins in use
+  pub within : firstAt gates h + length (pins x) ≤ used
+  -- the pins
+  pub run : runAt gates pinsIn h ≡ map sigCell (pins x)
+
+-- the gates xs stand in the cells, from record 0 on
+abbrev pub GatesIn : List ℕ → List ℕ → ℕ → List Gate → Type 0
+GatesIn gates pinsIn used xs = (h : ℕ) (x : Gate) → getElem? xs h ≡ some x → GateIn gates pinsIn used h x
+
+-- the gate first placed for a definition: a latch's Dff, and for a cover an And of its inputs
+abbrev pub placed : (Bytes → Signal) → Def → Gate
+placed look (latch d q) = Dff (record { dataIn = look d; enable = oneS; reset = zeroS })
+placed look (cover ns ls) = Comb AndN (map look (coverIns ns))
+
+-- how many pins it has
+abbrev pub placedCount : Def → ℕ
+placedCount (latch d q) = 3
+placedCount (cover ns ls) = length ns - 1
+
+-- the gates as built for definitions
+abbrev pub builtGates : (Bytes → Signal) → List Def → List Gate
+builtGates look ds = gatesFor look (map blockOf ds)
+
+-- the working cells have room for what is counted of the definitions (refusal 6), and for the gates placed first
+pub record WorkRoom (gates pinsIn : List ℕ) : Type 0 where
+  -- "3,072 for gates"
+  pub gateRoom : maxGates * gateWidth ≤ length gates
+  -- "16,384 for pins"
+  pub pinRoom : maxPins ≤ length pinsIn

@@ -1,0 +1,63 @@
+-- `write_binary` writes the names, the gate and the lines. Assumes nothing.
+use borrow.Author.Needs.{needs}
+use mathlib.Core.List.{[], _∷_}
+use Rattle.signal.specs.Cell.{sigOf}
+use Rattle.blif_writing.specs.Names.{nameBytes}
+use Rattle.blif_writing.specs.WrittenModel.{gateName}
+use Rattle.gates.specs.Forms.{binaryForm}
+use Rattle.blif_writing.specs.WrittenModel.{linesOf}
+use Rattle.blif_write_names.proofs.Laws.{and-append, as-text, from-start}
+use Rattle.blif_write_gates.proofs.Texts.{names-then, two-names}
+use Rattle.blif_write_gates.proofs.write_binary.Statement.{statement}
+use Rattle.blif_write_gates.proofs.write_binary.Tie as tie
+
+slice-aggregate-append : tie.Need-slice-aggregate-append
+slice-aggregate-append c = search needs
+
+append-requires : tie.Need-append-requires
+append-requires c κs = search needs
+
+slice-aggregate-append-name : tie.Need-slice-aggregate-append-name
+slice-aggregate-append-name c = search needs
+
+append-name-requires : tie.Need-append-name-requires
+append-name-requires c κs = search needs
+
+slice-aggregate-append-name-2 : tie.Need-slice-aggregate-append-name-2
+slice-aggregate-append-name-2 c = search needs
+
+append-name-requires-2 : tie.Need-append-name-requires-2
+append-name-requires-2 c κs = search needs
+
+append-end-requires : tie.Need-append-end-requires
+append-end-requires c κs = search needs
+
+append-binary-lines-requires : tie.Need-append-binary-lines-requires
+append-binary-lines-requires c κs = search needs
+
+same-length : tie.Need-same-length
+same-length c = search needs
+
+returns : tie.Need-returns
+returns c =
+    let args = c .before .before .before .before .before .before .before .before .before .before .before .before .before .before .before .before .before .before .before .before .before .before .before .before .args in
+    let append = c .before .before .before .before .before .before .before .before .before .before .before .before .before .before .before .before .before .before .before .before .append in
+    let append-name = c .before .before .before .before .before .before .before .before .before .before .before .before .before .before .before .append-name in
+    let append-name2 = c .before .before .before .before .before .before .before .before .before .before .append-name2 in
+    let append-end = c .before .before .before .before .before .before .append-end in
+    from-start (as-text (names-then (nameBytes (sigOf (args .a .a)) ∷ nameBytes (sigOf (args .b .a)) ∷ []) (gateName nameBytes (args .g)) (linesOf (binaryForm (args .t)) 2) (two-names (nameBytes (sigOf (args .a .a))) (nameBytes (sigOf (args .b .a))))) (and-append (and-append (and-append (and-append (append .ensures) (append-name .ensures)) (append-name2 .ensures)) (append-end .ensures)) (c .before .before .append-binary-lines .ensures)))
+
+pub write-binary-spec : {M : Type 1} → statement M
+write-binary-spec =
+    tie.close
+    (tie.spec
+    slice-aggregate-append
+    append-requires
+    slice-aggregate-append-name
+    append-name-requires
+    slice-aggregate-append-name-2
+    append-name-requires-2
+    append-end-requires
+    append-binary-lines-requires
+    same-length
+    returns)

@@ -1,0 +1,26 @@
+-- The texts of blocks (document 01, "The text"). Assumes nothing: these are definitions.
+use mathlib.Core.Bool.{Bool, true, false, cond}
+use mathlib.Core.List.{[], _++_, flatMap}
+use Prim.Native.Nat.{ℕ}
+use Rattle.lists.specs.Lists.{Bytes}
+use Rattle.signal.specs.Signal.{Signal}
+use Rattle.blif_meaning.specs.Model.{Block}
+use Rattle.blif_writing.specs.Names.{nameBytes}
+use Rattle.blif_writing.specs.WrittenModel.{isConst, unless, gateName}
+use Rattle.blif_writing.specs.Text.{line, flopLine, storedLine, blockLines}
+
+-- the lines of a block, each with its end
+abbrev pub blockText : Block Bytes → Bytes
+blockText b = flatMap line (blockLines b)
+
+-- a field of a `.flop` line with the signal's name, "unless enable is one" or "unless reset is zero"
+unfoldable pub fieldText : Bool → Bytes → Signal → Bytes
+fieldText v key s = cond (isConst v s) [] (key ++ nameBytes s)
+
+-- "`.flop D=d Q=xN init=0`, then ` E=e` unless enable is one, then ` R=r` unless reset is zero"
+unfoldable pub flopText : Signal → Signal → Signal → ℕ → Bytes
+flopText d e r g = line (flopLine (nameBytes d) (unless nameBytes true e) (unless nameBytes false r) (gateName nameBytes g))
+
+-- the line of a flip-flop
+unfoldable pub storedText : Signal → Signal → Signal → ℕ → Bytes
+storedText d e r g = line (storedLine (nameBytes d) (unless nameBytes true e) (unless nameBytes false r) (gateName nameBytes g))

@@ -1,0 +1,6 @@
+pub mod FormLines
+pub mod Masks
+pub mod NamesDiffer
+pub mod Blocks
+pub mod Writing
+pub mod Summary

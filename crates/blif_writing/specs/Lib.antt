@@ -1,0 +1,3 @@
+pub mod WrittenModel
+pub mod Names
+pub mod Text

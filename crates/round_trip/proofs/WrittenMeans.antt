@@ -1,0 +1,72 @@
+-- The model written for a network is accepted, and has just the network's runs. Assumes nothing.
+use mathlib.Core.Path.{_≡_, refl, sym, ap, _∙_, subst}
+use mathlib.Core.Bool.{Bool, true}
+use mathlib.Core.List.{List, map}
+use mathlib.Core.Option.{some}
+use mathlib.Core.Logic.{_↔_}
+use Prim.Native.Nat.{ℕ}
+use lib.ListN.{length-map}
+use Rattle.lists.specs.Lists.{Dup, range}
+use Rattle.lists.proofs.Range.{length-range}
+use Rattle.signal.specs.Signal.{Input, Signal, plain}
+use Rattle.gates.specs.Gate.{Gate, Comb, Dff}
+use Rattle.gates.specs.Forms.{formed}
+use Rattle.network.specs.Net.{Net, Valid, Formed, Loop}
+use Rattle.network.specs.Settle.{run}
+use Rattle.network.proofs.OneChoice.{ranked}
+use Rattle.sort_order.specs.Sorted.{sorted, Preserved}
+use Rattle.sort_order.proofs.Summary.{sorted-keeps}
+use Rattle.blif_meaning.specs.Model.{BlifRuns}
+use Rattle.blif_reading.specs.Lookup.{defined, lookup}
+use Rattle.blif_writing.specs.WrittenModel.{written}
+use Rattle.round_trip.specs.Conditions.{Good, PlainGate}
+use Rattle.network.specs.Settle.{SameOutputs}
+use Rattle.blif_reading.specs.Accepts.{Accepts, Closed}
+use Rattle.blif_reading.proofs.Lookups.{looks}
+use Rattle.blif_reading.proofs.BuiltFree.{built-free}
+use Rattle.blif_reading.proofs.Meaning.{builtOf, accepted-valid, model-run, sorted-means}
+use Rattle.blif_writing.proofs.Writing.{written-runs}
+use Rattle.round_trip.proofs.Written.{written-good, written-ranked, written-closed}
+use Rattle.round_trip.proofs.WrittenOnce.{written-once}
+
+-- a gate of demand 3 has as many inputs as its form can have
+plain-formed : (x : Gate) → PlainGate x → formed x ≡ true
+plain-formed (Comb f ps) p = p
+plain-formed (Dff s) p = refl
+
+pub good-formed : (net : Net) → Good net → Formed net
+good-formed net good g x e = plain-formed x (good .plainGates g x e)
+
+module _ {Name : Type 0} (dec : (x y : Name) → Dec (x ≡ y)) (name : Signal → Name) (unnamed : Name → Signal) (back : (s : Signal) → unnamed (name s) ≡ s) where
+  module _ (net : Net) (valid : Valid net) (free : Loop net → ⊥) (counts : Formed net) where
+    -- what is written is accepted
+    pub written-accepts : Accepts dec (written name net)
+    written-accepts =
+        let once : Dup (defined (written name net)) → ⊥ = written-once name net (λ x y e. sym (back x) ∙ ap unnamed e ∙ back y) in
+        let closed : Closed (written name net) = written-closed name net valid in
+        record {
+          once = once;
+          closed = closed;
+          good = written-good name net counts;
+          free = built-free (written name net) (lookup dec (written name net)) (looks dec (written name net) once) closed (written-ranked name net (ranked net free) unnamed back);
+        }
+
+    -- the network's outputs are the model's
+    outputs-are : (rows : List (List Bool)) → BlifRuns (written name net) rows (run net rows)
+    outputs-are = written-runs name net counts unnamed back valid free
+
+    -- and no others are
+    pub written-means : (rows outs : List (List Bool)) → BlifRuns (written name net) rows outs ↔ (outs ≡ run net rows)
+    written-means rows outs =
+        let m = model-run dec (written name net) written-accepts rows in
+        ((λ r. m outs .0 r ∙ sym (m (run net rows) .0 (outputs-are rows))), (λ e. subst (BlifRuns (written name net) rows) (sym e) (outputs-are rows)))
+
+    -- so the network read, its gates sorted, gives the outputs of the network written
+    pub same-outputs : (new : Net) → sorted (builtOf dec (written name net)) ≡ some new → SameOutputs new net
+    same-outputs new e =
+        let k : Preserved (builtOf dec (written name net)) new = sorted-keeps (builtOf dec (written name net)) new (accepted-valid dec (written name net) written-accepts) e in
+        record {
+          inputs = k .inputs ∙ length-map (range 0 (net .inputs)) (λ (i : ℕ). name (plain (Input i))) ∙ length-range 0 (net .inputs);
+          outputs = k .outputs ∙ length-map (map name (net .outputs)) (lookup dec (written name net)) ∙ length-map (net .outputs) name;
+          runs = λ rows. sym (sorted-means dec (written name net) written-accepts new e rows (run net rows) .0 (outputs-are rows));
+        }
