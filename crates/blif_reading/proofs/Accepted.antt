@@ -25,7 +25,8 @@ use Rattle.blif_reading.specs.Build.{build}
 use Rattle.blif_reading.specs.Lookup.{byte-names}
 use Rattle.blif_reading.specs.TextModel.{blockOf, modelOf, modelOfText}
 use Rattle.blif_reading.specs.Read.{declFault, readFault, read, answer, look, builtFrom, readText}
-use Rattle.blif_reading.specs.Accepts.{Accepts, GoodBlock}
+use Rattle.blif_reading.specs.Accepts.{Accepts}
+use Rattle.blif_meaning.specs.WellFormed.{GoodBlock}
 use Rattle.blif_reading.proofs.Meaning.{builtOf, sorted-means}
 use Rattle.blif_reading.proofs.Passed.{Passed, passed, passed-valid, closed-of, once-of, good-of, goods-of}
 
@@ -61,9 +62,11 @@ reads-of s new e =
     let p : Passed ds = r .0 in
     record {
       accepted = record {
-        once = once-of ds (p .named);
-        closed = closed-of ds (p .used);
-        good = λ b w. let t = Memᴰ·of-map blockOf (defs ds) w in subst GoodBlock (t .2) (good-of (t .0) (goods-of (defs ds) (p .covered) (t .0) (t .1)));
+        formed = record {
+          once = once-of ds (p .named);
+          closed = closed-of ds (p .used);
+          good = λ b w. let t = Memᴰ·of-map blockOf (defs ds) w in subst GoodBlock (t .2) (good-of (t .0) (goods-of (defs ds) (p .covered) (t .0) (t .1)));
+        };
         free = sorted-free (build (look ds) (modelOf ds)) (passed-valid ds p) new (r .1);
       };
       isSorted = r .1;

@@ -15,7 +15,7 @@ use Rattle.network.specs.Net.{Net, GateIs, Loop}
 use Rattle.network.proofs.OneChoice.{rises-free}
 use Rattle.blif_meaning.specs.Model.{Line, Block, Latch, Cover, Model, target}
 use Rattle.blif_reading.specs.Build.{literals, lineGate, coverGate, blockGate, moreGates, mains, extras, build}
-use Rattle.blif_reading.specs.Accepts.{sources, Defined, Closed}
+use Rattle.blif_meaning.specs.WellFormed.{sources, Defined, Closed}
 use Rattle.blif_reading.proofs.Lookups.{Looks}
 use Rattle.blif_reading.proofs.Along.{Seg, seg-append, seg-of, Each, each-of, each-append, each-at, place-front}
 use Rattle.blif_reading.proofs.CoverPins.{litNames, literals-all, line-all, cover-all, lit-source}

@@ -13,7 +13,7 @@ use Rattle.network.specs.Net.{GateIs}
 use Rattle.network.specs.Clock.{Clock, sigBit}
 use Rattle.blif_meaning.specs.Model.{Line, Feed, Block, Latch, Cover, Model, target, optBit, blockBit, coverBit, BlifClock}
 use Rattle.blif_reading.specs.Build.{optSig, lineGate, lineGates, blockGate, moreGates, mains, extras, build}
-use Rattle.blif_reading.specs.Accepts.{Closed, GoodBlock}
+use Rattle.blif_meaning.specs.WellFormed.{Closed, GoodBlock}
 use Rattle.blif_reading.proofs.Lookups.{Looks}
 use Rattle.lists.proofs.Places.{place-mem, mem-place, place-left, place-right, map-map}
 use Rattle.blif_reading.proofs.Covers.{lineBit, linesBits, line-bit, cover-bit}

@@ -11,7 +11,7 @@ use Rattle.gates.specs.Gate.{Gate, pins}
 use Rattle.network.specs.Net.{Valid, ValidNode}
 use Rattle.blif_meaning.specs.Model.{Line, Block, Latch, Cover, Model}
 use Rattle.blif_reading.specs.Build.{optSig, lineGate, blockGate, moreGates, mains, extras, build}
-use Rattle.blif_reading.specs.Accepts.{optName, sources, Defined, Closed}
+use Rattle.blif_meaning.specs.WellFormed.{optName, sources, Defined, Closed}
 use Rattle.blif_reading.proofs.Lookups.{Looks}
 use Rattle.lists.proofs.Places.{place-lt}
 use Rattle.blif_reading.proofs.ModelToBuilt.{mains-length}

@@ -11,7 +11,7 @@ use Rattle.network.proofs.SignalBits.{turned-bit}
 use Rattle.blif_meaning.specs.Model.{Col, C0, C1, Dash, Line, cubeBit, cubesBit, coverBit}
 use Rattle.blif_reading.proofs.Along.{Seg}
 use Rattle.blif_reading.specs.Build.{literals, literalGate, lineGate, gateRun, coverGate}
-use Rattle.blif_reading.specs.Accepts.{GoodLines}
+use Rattle.blif_meaning.specs.WellFormed.{GoodLines}
 
 -- what the gate of a line is to be
 abbrev pub lineBit : List Bool → Line → Bool

@@ -10,7 +10,8 @@ use Rattle.lists.proofs.Find.{find-at, find-out}
 use Rattle.lists.proofs.Once.{dup-left, dup-right, dup-both}
 use Rattle.signal.specs.Signal.{Input, Gated, Signal, plain}
 use Rattle.blif_meaning.specs.Model.{Block, Model, target}
-use Rattle.blif_reading.specs.Lookup.{defined, signalOf, lookup}
+use Rattle.blif_reading.specs.Lookup.{signalOf, lookup}
+use Rattle.blif_meaning.specs.WellFormed.{defined}
 
 module _ {Name : Type 0} where
   -- `look` gives each defined name its signal: what the search finds where no name is defined twice (refusal 10)

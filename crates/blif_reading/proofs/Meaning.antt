@@ -27,18 +27,18 @@ module _ {Name : Type 0} (dec : (x y : Name) → Dec (x ≡ y)) where
 
   module _ (m : Model Name) (acc : Accepts dec m) where
     looked : Looks m (lookup dec m)
-    looked = looks dec m (acc .once)
+    looked = looks dec m (acc .formed .once)
 
     pub accepted-valid : Valid (builtOf m)
-    accepted-valid = built-valid m (lookup dec m) looked (acc .closed)
+    accepted-valid = built-valid m (lookup dec m) looked (acc .formed .closed)
 
     -- the model's runs are those of the gates as built
     pub built-means : (rows outs : List (List Bool)) → BlifRuns m rows outs ↔ NetRuns (builtOf m) rows outs
     built-means rows outs = (
-      runs-along (Holds m (lookup dec m) looked (acc .closed) (acc .good)) (BlifClock m) (Clock (builtOf m))
-          (read-simulates m (lookup dec m) looked (acc .closed) (acc .good)) (λ (x : Name). false) zeroBits rows outs (λ j f q e. refl),
-      runs-along (HoldsBack m (lookup dec m) looked (acc .closed) (acc .good)) (Clock (builtOf m)) (BlifClock m)
-          (read-back-simulates m (lookup dec m) looked (acc .closed) (acc .good)) zeroBits (λ (x : Name). false) rows outs (λ j f q e. refl),
+      runs-along (Holds m (lookup dec m) looked (acc .formed .closed) (acc .formed .good)) (BlifClock m) (Clock (builtOf m))
+          (read-simulates m (lookup dec m) looked (acc .formed .closed) (acc .formed .good)) (λ (x : Name). false) zeroBits rows outs (λ j f q e. refl),
+      runs-along (HoldsBack m (lookup dec m) looked (acc .formed .closed) (acc .formed .good)) (Clock (builtOf m)) (BlifClock m)
+          (read-back-simulates m (lookup dec m) looked (acc .formed .closed) (acc .formed .good)) zeroBits (λ (x : Name). false) rows outs (λ j f q e. refl),
     )
 
     -- so for every list of rows the model has just one list of outputs

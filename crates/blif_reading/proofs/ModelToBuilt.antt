@@ -17,7 +17,7 @@ use Rattle.network.specs.Net.{Net}
 use Rattle.network.specs.Clock.{Fits, Clock, sigBit, gateBit}
 use Rattle.blif_meaning.specs.Model.{Line, Feed, Block, Latch, Cover, Model, target, optBit, blockBit, coverBit, BlifClock}
 use Rattle.blif_reading.specs.Build.{lineGate, optSig, blockGate, moreGates, mains, extras, build}
-use Rattle.blif_reading.specs.Accepts.{optName, sources, Defined, Closed, GoodBlock}
+use Rattle.blif_meaning.specs.WellFormed.{optName, sources, Defined, Closed, GoodBlock}
 use Rattle.blif_reading.proofs.Lookups.{Looks}
 use Rattle.lists.proofs.Places.{place-mem, place-left, map-on, map-map, map-place}
 use Rattle.blif_reading.proofs.Covers.{lineBit, linesBits, line-bit, cover-bit}

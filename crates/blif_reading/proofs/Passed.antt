@@ -22,8 +22,8 @@ use Rattle.refusals.proofs.Order.{refused-ne-fine, then-left, then-right, fine-
 use Rattle.network.specs.Net.{Valid}
 use Rattle.blif_text.specs.Decls.{Def, latch, cover, Decl, model, end, inputs, outputs, gate, insOf, defsOf, ins, outs, defs, coverOut, coverIns, defines, usedNames, columns, output, isOne}
 use Rattle.blif_meaning.specs.Model.{Model, target}
-use Rattle.blif_reading.specs.Accepts.{sources, Defined, Closed, GoodLines, GoodBlock}
-use Rattle.blif_reading.specs.Lookup.{defined, byte-names}
+use Rattle.blif_reading.specs.Lookup.{byte-names}
+use Rattle.blif_meaning.specs.WellFormed.{defined, sources, Defined, Closed, GoodLines, GoodBlock}
 use Rattle.blif_reading.specs.TextModel.{colOfByte, lineOf, blockOf, modelOf}
 use Rattle.blif_reading.specs.Read.{tooLarge, twice, naming, undefined, goodLine, coverFault, coverFaults, declFault, look, builtFrom}
 use Rattle.blif_reading.proofs.Lookups.{looks}

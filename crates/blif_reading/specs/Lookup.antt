@@ -16,10 +16,6 @@ signalOf none (some j) = plain (Gated j)
 signalOf none none = zeroS
 
 module _ {Name : Type 0} where
-  -- the names that the model defines: inputs, then latch and cover outputs
-  abbrev pub defined : Model Name → List Name
-  defined m = m .inputs ++ map target (m .blocks)
-
   -- the signal of a name: the inputs count from 0, and so do the latches and covers in text order
   abbrev pub lookup : ((x y : Name) → Dec (x ≡ y)) → Model Name → Name → Signal
   lookup dec m x = signalOf (find dec (m .inputs) x) (find dec (map target (m .blocks)) x)

@@ -1,8 +1,9 @@
 -- What is written, as a reviewer would read it (document 01, src/io/blif.rs and src/io/utils.rs). Assumes nothing.
---   lines-mean    the cover lines of each form mean the form
---   mask-bits     the masks of an Xor stand in rising order
---   names-differ  two signals never share a name
---   written-runs  the model written for a network gives the network's outputs
+--   lines-mean      the cover lines of each form mean the form
+--   mask-bits       the masks of an Xor stand in rising order
+--   names-differ    two signals never share a name
+--   written-formed  it is well-formed
+--   written-runs    the model written for a network gives the network's outputs
 use mathlib.Core.Path.{_≡_, sym, ap, _∙_}
 use mathlib.Core.Bool.{Bool, true, false}
 use mathlib.Core.List.{List, []}
@@ -21,6 +22,8 @@ use Rattle.blif_writing.proofs.FormLines as forms
 use Rattle.blif_writing.proofs.Masks as order
 use Rattle.blif_writing.proofs.NamesDiffer.{unname, unname-name}
 use Rattle.blif_writing.proofs.Writing as writing
+use Rattle.blif_writing.proofs.WrittenFormed as formed
+use Rattle.blif_meaning.specs.WellFormed.{WellFormed}
 
 -- the cover lines of each form, "And 11; Xor 10, 01; ..", mean what the form makes of its inputs' bits, for every pin count that the form
 -- can have
@@ -40,3 +43,7 @@ names-differ s t e = sym (unname-name s) ∙ ap unname e ∙ unname-name t
 -- `written-means` (round_trip)
 pub written-runs : (net : Net) → Valid net → (Loop net → ⊥) → Formed net → (rows : List (List Bool)) → BlifRuns (written nameBytes net) rows (run net rows)
 written-runs net valid free formed = writing.written-runs nameBytes net formed unname unname-name valid free
+
+-- it is well-formed: each name is defined once, every name that is used is defined, and the lines fit
+pub written-formed : (net : Net) → Valid net → Formed net → WellFormed (written nameBytes net)
+written-formed net = formed.written-formed nameBytes net names-differ

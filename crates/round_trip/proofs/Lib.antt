@@ -1,5 +1,4 @@
-pub mod Written
-pub mod WrittenOnce
+pub mod Ranks
 pub mod WrittenMeans
 pub mod BlocksSaid
 pub mod Rendered

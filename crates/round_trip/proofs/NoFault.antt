@@ -20,12 +20,13 @@ use Rattle.network.specs.Net.{Net, GateIs}
 use Rattle.signal.specs.Signal.{oneS, zeroS}
 use Rattle.blif_text.specs.Decls.{Decl, gate, cover, defs, defines, usedNames, columns, output, isOne, declsOf}
 use Rattle.blif_meaning.specs.Model.{Col, C0, C1, Dash, Line, Block, Latch, Cover, Model, target}
-use Rattle.blif_reading.specs.Lookup.{defined, byte-names}
+use Rattle.blif_reading.specs.Lookup.{byte-names}
+use Rattle.blif_meaning.specs.WellFormed.{defined, sources, optName, Defined, GoodLines, GoodBlock}
 use Rattle.blif_writing.specs.WrittenModel.{written}
 use Rattle.blif_writing.specs.Names.{nameBytes}
 use Rattle.blif_writing.specs.Text.{colByte, textOf}
 use Rattle.blif_reading.specs.Read.{tooLarge, twice, naming, undefined, goodLine, coverFault, coverFaults, declFault, readFault}
-use Rattle.blif_reading.specs.Accepts.{Accepts, sources, optName, Defined, GoodLines, GoodBlock}
+use Rattle.blif_reading.specs.Accepts.{Accepts}
 use Rattle.round_trip.proofs.BlocksSaid.{tok, tokOf, defOf, gateOf, last-at, cover-ins, cover-out, tok-columns, tok-one}
 use Rattle.round_trip.proofs.Rendered.{textDecls, text-ascii, text-sound, decls-of, ins-are, outs-are, defs-are}
 
@@ -152,14 +153,14 @@ module _ (net : Net) (plainFlops : (g : ℕ) (s : FlipFlop) → GateIs net g (Df
   no-naming : naming false [] dl ≡ Fine
   unfolding naming when _then_
   no-naming =
-      rw (not-twice [] (w .inputs) (λ d. acc .once (dup-left (w .inputs) (map target (w .blocks)) d)))
-      (names-once true (w .inputs) (w .blocks) (acc .once))
+      rw (not-twice [] (w .inputs) (λ d. acc .formed .once (dup-left (w .inputs) (map target (w .blocks)) d)))
+      (names-once true (w .inputs) (w .blocks) (acc .formed .once))
 
   all-known : (x : Bytes) → List·Memᴰ x (w .outputs ++ flatMap usedNames (map defOf (w .blocks))) → known x (defined w) ≡ true
   all-known x m =
       mem-known x (defined w) (defined-mem w x (
-      ⊎-elim (λ (v : List·Memᴰ x (w .outputs)). acc .closed .outputsDefined x v)
-      (λ (v : List·Memᴰ x (flatMap usedNames (map defOf (w .blocks)))). let t = uses-mem (w .blocks) x v in acc .closed .sourcesDefined (t .0) x (t .1) (t .2)) (List·Memᴰ·append-cases (w .outputs) m)))
+      ⊎-elim (λ (v : List·Memᴰ x (w .outputs)). acc .formed .closed .outputsDefined x v)
+      (λ (v : List·Memᴰ x (flatMap usedNames (map defOf (w .blocks)))). let t = uses-mem (w .blocks) x v in acc .formed .closed .sourcesDefined (t .0) x (t .1) (t .2)) (List·Memᴰ·append-cases (w .outputs) m)))
 
   none-undefined : undefined dl ≡ false
   unfolding undefined
@@ -171,7 +172,7 @@ module _ (net : Net) (plainFlops : (g : ℕ) (s : FlipFlop) → GateIs net g (Df
       ∙ ap not (mem-all (λ (n : Bytes). known n (defined w)) (w .outputs ++ flatMap usedNames (map defOf (w .blocks))) all-known)
 
   no-cover-fault : coverFaults (defs dl) ≡ Fine
-  no-cover-fault = ap coverFaults (defs-are net plainFlops) ∙ covers-good (w .blocks) (acc .good)
+  no-cover-fault = ap coverFaults (defs-are net plainFlops) ∙ covers-good (w .blocks) (acc .formed .good)
 
   decls-are : declsOf (textOf net) ≡ dl
   decls-are = decls-of net plainFlops

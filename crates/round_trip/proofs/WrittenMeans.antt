@@ -6,7 +6,7 @@ use mathlib.Core.Option.{some}
 use mathlib.Core.Logic.{_↔_}
 use Prim.Native.Nat.{ℕ}
 use lib.ListN.{length-map}
-use Rattle.lists.specs.Lists.{Dup, range}
+use Rattle.lists.specs.Lists.{range}
 use Rattle.lists.proofs.Range.{length-range}
 use Rattle.signal.specs.Signal.{Input, Signal, plain}
 use Rattle.gates.specs.Gate.{Gate, Comb, Dff}
@@ -17,17 +17,17 @@ use Rattle.network.proofs.OneChoice.{ranked}
 use Rattle.sort_order.specs.Sorted.{sorted, Preserved}
 use Rattle.sort_order.proofs.Summary.{sorted-keeps}
 use Rattle.blif_meaning.specs.Model.{BlifRuns}
-use Rattle.blif_reading.specs.Lookup.{defined, lookup}
+use Rattle.blif_reading.specs.Lookup.{lookup}
 use Rattle.blif_writing.specs.WrittenModel.{written}
 use Rattle.round_trip.specs.Conditions.{Good, PlainGate}
 use Rattle.network.specs.Settle.{SameOutputs}
-use Rattle.blif_reading.specs.Accepts.{Accepts, Closed}
+use Rattle.blif_reading.specs.Accepts.{Accepts}
 use Rattle.blif_reading.proofs.Lookups.{looks}
 use Rattle.blif_reading.proofs.BuiltFree.{built-free}
 use Rattle.blif_reading.proofs.Meaning.{builtOf, accepted-valid, model-run, sorted-means}
 use Rattle.blif_writing.proofs.Writing.{written-runs}
-use Rattle.round_trip.proofs.Written.{written-good, written-ranked, written-closed}
-use Rattle.round_trip.proofs.WrittenOnce.{written-once}
+use Rattle.round_trip.proofs.Ranks.{written-ranked}
+use Rattle.blif_writing.proofs.WrittenFormed.{written-formed}
 
 -- a gate of demand 3 has as many inputs as its form can have
 plain-formed : (x : Gate) → PlainGate x → formed x ≡ true
@@ -42,14 +42,9 @@ module _ {Name : Type 0} (dec : (x y : Name) → Dec (x ≡ y)) (name : Signal �
     -- what is written is accepted
     pub written-accepts : Accepts dec (written name net)
     written-accepts =
-        let once : Dup (defined (written name net)) → ⊥ = written-once name net (λ x y e. sym (back x) ∙ ap unnamed e ∙ back y) in
-        let closed : Closed (written name net) = written-closed name net valid in
-        record {
-          once = once;
-          closed = closed;
-          good = written-good name net counts;
-          free = built-free (written name net) (lookup dec (written name net)) (looks dec (written name net) once) closed (written-ranked name net (ranked net free) unnamed back);
-        }
+        let formed = written-formed name net (λ x y e. sym (back x) ∙ ap unnamed e ∙ back y) valid counts in
+        let looked = looks dec (written name net) (formed .once) in
+        record { formed = formed; free = built-free (written name net) (lookup dec (written name net)) looked (formed .closed) (written-ranked name net (ranked net free) unnamed back) }
 
     -- the network's outputs are the model's
     outputs-are : (rows : List (List Bool)) → BlifRuns (written name net) rows (run net rows)

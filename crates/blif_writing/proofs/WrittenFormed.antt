@@ -1,10 +1,10 @@
--- The model written for a network is one that reading accepts: good lines, names defined and defined once, ranks. Assumes nothing.
+-- The model written for a network is well-formed. Assumes nothing.
 use mathlib.Core.Path.{_≡_, refl, sym, ap, _∙_, subst}
 use mathlib.Core.List.{List, [], _∷_, _++_, map, List·Memᴰ, List·Memᴰ·head, List·Memᴰ·tail, Memᴰ·cast, List·Memᴰ·not-nil, List·Memᴰ·cases-cons, List·Memᴰ·append-cases, Memᴰ·append-left, Memᴰ·append-right, Memᴰ·of-map, Memᴰ·map, List·Memᴰ·eq-of-singleton}
 use mathlib.Core.Bool.{Bool, true, false, not, _&&_, _||_, cond, or-true}
 use mathlib.Core.Option.{none, some}
 use mathlib.Core.Logic.{inl, inr, ⊎-elim}
-use Prim.Native.Nat.{ℕ, zero, suc, _+_, _*_, _≤_, _<_}
+use Prim.Native.Nat.{ℕ, zero, suc}
 use native.Mathlib.Omega.{arith}
 use native.Mathlib.Nat.{zero-add}
 use lib.ListN.{length, getElem?, length-map, length-replicate}
@@ -15,14 +15,12 @@ use Rattle.signal.specs.Signal.{Node, Const, Input, Gated, Signal, plain, turne
 use Rattle.gates.specs.Gate.{Form, And2, Xor2, And3, Xor3, Maj3, Mux3, AndN, OrN, NandN, NorN, XorN, XnorN, Buf, Gate, Comb, Dff, pins, odd}
 use Rattle.network.specs.Net.{Net, GateIs, Formed, Valid, ValidNode}
 use Rattle.blif_meaning.specs.Model.{C0, C1, Block, Latch, Cover, Model, target}
-use Rattle.blif_reading.specs.Accepts.{optName, sources, Defined, Closed, GoodLines, GoodBlock}
+use Rattle.blif_meaning.specs.WellFormed.{optName, sources, Defined, Closed, GoodLines, GoodBlock, WellFormed}
 use Rattle.blif_writing.specs.WrittenModel.{isConst, unless, feedOf, coverRow, colOf, doubled, masks, minterms, even, linesOf, sameNode, usedAmong, named, usedIn, inverted, downTo, inverters, bare, gateName, combBlock, latchBlocks, combBlocks, inverterBlock, constBlocks, written}
 use Rattle.lists.specs.Lists.{range}
 use Rattle.lists.proofs.Places.{place-mem, mem-place, lt-place, map-place}
-use Rattle.network.proofs.OneChoice.{Ranked}
-use Rattle.blif_reading.proofs.BuiltFree.{RankedModel}
-use Rattle.blif_reading.proofs.CoverPins.{lit-source}
 use Rattle.blif_writing.proofs.Blocks.{range-mem, downTo-lt, downTo-mem, comb-cases, comb-target, latch-in, comb-in, Source, ofDff, ofComb, ofInverter, ofOne, ofZero, source}
+use Rattle.blif_writing.proofs.WrittenOnce.{written-once}
 use Rattle.lists.proofs.Once.{filter-mem, mem-filter}
 
 -- ---- lines
@@ -81,74 +79,6 @@ module _ {Name : Type 0} (name : Signal → Name) where
         go (ofInverter n w q) = subst GoodBlock (sym q) (true, (refl, refl, tt))
         go (ofOne q) = subst GoodBlock (sym q) (true, (refl, refl, tt))
         go (ofZero q) = subst GoodBlock (sym q) (true, tt)
-
-  -- ---- ranks
-
-  module _ (net : Net) (rk : Ranked net) (unname : Name → Signal) (back : (s : Signal) → unname (name s) ≡ s) where
-    abbrev nodeRank : Node → ℕ
-    nodeRank Const = 0
-    nodeRank (Input i) = 0
-    nodeRank (Gated g) = suc (rk .rank g)
-
-    abbrev signRank : Bool → ℕ
-    signRank false = 0
-    signRank true = 1
-
-    abbrev sigRank : Signal → ℕ
-    sigRank s = 2 * nodeRank (s .node) + signRank (s .inv)
-
-    rankName : Name → ℕ
-    rankName y = sigRank (unname y)
-
-    rank-name : (s : Signal) → rankName (name s) ≡ sigRank s
-    unfolding rankName
-    rank-name s = ap sigRank (back s)
-
-    sign-le : (b : Bool) → signRank b ≤ 1
-    sign-le false = omega arith
-    sign-le true = omega arith
-
-    node-rises : (g : ℕ) (f : Form) (ps : List Signal) → GateIs net g (Comb f ps) → (s : Signal) → List·Memᴰ s ps → nodeRank (s .node) < suc (rk .rank g)
-    node-rises g f ps p s m = go (s .node) refl
-      where
-        go : (n : Node) → s .node ≡ n → nodeRank n < suc (rk .rank g)
-        go Const e = omega arith
-        go (Input i) e = omega arith
-        go (Gated h) e = let u : rk .rank h < rk .rank g = rk .rises g h f ps s p m e in omega arith
-
-    abbrev AboveB : Block Name → Type 0
-    AboveB (Latch d q) = Unit {0}
-    AboveB (Cover xs y ls) = (x : Name) → List·Memᴰ x xs → rankName x < rankName y
-
-    comb-above : (g : ℕ) (f : Form) (ps : List Signal) → GateIs net g (Comb f ps) → AboveB (combBlock name g f ps)
-    comb-above g = comb-cases name (λ f ps b. GateIs net g (Comb f ps) → AboveB b) g
-        (λ ps p x m. let t = Memᴰ·of-map (λ (s : Signal). name (bare s)) ps m in
-        let u : nodeRank (t .0 .node) < suc (rk .rank g) = node-rises g Buf ps p (t .0) (t .1) in
-        let v : rankName x ≡ sigRank (bare (t .0)) = ap rankName (sym (t .2)) ∙ rank-name (bare (t .0)) in
-        let w : rankName (gateName name g) ≡ sigRank (plain (Gated g)) = rank-name (plain (Gated g)) in
-        omega arith)
-        (λ f ps e p x m. let t = Memᴰ·of-map name ps m in
-        let u : nodeRank (t .0 .node) < suc (rk .rank g) = node-rises g f ps p (t .0) (t .1) in
-        let v : rankName x ≡ sigRank (t .0) = ap rankName (sym (t .2)) ∙ rank-name (t .0) in
-        let w : rankName (gateName name g) ≡ sigRank (plain (Gated g)) = rank-name (plain (Gated g)) in
-        let z : signRank (t .0 .inv) ≤ 1 = sign-le (t .0 .inv) in
-        omega arith)
-
-    inverter-above : (n : Node) → AboveB (inverterBlock name n)
-    inverter-above n x m =
-        let v : rankName x ≡ sigRank (plain n) = ap rankName (List·Memᴰ·eq-of-singleton m) ∙ rank-name (plain n) in
-        let w : rankName (name (turned (plain n))) ≡ sigRank (turned (plain n)) = rank-name (turned (plain n)) in
-        omega arith
-
-    block-above : (b : Block Name) → Source name net b → AboveB b
-    block-above b (ofDff g s p q) = subst AboveB (sym q) tt
-    block-above b (ofComb g f ps p q) = subst AboveB (sym q) (comb-above g f ps p)
-    block-above b (ofInverter n w q) = subst AboveB (sym q) (inverter-above n)
-    block-above b (ofOne q) = subst AboveB (sym q) (λ x m. absurd (List·Memᴰ·not-nil m))
-    block-above b (ofZero q) = subst AboveB (sym q) (λ x m. absurd (List·Memᴰ·not-nil m))
-
-    pub written-ranked : RankedModel (written name net)
-    written-ranked = record { rankOf = rankName; over = λ xs y ls l x m w v. block-above (Cover xs y ls) (source name net (Cover xs y ls) m) x (lit-source (l .cols) xs x v) }
 
 -- ---- every name used is defined
 
@@ -281,3 +211,8 @@ module _ {Name : Type 0} (name : Signal → Name) where
           subst (Defined m) (t .2) (signal-defined (t .0) (valid .outsValid (t .0) (t .1)) (λ e. or-left (usedAmong (t .0 .node) (net .outputs)) (usedIn (t .0 .node) (net .gates)) (used-among (t .0) (net .outputs) e (t .1))));
       sourcesDefined = λ b x w v. block-sources b (source name net b w) x v;
     }
+
+-- each name is defined once where two signals never share one
+pub written-formed : {Name : Type 0} (name : Signal → Name) (net : Net) → ((s t : Signal) → name s ≡ name t → s ≡ t) → Valid net → Formed net → WellFormed (written name net)
+written-formed name net differ valid formed =
+    record { once = written-once name net differ; closed = written-closed name net valid; good = written-good name net formed }

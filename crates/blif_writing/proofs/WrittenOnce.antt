@@ -12,10 +12,10 @@ use Rattle.gates.specs.Gate.{Gate, Comb, Dff, isComb}
 use Rattle.network.specs.Net.{Net}
 use Rattle.blif_meaning.specs.Model.{target}
 use Rattle.lists.specs.Lists.{range, Dup}
 use Rattle.blif_writing.specs.WrittenModel.{downTo, inverted, inverters, gateName, latchBlocks, combBlocks, inverterBlock, written}
-use Rattle.blif_reading.specs.Lookup.{defined}
+use Rattle.blif_meaning.specs.WellFormed.{defined}
 use Rattle.lists.proofs.Places.{map-map}
 use Rattle.blif_writing.proofs.Blocks.{range-mem, downTo-lt, comb-target}
 use Rattle.lists.proofs.Once.{once-nil, once-cons, once-append, once-map, once-filter, mem-filter}
 
 abbrev isDff : Gate → Bool
