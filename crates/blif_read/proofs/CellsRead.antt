@@ -6,11 +6,11 @@ use Prim.Native.Nat.{ℕ}
 use native.Mathlib.Omega.{arith}
 use lib.ListN.{length-replicate}
 use Rattle.lists.specs.Lists.{Bytes, zeros}
-use Rattle.lists.proofs.Over.{length-over}
+use Rattle.lists.proofs.Over.{length-overwrite}
 use Rattle.signal.specs.Cell.{sigCell}
 use Rattle.network.specs.Net.{Net}
 use Rattle.network.specs.Cells.{gateCells, pinCells, lent, countsOf, netOf, isNetwork}
-use Rattle.network.proofs.Laying.{laid-over}
+use Rattle.network.proofs.Laying.{laid-overwrite}
 use Rattle.network.proofs.Lent.{laid-network}
 use Rattle.blif_reading.specs.Read.{Result, read, readText}
 use Rattle.blif_reading.proofs.ReadNet.{NetRead, read-net}
@@ -36,11 +36,11 @@ module _ (text : Bytes) (net : Net) (n : Lengths) (e : enough n ≡ true) (r : r
   laid : (isNetwork (lent (countsOf net) (filled (read net) n .gates) (filled (read net) n .pins) (filled (read net) n .outputs)) ≡ true)
       × (netOf (lent (countsOf net) (filled (read net) n .gates) (filled (read net) n .pins) (filled (read net) n .outputs)) ≡ net)
   laid =
-      let lg = length-over (gateCells 0 (net .gates)) (zeros (n .gates)) in
-      let lp = length-over (pinCells (net .gates)) (zeros (n .pins)) in
-      let lo = length-over (map sigCell (net .outputs)) (zeros (n .outputs)) in
+      let lg = length-overwrite (gateCells 0 (net .gates)) (zeros (n .gates)) in
+      let lp = length-overwrite (pinCells (net .gates)) (zeros (n .pins)) in
+      let lo = length-overwrite (map sigCell (net .outputs)) (zeros (n .outputs)) in
       laid-network net (lent (countsOf net) (filled (read net) n .gates) (filled (read net) n .pins) (filled (read net) n .outputs))
-      (laid-over net (zeros (n .gates)) (zeros (n .pins)) (zeros (n .outputs)) (omega (arith, known .sizes .gates, room .gates)) (omega (arith, known .sizes .pins, room .pins)) (omega (arith, known .sizes .outputs, room .outputs)))
+      (laid-overwrite net (zeros (n .gates)) (zeros (n .pins)) (zeros (n .outputs)) (omega (arith, known .sizes .gates, room .gates)) (omega (arith, known .sizes .pins, room .pins)) (omega (arith, known .sizes .outputs, room .outputs)))
       (known .valid) (known .formed)
       (record {
         few = known .sizes;

@@ -8,17 +8,17 @@ use native.Mathlib.Omega.{arith}
 use lib.Dec.{leb, ltb}
 use lib.ListN.{length, take, length-map}
 use lib.Seq.{length-take-le}
-use Rattle.lists.specs.Lists.{Bytes, any, over, range}
+use Rattle.lists.specs.Lists.{Bytes, any, overwrite, range}
 use Rattle.lists.proofs.Range.{length-range}
-use Rattle.refusals.specs.Order.{when}
+use Rattle.refusals.specs.Order.{refuseIf}
 use Rattle.refusals.specs.declared.Refusal.the-variants as refusal
 use Rattle.refusals.specs.declared.Checked.the-variants.{Fine}
-use Rattle.refusals.proofs.Order.{then-right}
+use Rattle.refusals.proofs.Order.{orElse-right}
 use Rattle.signal.specs.Cell.{sigCell, sigOf}
 use Rattle.network.specs.Net.{Net}
 use Rattle.network.specs.Cells.{gateWidth, gateCells, pinCells, lent, netOf, countsOf, Laid}
 use Rattle.network.specs.declared.Counts.{Counts}
-use Rattle.network.proofs.Laying.{laid-over}
+use Rattle.network.proofs.Laying.{laid-overwrite}
 use Rattle.sort_order.specs.Sorted.{sorted, Preserved}
 use Rattle.sort.specs.Into.{SortOutcome, sortOutcome, sortInto}
 use Rattle.sort_order.specs.Sortable.{Sortable}
@@ -29,7 +29,7 @@ use Rattle.blif_text.specs.Statements.{parsed, firstBad}
 use Rattle.blif_text.specs.Places.{maxText}
 use Rattle.blif_text.specs.Decls.{Def, outs, declsOf}
 use Rattle.blif_text.specs.Blocks.{defsAt}
-use Rattle.blif_reading.specs.Read.{declFault, readFault, Result, read, refused, answer, look, builtFrom, readText}
+use Rattle.blif_reading.specs.Read.{declFault, readFault, Result, read, refused, answer, signalOf, builtFrom, readText}
 use Rattle.blif_reading.specs.Working.{GatesIn, placed, builtGates, WorkRoom}
 use Rattle.blif_read_gates.specs.Covers.{Buildable, BuiltBy}
 use Rattle.blif_read_gates.specs.declared.Built.{Built}
@@ -47,8 +47,8 @@ use Rattle.blif_read.proofs.Refusing.{sorted-or-loop}
 decls-none : (text : Bytes) → readFault text ≡ Fine → declFault (declsOf text) ≡ Fine
 unfolding readFault
 decls-none text e =
-    then-right (firstBad (parsed text)) (declFault (declsOf text))
-    (then-right (when (any (leb 128) text) refusal.HighByte) _ (then-right (when (ltb maxText (length text)) refusal.TextTooLong) _ e))
+    orElse-right (firstBad (parsed text)) (declFault (declsOf text))
+    (orElse-right (refuseIf (any (leb 128) text) refusal.HighByte) _ (orElse-right (refuseIf (ltb maxText (length text)) refusal.TextTooLong) _ e))
 
 -- ---- what the sort answers
 
@@ -106,7 +106,7 @@ module _ {text tokens : List ℕ} {n : ℕ} {blocks : List ℕ} {i g o : ℕ} {g
         fewPins = s .pins;
         good = p .covered;
         start = c .used-is;
-        first = (look (declsOf text), c .gates-in);
+        first = (signalOf (declsOf text), c .gates-in);
       })
 
   module _ {gates′ pinsIn′ : List ℕ} {b : Built} (h : BuiltBy (defsAt text tokens n blocks g) gates pinsIn used gates′ pinsIn′ b)
@@ -118,7 +118,7 @@ module _ {text tokens : List ℕ} {n : ℕ} {blocks : List ℕ} {i g o : ℕ} {g
     -- the cells hold what is built
     cells-built : BuiltIn (declsOf text) counts gates′ pinsIn′ os (b .pins)
     cells-built =
-        let signal = look (declsOf text) in
+        let signal = signalOf (declsOf text) in
         record {
           held =
               subst (λ (ds : List Def). GatesIn gates′ pinsIn′ (b .pins) (builtGates signal ds)) (c .blocks-are)
@@ -175,11 +175,11 @@ module _ {text tokens : List ℕ} {n : ℕ} {blocks : List ℕ} {i g o : ℕ} {g
           let hg : length (new .gates) * gateWidth ≤ length gs = omega (arith, ap (λ (a : ReadAnswer). gatesIn a) (counts-are new k kept (f .2)), h .fewGates, ng) in
           let hp : length (pinCells (new .gates)) ≤ length ps = omega (arith, kept .pins, room .pinRoom) in
           let ho : length (new .outputs) ≤ length os = omega (arith, ap (λ (a : ReadAnswer). outputsIn a) (counts-are new k kept (f .2)), outs-room) in
-          let pg : over (gateCells 0 (new .gates)) gs ≡ gs′ = sym (ap (λ (x : SortOutcome Sorted). x .gates) s) in
-          let pp : over (pinCells (new .gates)) ps ≡ ps′ = sym (ap (λ (x : SortOutcome Sorted). x .pins) s) in
-          let po : over (map sigCell (new .outputs)) os ≡ os′ = sym (ap (λ (x : SortOutcome Sorted). x .outs) s) in
+          let pg : overwrite (gateCells 0 (new .gates)) gs ≡ gs′ = sym (ap (λ (x : SortOutcome Sorted). x .gates) s) in
+          let pp : overwrite (pinCells (new .gates)) ps ≡ ps′ = sym (ap (λ (x : SortOutcome Sorted). x .pins) s) in
+          let po : overwrite (map sigCell (new .outputs)) os ≡ os′ = sym (ap (λ (x : SortOutcome Sorted). x .outs) s) in
           let laid : Laid new (lent (countsOf new) gs′ ps′ os′) =
-          subst (Laid new) (λ j. lent (countsOf new) (pg j) (pp j) (po j)) (laid-over new gs ps os hg hp ho) in
+          subst (Laid new) (λ j. lent (countsOf new) (pg j) (pp j) (po j)) (laid-overwrite new gs ps os hg hp ho) in
           subst (λ (x : Result). Holds x (Read (record { inputs = i; gates = b .gates; pins = k; outputs = o })) gs′ ps′ os′)
           (sym (sorted-or-loop text none ∙ some-answer (f .1)))
           (counts-are new k kept (f .2), laid)

@@ -10,7 +10,7 @@ use Rattle.refusals.specs.declared.Checked.the-variants.{Fine}
 use Rattle.signal.specs.Cell.{sigCell}
 use Rattle.blif_text.specs.Decls.{Decl, ins, outs, defs, defines, usedNames}
 use Rattle.name_index.specs.Search.{signalIn}
-use Rattle.blif_reading.specs.Read.{tooLarge, naming, undefined, look}
+use Rattle.blif_reading.specs.Read.{tooLarge, naming, undefined, signalOf}
 use Rattle.blif_read_names.specs.Entries.{entries}
 use Rattle.blif_read_signals.specs.Resolve.{isFound, Signals}
 use Rattle.blif_read_names.proofs.EntryLaws.{entry-signal, entry-found}
@@ -46,19 +46,19 @@ module _ (ds : List Decl) (named : naming false [] ds ≡ Fine) (sized : tooLarg
   found-known x =
       by-test (isKnown x)
       (λ t. entry-found ds named sized x t ∙ sym t)
-      (λ t. ap isFound (entry-signal ds named x ∙ ap (λ (b : Bool). cond b (sigCell (look ds x)) 0) t) ∙ sym t)
+      (λ t. ap isFound (entry-signal ds named x ∙ ap (λ (b : Bool). cond b (sigCell (signalOf ds x)) 0) t) ∙ sym t)
 
   -- and what is found is its signal
-  pub found-signal : Signals sig (look ds)
-  found-signal x e = entry-signal ds named x ∙ ap (λ (b : Bool). cond b (sigCell (look ds x)) 0) (sym (found-known x) ∙ e)
+  pub found-signal : Signals sig (signalOf ds)
+  found-signal x e = entry-signal ds named x ∙ ap (λ (b : Bool). cond b (sigCell (signalOf ds x)) 0) (sym (found-known x) ∙ e)
 
   -- names are all found where all are defined
   pub found-all : (xs : List Bytes) → all isFound (map sig xs) ≡ all isKnown xs
   found-all xs = all-map isFound sig xs ∙ all-same (λ (x : Bytes). isFound (sig x)) isKnown found-known xs
 
   -- their signals
-  pub found-signals : (xs : List Bytes) → all isKnown xs ≡ true → map sig xs ≡ map (λ (x : Bytes). sigCell (look ds x)) xs
-  found-signals xs e = map-where isKnown sig (λ (x : Bytes). sigCell (look ds x)) (λ x t. found-signal x (found-known x ∙ t)) xs e
+  pub found-signals : (xs : List Bytes) → all isKnown xs ≡ true → map sig xs ≡ map (λ (x : Bytes). sigCell (signalOf ds x)) xs
+  found-signals xs e = map-where isKnown sig (λ (x : Bytes). sigCell (signalOf ds x)) (λ x t. found-signal x (found-known x ∙ t)) xs e
 
   undefined-is : undefined ds ≡ not (all isKnown (outs ds) && all isKnown (flatMap usedNames (defs ds)))
   unfolding undefined

@@ -5,7 +5,7 @@ use mathlib.Core.List.{List}
 use Prim.Native.Nat.{ℕ, _*_, _^_, _≤_, _<_}
 use native.Mathlib.Omega.{arith}
 use lib.ListN.{length, take, length-take}
-use Rattle.lists.specs.Lists.{if_then_else_, Bytes, zeros, over}
+use Rattle.lists.specs.Lists.{if_then_else_, Bytes, zeros, overwrite}
 use Rattle.refusals.specs.declared.Refusal.the-variants as refusal
 use Rattle.network.specs.Cells.{countsOf}
 use Rattle.network.specs.declared.Counts.{Counts}
@@ -48,13 +48,13 @@ counts-within (read net) a gs ps os h =
 -- each slice is cleared behind what the answer counts, the working cells from the start
 pub all-cleared : (text : Bytes) (n : Lengths) (a : ReadAnswer) (k : Counts) (gs ps os g p o wg wp : List ℕ) → Holds (answered text n) a gs ps os
     → k ≡ countsIn a → length gs ≡ n .gates → length ps ≡ n .pins → length os ≡ n .outputs
-    → g ≡ over (take (k .gates * 3) gs) (zeros (length gs)) → p ≡ over (take (k .pins) ps) (zeros (length ps)) → o ≡ over (take (k .outputs) os) (zeros (length os))
+    → g ≡ overwrite (take (k .gates * 3) gs) (zeros (length gs)) → p ≡ overwrite (take (k .pins) ps) (zeros (length ps)) → o ≡ overwrite (take (k .outputs) os) (zeros (length os))
     → wg ≡ zeros (n .workGates) → wp ≡ zeros (n .workPins) → readOutcome a g p o wg wp ≡ readInto text n
 unfolding readInto
 all-cleared text n a k gs ps os g p o wg wp h q lg lp lo eg ep eo ew ex =
     (λ j. readOutcome a (eg j) (ep j) (eo j) (ew j) (ex j))
     ∙ (λ j.
-    readOutcome a (over (take (q j .gates * 3) gs) (zeros (lg j))) (over (take (q j .pins) ps) (zeros (lp j))) (over (take (q j .outputs) os) (zeros (lo j)))
+    readOutcome a (overwrite (take (q j .gates * 3) gs) (zeros (lg j))) (overwrite (take (q j .pins) ps) (zeros (lp j))) (overwrite (take (q j .outputs) os) (zeros (lo j)))
     (zeros (n .workGates)) (zeros (n .workPins)))
     ∙ kept-filled (answered text n) a gs ps os n h
 

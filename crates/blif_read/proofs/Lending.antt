@@ -8,7 +8,7 @@ use lib.Dec.{leb}
 use lib.ListN.{length, take, drop, length-drop, drop-of-length-le}
 use borrow.Rule.Slice.PartMut.{midOf, putMid, post-is, mid-len}
 use borrow.Author.Tests.{le-leb, lt-leb, leb-true}
-use Rattle.lists.specs.Lists.{zeros, over}
+use Rattle.lists.specs.Lists.{zeros, overwrite}
 use Rattle.lists.proofs.Tests.{and-false, and-left, and-right}
 use Rattle.blif_read.specs.Into.{Lengths, lengths, enough}
 use Rattle.blif_read.specs.Stages.{Enough}
@@ -71,13 +71,13 @@ enough-same h a b c d e =
 -- ---- cells cleared
 
 -- the cells before a place over zeros, where zeros stand from the place on
-pub clear-rest : (at : ℕ) (l : List ℕ) → at ≤ length l → take at l ++ zeros (length (drop at l)) ≡ over (take at l) (zeros (length l))
+pub clear-rest : (at : ℕ) (l : List ℕ) → at ≤ length l → take at l ++ zeros (length (drop at l)) ≡ overwrite (take at l) (zeros (length l))
 clear-rest zero l h = refl
 clear-rest (suc at) [] h = absurd (omega arith)
 clear-rest (suc at) (x ∷ l) h = ap (λ (t : List ℕ). x ∷ t) (clear-rest at l (omega arith))
 
 -- there is none beyond the end
-pub clear-none : (at : ℕ) (l : List ℕ) → length l ≤ at → l ≡ over (take at l) (zeros (length l))
+pub clear-none : (at : ℕ) (l : List ℕ) → length l ≤ at → l ≡ overwrite (take at l) (zeros (length l))
 clear-none zero [] h = refl
 clear-none zero (x ∷ l) h = absurd (omega arith)
 clear-none (suc at) [] h = refl
@@ -85,7 +85,7 @@ clear-none (suc at) (x ∷ l) h = ap (λ (t : List ℕ). x ∷ t) (clear-none at
 
 -- the part from a place on, filled with zeros and put back
 pub clear-part : (at : ℕ) (l p : List ℕ) → at < length l → p ≡ zeros (length (midOf at (length l - at) l))
-    → putMid at (length l - at) l p ≡ over (take at l) (zeros (length l))
+    → putMid at (length l - at) l p ≡ overwrite (take at l) (zeros (length l))
 clear-part at l p h e =
     let k : at ≤ length l = omega arith in
     let m : length (midOf at (length l - at) l) ≡ length (drop at l) = mid-len at (length l) l (omega arith) ∙ sym (length-drop at l) in

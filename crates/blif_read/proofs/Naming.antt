@@ -6,8 +6,8 @@ use Prim.Native.Nat.{ℕ, zero, suc, _+_, _-_, _*_, _≤_}
 use native.Mathlib.Omega.{arith}
 use lib.ListN.{length, take, length-map}
 use lib.Seq.{length-take-le, getD-take}
-use Rattle.lists.specs.Lists.{Bytes, all, known, over, sumOf}
-use Rattle.lists.proofs.Over.{take-over}
+use Rattle.lists.specs.Lists.{Bytes, all, known, overwrite, sumOf}
+use Rattle.lists.proofs.Over.{take-overwrite}
 use Rattle.refusals.specs.declared.Refusal.{Refusal}
 use Rattle.refusals.specs.declared.Refusal.the-variants as refusal
 use Rattle.refusals.specs.declared.Checked.the-variants.{Fine, Refused}
@@ -19,7 +19,7 @@ use Rattle.blif_text.specs.Walk.{stmtsFrom, Inside}
 use Rattle.blif_text.specs.Blocks.{defsAt}
 use Rattle.name_index.specs.Search.{Entry, signalIn}
 use Rattle.name_index.specs.Index.{entriesOf}
-use Rattle.blif_reading.specs.Read.{pinCount, tooLarge, naming, undefined, coverFaults, readFault, refused, look, readText}
+use Rattle.blif_reading.specs.Read.{pinCount, tooLarge, naming, undefined, coverFaults, readFault, refused, signalOf, readText}
 use Rattle.blif_reading.specs.Working.{GatesIn, placed, placedCount}
 use Rattle.blif_read_names.specs.Entries.{entries}
 use Rattle.blif_read_names.specs.Tables.{Tables}
@@ -30,7 +30,7 @@ use Rattle.blif_read_signals.proofs.Placing.{pins-found, refused-found}
 use Rattle.blif_read.specs.Stages.{Sized, Defining, Resolving, Placing}
 use Rattle.blif_reading.proofs.SizeLimits.{sizes-within}
 use Rattle.blif_read_names.proofs.DefiningGates.{defs-few}
-use Rattle.blif_read.proofs.Refusing.{refuses, refuses-when, goes-on, passes-when}
+use Rattle.blif_read.proofs.Refusing.{refuses, refuses-refuseIf, goes-on, passes-refuseIf}
 use Rattle.blif_read.proofs.Found.{found-all, found-signals, found-signal, output-missing, use-missing, none-missing}
 
 -- ---- names
@@ -96,24 +96,24 @@ module _ {text tokens : List ℕ} {n : ℕ} {index outNames blocks : List ℕ} {
     -- an output is undefined
     pub output-refused : r ≡ false → readText text ≡ refused refusal.Undefined
     output-refused e =
-        refuses-when text (undefined ds) refusal.Undefined (coverFaults (defs ds)) (c .left) (output-missing ds (c .once) (c .sized) (sym all-known ∙ e))
+        refuses-refuseIf text (undefined ds) refusal.Undefined (coverFaults (defs ds)) (c .left) (output-missing ds (c .once) (c .sized) (sym all-known ∙ e))
 
     -- none is
     pub outputs-found : r ≡ true → 256 ≤ length os → Resolving text tokens n index os′ blocks i g o
     outputs-found e room =
         let k = sym all-known ∙ e in
         let s = found-signals ds (c .once) (c .sized) (outs ds) k in
-        let cells : List ℕ = map (λ (x : Bytes). sigCell (look ds x)) (outs ds) in
-        let l : length cells ≡ o = length-map (outs ds) (λ (x : Bytes). sigCell (look ds x)) ∙ sym (c .tables .named .outputs) in
+        let cells : List ℕ = map (λ (x : Bytes). sigCell (signalOf ds x)) (outs ds) in
+        let l : length cells ≡ o = length-map (outs ds) (λ (x : Bytes). sigCell (signalOf ds x)) ∙ sym (c .tables .named .outputs) in
         record {
           tables = c .tables .named;
           sized = c .sized;
           once = c .once;
           outs-known = k;
           outs-are =
-              ap (take o) (h .laid e ∙ ap (λ (x : List ℕ). over x os) (asked ∙ s))
-              ∙ ap (λ (m : ℕ). take m (over cells os)) (sym l)
-              ∙ take-over cells os (omega (arith, l, few-outs));
+              ap (take o) (h .laid e ∙ ap (λ (x : List ℕ). overwrite x os) (asked ∙ s))
+              ∙ ap (λ (m : ℕ). take m (overwrite cells os)) (sym l)
+              ∙ take-overwrite cells os (omega (arith, l, few-outs));
           left = c .left;
         }
 
@@ -154,7 +154,7 @@ module _ {text tokens : List ℕ} {n : ℕ} {index os blocks : List ℕ} {i g o 
     pub use-refused : {r : Refusal} → PlacedBy (signalIn (entriesOf text index (i + g))) (defsAt text tokens n blocks g) gates pinsIn (answer.Refused r) → readText text ≡ refused r
     use-refused h =
         let f = refused-found _ _ (h .counted) in
-        refuses-when text (undefined (declsOf text)) refusal.Undefined (coverFaults (defs (declsOf text))) (c .left)
+        refuses-refuseIf text (undefined (declsOf text)) refusal.Undefined (coverFaults (defs (declsOf text))) (c .left)
         (use-missing (declsOf text) (c .once) (c .sized) (sym uses-known ∙ f .0))
         ∙ ap refused (sym (f .1))
 
@@ -169,14 +169,14 @@ module _ {text tokens : List ℕ} {n : ℕ} {index os blocks : List ℕ} {i g o 
           blocks-in = c .tables .blocks-in;
           blocks-are = c .tables .blocks-are;
           left =
-              passes-when text (undefined (declsOf text)) refusal.Undefined (coverFaults (defs (declsOf text))) (c .left)
+              passes-refuseIf text (undefined (declsOf text)) refusal.Undefined (coverFaults (defs (declsOf text))) (c .left)
               (none-missing (declsOf text) (c .once) (c .sized) (c .outs-known) (sym uses-known ∙ f .0));
           used-is = f .1 ∙ ap (sumOf placedCount) (c .tables .blocks-are);
           gates-in =
-              subst (λ (xs : List Def). GatesIn gates pinsIn used (map (placed (look (declsOf text))) xs)) (c .tables .blocks-are)
-              (subst (λ (k : ℕ). GatesIn gates pinsIn k (map (placed (look (declsOf text))) (defsAt text tokens n blocks g))) (sym (f .1))
-              (h .gates-in (f .0) (look (declsOf text))
-              (subst (λ (es : List Entry). Signals (signalIn es) (look (declsOf text))) (sym (c .tables .entries-are)) (found-signal (declsOf text) (c .once) (c .sized)))));
+              subst (λ (xs : List Def). GatesIn gates pinsIn used (map (placed (signalOf (declsOf text))) xs)) (c .tables .blocks-are)
+              (subst (λ (k : ℕ). GatesIn gates pinsIn k (map (placed (signalOf (declsOf text))) (defsAt text tokens n blocks g))) (sym (f .1))
+              (h .gates-in (f .0) (signalOf (declsOf text))
+              (subst (λ (es : List Entry). Signals (signalIn es) (signalOf (declsOf text))) (sym (c .tables .entries-are)) (found-signal (declsOf text) (c .once) (c .sized)))));
           outs-are = c .outs-are;
         }
 

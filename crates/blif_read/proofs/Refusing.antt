@@ -6,13 +6,13 @@ use Prim.Native.Nat.{ℕ, _≤_}
 use lib.Dec.{ltb, leb}
 use lib.ListN.{length}
 use Rattle.lists.specs.Lists.{Bytes, any}
-use Rattle.refusals.specs.Order.{_then_, when}
+use Rattle.refusals.specs.Order.{_orElse_, refuseIf}
 use Rattle.refusals.specs.declared.Refusal.{Refusal}
 use Rattle.refusals.specs.declared.Refusal.the-variants as refusal
 use Rattle.refusals.specs.declared.Checked.{Checked}
 use Rattle.refusals.specs.declared.Checked.the-variants as checked
 use Rattle.refusals.specs.declared.Checked.the-variants.{Fine}
-use Rattle.refusals.proofs.Order.{then-stop, then-go, when-yes, when-no}
+use Rattle.refusals.proofs.Order.{orElse-stop, orElse-go, refuseIf-yes, refuseIf-no}
 use Rattle.sort_order.specs.Sorted.{sorted}
 use Rattle.blif_text.specs.Statements.{parsed, firstBad}
 use Rattle.blif_text.specs.Decls.{decls, defs, declsOf}
@@ -39,43 +39,43 @@ module _ (text : Bytes) where
   holds-refused r gs ps os e = subst (λ (x : Result). Holds x (Refused r) gs ps os) (sym e) refl
 
   -- the first refusal of what is left takes the text
-  pub refuses : {c : Checked} {r : Refusal} (left : Checked) → readFault text ≡ (c then left) → c ≡ checked.Refused r → readText text ≡ refused r
-  refuses left e q = refused-by (e ∙ then-stop left q)
+  pub refuses : {c : Checked} {r : Refusal} (left : Checked) → readFault text ≡ (c orElse left) → c ≡ checked.Refused r → readText text ≡ refused r
+  refuses left e q = refused-by (e ∙ orElse-stop left q)
 
   -- it does not
-  pub goes-on : {c : Checked} (left : Checked) → readFault text ≡ (c then left) → c ≡ Fine → readFault text ≡ left
-  goes-on left e q = e ∙ then-go q
+  pub goes-on : {c : Checked} (left : Checked) → readFault text ≡ (c orElse left) → c ≡ Fine → readFault text ≡ left
+  goes-on left e q = e ∙ orElse-go q
 
   -- the same of a test
-  pub refuses-when : (c : Bool) (r : Refusal) (left : Checked) → readFault text ≡ (when c r then left) → c ≡ true → readText text ≡ refused r
-  refuses-when c r left e t = refuses left e (sym (when-yes r t))
+  pub refuses-refuseIf : (c : Bool) (r : Refusal) (left : Checked) → readFault text ≡ (refuseIf c r orElse left) → c ≡ true → readText text ≡ refused r
+  refuses-refuseIf c r left e t = refuses left e (sym (refuseIf-yes r t))
 
   -- a test that fails
-  pub passes-when : (c : Bool) (r : Refusal) (left : Checked) → readFault text ≡ (when c r then left) → c ≡ false → readFault text ≡ left
-  passes-when c r left e t = goes-on left e (sym (when-no r t))
+  pub passes-refuseIf : (c : Bool) (r : Refusal) (left : Checked) → readFault text ≡ (refuseIf c r orElse left) → c ≡ false → readFault text ≡ left
+  passes-refuseIf c r left e t = goes-on left e (sym (refuseIf-no r t))
 
   -- ---- the text's length and bytes
 
   first-left : readFault text ≡
-      (when (ltb maxText (length text)) refusal.TextTooLong
-      then when (any (leb 128) text) refusal.HighByte
-      then firstBad (parsed text)
-      then declFault (declsOf text))
+      (refuseIf (ltb maxText (length text)) refusal.TextTooLong
+      orElse refuseIf (any (leb 128) text) refusal.HighByte
+      orElse firstBad (parsed text)
+      orElse declFault (declsOf text))
   unfolding readFault
   first-left = refl
 
   pub too-long : ltb maxText (length text) ≡ true → readText text ≡ refused refusal.TextTooLong
-  too-long e = refuses-when (ltb maxText (length text)) refusal.TextTooLong _ first-left e
+  too-long e = refuses-refuseIf (ltb maxText (length text)) refusal.TextTooLong _ first-left e
 
   module _ (s : ltb maxText (length text) ≡ false) where
-    second-left : readFault text ≡ (when (any (leb 128) text) refusal.HighByte then firstBad (parsed text) then declFault (declsOf text))
-    second-left = passes-when (ltb maxText (length text)) refusal.TextTooLong _ first-left s
+    second-left : readFault text ≡ (refuseIf (any (leb 128) text) refusal.HighByte orElse firstBad (parsed text) orElse declFault (declsOf text))
+    second-left = passes-refuseIf (ltb maxText (length text)) refusal.TextTooLong _ first-left s
 
     pub high-byte : any (leb 128) text ≡ true → readText text ≡ refused refusal.HighByte
-    high-byte e = refuses-when (any (leb 128) text) refusal.HighByte _ second-left e
+    high-byte e = refuses-refuseIf (any (leb 128) text) refusal.HighByte _ second-left e
 
     pub readable : length text ≤ maxText → any (leb 128) text ≡ false → PlainText text
-    readable h e = record { small = h; left = passes-when (any (leb 128) text) refusal.HighByte _ second-left e }
+    readable h e = record { small = h; left = passes-refuseIf (any (leb 128) text) refusal.HighByte _ second-left e }
 
 -- ---- tokens and sizes
 
@@ -90,15 +90,15 @@ module _ {text : Bytes} (c : PlainText text) where
     same-decls = ap decls (stmts-all m)
 
     third-left : readFault text ≡
-        (when (tooLarge (declsOf text)) refusal.SizePassed
-        then naming false [] (declsOf text)
-        then when (undefined (declsOf text)) refusal.Undefined
-        then coverFaults (defs (declsOf text)))
+        (refuseIf (tooLarge (declsOf text)) refusal.SizePassed
+        orElse naming false [] (declsOf text)
+        orElse refuseIf (undefined (declsOf text)) refusal.Undefined
+        orElse coverFaults (defs (declsOf text)))
     unfolding declFault
     third-left = goes-on text _ (c .left) z
 
     pub passed-size : tooLarge (decls (stmtsFrom text tokens n 0)) ≡ true → readText text ≡ refused refusal.SizePassed
-    passed-size e = refuses-when text (tooLarge (declsOf text)) refusal.SizePassed _ third-left (sym (ap tooLarge same-decls) ∙ e)
+    passed-size e = refuses-refuseIf text (tooLarge (declsOf text)) refusal.SizePassed _ third-left (sym (ap tooLarge same-decls) ∙ e)
 
     pub sized : tooLarge (decls (stmtsFrom text tokens n 0)) ≡ false → Sized text tokens n
     sized e =
@@ -108,5 +108,5 @@ module _ {text : Bytes} (c : PlainText text) where
           few = m .few;
           declared = sym same-decls;
           sized = s;
-          left = passes-when text (tooLarge (declsOf text)) refusal.SizePassed _ third-left s;
+          left = passes-refuseIf text (tooLarge (declsOf text)) refusal.SizePassed _ third-left s;
         }

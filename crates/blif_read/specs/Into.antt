@@ -4,7 +4,7 @@ use mathlib.Core.Bool.{Bool, _&&_}
 use mathlib.Core.List.{List, [], map}
 use Prim.Native.Nat.{ℕ, _*_}
 use lib.Dec.{leb}
-use Rattle.lists.specs.Lists.{if_then_else_, Bytes, zeros, over}
+use Rattle.lists.specs.Lists.{if_then_else_, Bytes, zeros, overwrite}
 use Rattle.refusals.specs.declared.Refusal.the-variants as refusal
 use Rattle.signal.specs.Cell.{sigCell}
 use Rattle.network.specs.Cells.{gateWidth, maxGates, maxPins, maxOutputs, gateCells, pinCells, countsOf}
@@ -58,7 +58,7 @@ readOutcome a gs ps os wgs wps = record { answer = a; gates = gs; pins = ps; out
 -- an answer with the cells of gates, pins and outputs, "cells beyond them and working cells are zero"
 abbrev pub leaving : ReadAnswer → List ℕ → List ℕ → List ℕ → Lengths → ReadOutcome
 leaving a gs ps os n =
-    readOutcome a (over gs (zeros (n .gates))) (over ps (zeros (n .pins))) (over os (zeros (n .outputs))) (zeros (n .workGates)) (zeros (n .workPins))
+    readOutcome a (overwrite gs (zeros (n .gates))) (overwrite ps (zeros (n .pins))) (overwrite os (zeros (n .outputs))) (zeros (n .workGates)) (zeros (n .workPins))
 
 -- "A refusal gives its number; all lent cells are then zero. Success gives the input, gate, pin and output counts .. Pins here are the
 -- sorted gates' inputs, laid in gate order"

@@ -6,7 +6,7 @@ use mathlib.Core.List.{List, [], _++_, map}
 use Prim.Native.Nat.{ℕ, _*_, _≤_}
 use lib.ListN.{length, take}
 use Rattle.lists.specs.Lists.{Bytes, all, known, sumOf}
-use Rattle.refusals.specs.Order.{_then_, when}
+use Rattle.refusals.specs.Order.{_orElse_, refuseIf}
 use Rattle.refusals.specs.declared.Refusal.the-variants as refusal
 use Rattle.refusals.specs.declared.Checked.the-variants.{Fine}
 use Rattle.signal.specs.Cell.{sigCell}
@@ -18,7 +18,7 @@ use Rattle.blif_text.specs.Decls as names
 use Rattle.blif_text.specs.Places.{maxText, maxTokens}
 use Rattle.blif_text.specs.Walk.{stmtsFrom, StmtsAt}
 use Rattle.blif_text.specs.Blocks.{Blocks, defsAt}
-use Rattle.blif_reading.specs.Read.{tooLarge, naming, undefined, coverFaults, declFault, readFault, Result, read, refused, look, readText}
+use Rattle.blif_reading.specs.Read.{tooLarge, naming, undefined, coverFaults, declFault, readFault, Result, read, refused, signalOf, readText}
 use Rattle.blif_reading.specs.Working.{GatesIn, placed, placedCount}
 use Rattle.blif_read_names.specs.Tables.{Named, Tables}
 use Rattle.blif_read.specs.declared.ReadAnswer.{ReadAnswer}
@@ -52,7 +52,7 @@ pub record PlainText (text : Bytes) : Type 0 where
   -- "Text at most 32,768 bytes"
   pub small : length text ≤ maxText
   -- what is left of the refusals
-  pub left : readFault text ≡ (firstBad (parsed text) then declFault (declsOf text))
+  pub left : readFault text ≡ (firstBad (parsed text) orElse declFault (declsOf text))
 
 -- by no refusal up to 6; n tokens are marked
 pub record Sized (text tokens : List ℕ) (n : ℕ) : Type 0 where
@@ -67,7 +67,7 @@ pub record Sized (text tokens : List ℕ) (n : ℕ) : Type 0 where
   -- what is left of the refusals
   pub left :
       readFault text
-      ≡ (naming false [] (declsOf text) then when (undefined (declsOf text)) refusal.Undefined then coverFaults (defs (declsOf text)))
+      ≡ (naming false [] (declsOf text) orElse refuseIf (undefined (declsOf text)) refusal.Undefined orElse coverFaults (defs (declsOf text)))
 
 -- by no refusal up to 10; the names are in the index, and the outputs' names in the cells `outNames`
 pub record Defining (text tokens : List ℕ) (n : ℕ) (index outNames blocks : List ℕ) (i g o : ℕ) : Type 0 where
@@ -78,7 +78,7 @@ pub record Defining (text tokens : List ℕ) (n : ℕ) (index outNames blocks : 
   -- no name is defined twice
   pub once : naming false [] (declsOf text) ≡ Fine
   -- what is left of the refusals
-  pub left : readFault text ≡ (when (undefined (declsOf text)) refusal.Undefined then coverFaults (defs (declsOf text)))
+  pub left : readFault text ≡ (refuseIf (undefined (declsOf text)) refusal.Undefined orElse coverFaults (defs (declsOf text)))
 
 -- by no refusal up to 10, and no output is undefined; the names are in the index, and the outputs' signals in their cells
 pub record Resolving (text tokens : List ℕ) (n : ℕ) (index outs blocks : List ℕ) (i g o : ℕ) : Type 0 where
@@ -91,9 +91,9 @@ pub record Resolving (text tokens : List ℕ) (n : ℕ) (index outs blocks : Lis
   -- every output is defined
   pub outs-known : all (λ (x : Bytes). known x (ins (declsOf text) ++ map defines (defs (declsOf text)))) (names.outs (declsOf text)) ≡ true
   -- the outputs' signals
-  pub outs-are : take o outs ≡ map (λ (x : Bytes). sigCell (look (declsOf text) x)) (names.outs (declsOf text))
+  pub outs-are : take o outs ≡ map (λ (x : Bytes). sigCell (signalOf (declsOf text) x)) (names.outs (declsOf text))
   -- what is left of the refusals
-  pub left : readFault text ≡ (when (undefined (declsOf text)) refusal.Undefined then coverFaults (defs (declsOf text)))
+  pub left : readFault text ≡ (refuseIf (undefined (declsOf text)) refusal.Undefined orElse coverFaults (defs (declsOf text)))
 
 -- by no refusal up to 11; the gates first placed stand in the working cells, and the outputs' signals in theirs
 pub record Placing (text tokens : List ℕ) (n : ℕ) (blocks : List ℕ) (i g o : ℕ) (gates pinsIn outs : List ℕ) (used : ℕ) : Type 0 where
@@ -110,6 +110,6 @@ pub record Placing (text tokens : List ℕ) (n : ℕ) (blocks : List ℕ) (i g o
   -- the pins are counted
   pub used-is : used ≡ sumOf placedCount (defs (declsOf text))
   -- the gates
-  pub gates-in : GatesIn gates pinsIn used (map (placed (look (declsOf text))) (defs (declsOf text)))
+  pub gates-in : GatesIn gates pinsIn used (map (placed (signalOf (declsOf text))) (defs (declsOf text)))
   -- the outputs
-  pub outs-are : take o outs ≡ map (λ (x : Bytes). sigCell (look (declsOf text) x)) (names.outs (declsOf text))
+  pub outs-are : take o outs ≡ map (λ (x : Bytes). sigCell (signalOf (declsOf text) x)) (names.outs (declsOf text))

@@ -24,7 +24,7 @@ use sort::topo_sort;
 ghost use mathlib.Core.Path.{_≡_};
 ghost use lib.Dec.{leb};
 ghost use lib.ListN.{length, take};
-ghost use Rattle.lists.specs.Lists.{any, over, zeros};
+ghost use Rattle.lists.specs.Lists.{any, overwrite, zeros};
 ghost use Rattle.refusals.specs.declared.Checked.the-variants.{Fine};
 ghost use Rattle.blif_reading.specs.Read.{readFault, readText};
 ghost use Rattle.blif_read.specs.Into.{lengths, enough, readOutcome, readInto, answered};
@@ -335,7 +335,7 @@ fn counts_of(answer: ReadAnswer) -> Counts
 
 // Zero in every cell from a place on.
 fn clear_from(cells: &mut [u32], at: usize)
-    ensures { λ _. ⌜ now (cells .exit) ≡ over (take at (now (cells .entry))) (zeros (length (now (cells .entry)))) ⌝ }
+    ensures { λ _. ⌜ now (cells .exit) ≡ overwrite (take at (now (cells .entry))) (zeros (length (now (cells .entry)))) ⌝ }
 {
     if at < cells.len() {
         fill_zero(&mut cells[at..]);

@@ -7,7 +7,7 @@ use native.Mathlib.Omega.{arith}
 use lib.ListN.{length, take, length-map}
 use lib.Seq.{slice, length-slice}
 use Rattle.lists.specs.Lists.{all, any}
-use Rattle.refusals.specs.Order.{_then_, when}
+use Rattle.refusals.specs.Order.{_orElse_, refuseIf}
 use Rattle.refusals.specs.declared.Refusal.the-variants as refusal
 use Rattle.blif_text.specs.Places.{tokenOf, tokensOf}
 use Rattle.blif_text.specs.Walk.{rowsFrom}
@@ -25,14 +25,14 @@ noOutput = record { zero = false; one = false }
 -- the refusal of a block's definition is that of its lines
 pub block-fault : (text tokens : List ℕ) (n first names lines : ℕ) → first + names ≤ length tokens
     → coverFault (defFrom text tokens n first names lines) ≡ linesFault (names - 1) noOutput (take (linesIn names lines) (rowsFrom text tokens n (first + names)))
-unfolding coverFault _then_ when
+unfolding coverFault _orElse_ refuseIf
 block-fault text tokens n first zero lines h = refl
 block-fault text tokens n first (suc k) lines h =
     let ls = take lines (rowsFrom text tokens n (first + suc k)) in
     let cs = slice first (first + suc k) tokens in
     let e : length (tokensOf text cs) - 1 ≡ k = omega (arith, length-map cs (tokenOf text), length-slice first (first + suc k) tokens h) in
     let p : k ≡ suc k - 1 = omega arith in
-    ap (λ (w : ℕ). when (not (all (goodLine w) ls)) refusal.WrongCubeLine then when (any isOne ls && not (all isOne ls)) refusal.OutputsDiffer) (e ∙ p)
+    ap (λ (w : ℕ). refuseIf (not (all (goodLine w) ls)) refusal.WrongCubeLine orElse refuseIf (any isOne ls && not (all isOne ls)) refusal.OutputsDiffer) (e ∙ p)
 
 -- a latch has no line
 pub latch-none : (names lines : ℕ) → 0 < linesIn names lines → 0 < names
@@ -45,9 +45,9 @@ cover-lines zero lines h = absurd (omega arith)
 cover-lines (suc k) lines h = refl
 
 -- where no line is left, the outputs decide
-pub none-left : (w : ℕ) (met : Outputs) → linesFault w met [] ≡ when (differ met) refusal.OutputsDiffer
-unfolding _then_ when
-none-left w met = ap (λ (b : Bool). when b refusal.OutputsDiffer) (both (met .one) (met .zero))
+pub none-left : (w : ℕ) (met : Outputs) → linesFault w met [] ≡ refuseIf (differ met) refusal.OutputsDiffer
+unfolding _orElse_ refuseIf
+none-left w met = ap (λ (b : Bool). refuseIf b refusal.OutputsDiffer) (both (met .one) (met .zero))
   where
     both : (a b : Bool) → ((a || false) && (b || false)) ≡ (b && a)
     both true true = refl

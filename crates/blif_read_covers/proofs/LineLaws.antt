@@ -11,7 +11,7 @@ use borrow.Author.Tests.{ltb-true, lt-ltb, le-ltb, ne-eqb}
 use Rattle.lists.specs.Lists.{if_then_else_, Bytes, same, all, any, elem, known}
 use Rattle.lists.proofs.Tests.{by-test, by-order, and-left, and-right}
 use Rattle.lists.proofs.Same.{same-is}
-use Rattle.refusals.specs.Order.{_then_, when}
+use Rattle.refusals.specs.Order.{_orElse_, refuseIf}
 use Rattle.refusals.specs.declared.Refusal.the-variants as refusal
 use Rattle.refusals.specs.declared.Checked.{Checked}
 use Rattle.refusals.specs.declared.Checked.the-variants.{Fine, Refused}
@@ -27,8 +27,8 @@ use Rattle.blif_read_covers.specs.declared.Outputs.{Outputs}
 -- the refusal of the lines left of a cover with w columns, after these outputs: 12 at a wrong one, else 13 where outputs differ
 abbrev pub linesFault : ℕ → Outputs → List (List Bytes) → Checked
 linesFault w met ls =
-    when (not (all (goodLine w) ls)) refusal.WrongCubeLine
-    then when ((met .one || any isOne ls) && (met .zero || not (all isOne ls))) refusal.OutputsDiffer
+    refuseIf (not (all (goodLine w) ls)) refusal.WrongCubeLine
+    orElse refuseIf ((met .one || any isOne ls) && (met .zero || not (all isOne ls))) refusal.OutputsDiffer
 
 -- ---- outputs
 
@@ -110,10 +110,10 @@ line-in text tokens at end h k =
 -- ---- refusals in order
 
 -- two tests in turn
-pub when-and : (a b : Bool) (x : Checked) → (when (not (a && b)) refusal.WrongCubeLine then x) ≡ (when (not a) refusal.WrongCubeLine then (when (not b) refusal.WrongCubeLine then x))
-unfolding _then_ when
-when-and true b x = refl
-when-and false b x = refl
+pub refuseIf-and : (a b : Bool) (x : Checked) → (refuseIf (not (a && b)) refusal.WrongCubeLine orElse x) ≡ (refuseIf (not a) refusal.WrongCubeLine orElse (refuseIf (not b) refusal.WrongCubeLine orElse x))
+unfolding _orElse_ refuseIf
+refuseIf-and true b x = refl
+refuseIf-and false b x = refl
 
 -- the outputs differ with one more as they differ with it among the others
 more-differ : (o : Output) (met : Outputs) (some every : Bool) → right o ≡ true
@@ -129,18 +129,18 @@ module _ {ts : List Bytes} {m : ℕ} {out : Bytes} (w : ℕ) (met : Outputs) (ls
 
   -- a line that does not fit is refused
   pub misfit : fits m (length cols) w (outputOf out) ≡ false → linesFault w met (ts ∷ ls) ≡ Refused refusal.WrongCubeLine
-  unfolding _then_ when
+  unfolding _orElse_ refuseIf
   misfit e = simp (good-is w l, e)
 
   -- of a line that fits the columns are left, and its output
   pub fitting : fits m (length cols) w (outputOf out) ≡ true
-      → linesFault w met (ts ∷ ls) ≡ (when (not (all isColumn cols)) refusal.WrongCubeLine then linesFault w (withOutput met (outputOf out)) ls)
+      → linesFault w met (ts ∷ ls) ≡ (refuseIf (not (all isColumn cols)) refusal.WrongCubeLine orElse linesFault w (withOutput met (outputOf out)) ls)
   fitting e =
       let o = outputOf out in
       let r : right o ≡ true = and-right (ltb m 3 && eqb w (length cols)) (right o) e in
       ap₂
-      (λ (a b : Bool). when (not (a && all (goodLine w) ls)) refusal.WrongCubeLine then when ((met .one || (b || any isOne ls)) && (met .zero || not (b && all isOne ls))) refusal.OutputsDiffer)
+      (λ (a b : Bool). refuseIf (not (a && all (goodLine w) ls)) refusal.WrongCubeLine orElse refuseIf ((met .one || (b || any isOne ls)) && (met .zero || not (b && all isOne ls))) refusal.OutputsDiffer)
       (good-is w l ∙ ap (λ (b : Bool). b && all isColumn cols) e)
       (one-of w l e)
-      ∙ when-and (all isColumn cols) (all (goodLine w) ls) _
-      ∙ ap (λ (b : Bool). when (not (all isColumn cols)) refusal.WrongCubeLine then (when (not (all (goodLine w) ls)) refusal.WrongCubeLine then when b refusal.OutputsDiffer)) (more-differ o met (any isOne ls) (all isOne ls) r)
+      ∙ refuseIf-and (all isColumn cols) (all (goodLine w) ls) _
+      ∙ ap (λ (b : Bool). refuseIf (not (all isColumn cols)) refusal.WrongCubeLine orElse (refuseIf (not (all (goodLine w) ls)) refusal.WrongCubeLine orElse refuseIf b refusal.OutputsDiffer)) (more-differ o met (any isOne ls) (all isOne ls) r)

@@ -14,11 +14,11 @@ use Rattle.lists.specs.Lists.{Bytes, all, range}
 use Rattle.lists.proofs.Places.{drop-next}
 use Rattle.lists.proofs.Range.{range-cons, range-end}
 use Rattle.lists.proofs.Tests.{by-order}
-use Rattle.refusals.specs.Order.{_then_, when}
+use Rattle.refusals.specs.Order.{_orElse_, refuseIf}
 use Rattle.refusals.specs.declared.Refusal.the-variants as refusal
 use Rattle.refusals.specs.declared.Checked.{Checked}
 use Rattle.refusals.specs.declared.Checked.the-variants.{Fine, Refused}
-use Rattle.refusals.proofs.Order.{then-assoc}
+use Rattle.refusals.proofs.Order.{orElse-assoc}
 use Rattle.blif_text.specs.Places.{maxTokens, InText, tokenOf, tokensOf}
 use Rattle.blif_text.specs.Decls.{columns}
 use Rattle.blif_text.specs.PlacedStatements.{RowTo}
@@ -30,7 +30,7 @@ use Rattle.blif_read_covers.specs.Pass.{outputOf, withOutput, differ, fi
 use Rattle.blif_read_covers.specs.declared.Output.{Output}
 use Rattle.blif_read_covers.specs.declared.Outputs.{Outputs}
 use Rattle.blif_read_covers.proofs.CoverLaws.{noOutput, block-fault, latch-none, cover-lines, none-left}
-use Rattle.blif_read_covers.proofs.LineLaws.{linesFault, LineIn, line-in, misfit, fitting, when-and}
+use Rattle.blif_read_covers.proofs.LineLaws.{linesFault, LineIn, line-in, misfit, fitting, refuseIf-and}
 
 -- the refusal of the whole pass
 abbrev pub whole : Bytes → List ℕ → ℕ → List ℕ → ℕ → Checked
@@ -56,7 +56,7 @@ pub record Lines (text tokens : List ℕ) (n : ℕ) (blocks : List ℕ) (g j nam
   pub enough : k < lines → lines - k ≤ length (rowsFrom text tokens n at)
   pub is :
       whole text tokens n blocks g
-      ≡ (linesFault (names - 1) met (take (lines - k) (rowsFrom text tokens n at)) then rest text tokens n blocks g (j + 1))
+      ≡ (linesFault (names - 1) met (take (lines - k) (rowsFrom text tokens n at)) orElse rest text tokens n blocks g (j + 1))
 
 -- of line k, columns from column i on are left, and its output
 pub record Columns (text tokens : List ℕ) (n : ℕ) (blocks : List ℕ) (g j names lines k end : ℕ) (met : Outputs) (cols : Bytes) (o : Output) (i : ℕ) : Type 0 where
@@ -68,12 +68,12 @@ pub record Columns (text tokens : List ℕ) (n : ℕ) (blocks : List ℕ) (g j n
   pub enough : lines - (k + 1) ≤ length (rowsFrom text tokens n end)
   pub is :
       whole text tokens n blocks g
-      ≡ (when (not (all isColumn (drop i cols))) refusal.WrongCubeLine
-      then (linesFault (names - 1) (withOutput met o) (take (lines - (k + 1)) (rowsFrom text tokens n end)) then rest text tokens n blocks g (j + 1)))
+      ≡ (refuseIf (not (all isColumn (drop i cols))) refusal.WrongCubeLine
+      orElse (linesFault (names - 1) (withOutput met o) (take (lines - (k + 1)) (rowsFrom text tokens n end)) orElse rest text tokens n blocks g (j + 1)))
 
 -- the covers from cover j on: cover j, then the others
 rest-is : (text tokens : List ℕ) (n : ℕ) (blocks : List ℕ) (g j : ℕ) → j < g
-    → rest text tokens n blocks g j ≡ (coverFault (defAt text tokens n blocks j) then rest text tokens n blocks g (j + 1))
+    → rest text tokens n blocks g j ≡ (coverFault (defAt text tokens n blocks j) orElse rest text tokens n blocks g (j + 1))
 unfolding coverFaults
 rest-is text tokens n blocks g j h = ap (λ (l : List ℕ). coverFaults (map (defAt text tokens n blocks) l)) (range-cons g j h)
 
@@ -110,7 +110,7 @@ module _ {text tokens : List ℕ} {n : ℕ} {blocks : List ℕ} {g : ℕ} where
           is =
               v .is
               ∙ rest-is text tokens n blocks g j h
-              ∙ ap (λ (x : Checked). x then rest text tokens n blocks g (j + 1))
+              ∙ ap (λ (x : Checked). x orElse rest text tokens n blocks g (j + 1))
               (sym (λ i. coverFault (defFrom text tokens n (e .0 i) (e .1 i) (e .2 i)))
               ∙ block-fault text tokens n first names lines (omega (arith, b .coverNames, v .places .places .room))
               ∙ ap (λ (m : ℕ). linesFault (names - 1) noOutput (take m (rowsFrom text tokens n (first + names)))) q);
@@ -123,25 +123,25 @@ module _ {text tokens : List ℕ} {n : ℕ} {blocks : List ℕ} {g : ℕ} where
           by-order n at (λ l. absurd (omega (arith, v .enough h, ap length (rows-end (v .rows h) l)))) (λ l. l)
 
       -- the outputs of the lines that are through
-      through : lines ≤ k → whole text tokens n blocks g ≡ (when (differ met) refusal.OutputsDiffer then rest text tokens n blocks g (j + 1))
+      through : lines ≤ k → whole text tokens n blocks g ≡ (refuseIf (differ met) refusal.OutputsDiffer orElse rest text tokens n blocks g (j + 1))
       through h =
           v .is
-          ∙ ap (λ (m : ℕ). linesFault (names - 1) met (take m (rowsFrom text tokens n at)) then rest text tokens n blocks g (j + 1)) (sub-eq-zero-of-le h)
-          ∙ ap (λ (x : Checked). x then rest text tokens n blocks g (j + 1)) (none-left (names - 1) met)
+          ∙ ap (λ (m : ℕ). linesFault (names - 1) met (take m (rowsFrom text tokens n at)) orElse rest text tokens n blocks g (j + 1)) (sub-eq-zero-of-le h)
+          ∙ ap (λ (x : Checked). x orElse rest text tokens n blocks g (j + 1)) (none-left (names - 1) met)
 
       -- the lines are through, and differ in output
       pub lines-differ : lines ≤ k → {b : Bool} → b ≡ differ met → b ≡ true → Refused refusal.OutputsDiffer ≡ whole text tokens n blocks g
-      unfolding _then_ when
-      lines-differ h e t = sym (through h ∙ ap (λ (x : Bool). when x refusal.OutputsDiffer then rest text tokens n blocks g (j + 1)) (sym e ∙ t))
+      unfolding _orElse_ refuseIf
+      lines-differ h e t = sym (through h ∙ ap (λ (x : Bool). refuseIf x refusal.OutputsDiffer orElse rest text tokens n blocks g (j + 1)) (sym e ∙ t))
 
       -- or agree
       pub lines-agree : lines ≤ k → {b : Bool} → b ≡ differ met → b ≡ false → Covers text tokens n blocks g (j + 1)
-      unfolding _then_ when
+      unfolding _orElse_ refuseIf
       lines-agree h e t =
           record {
             places = v .places;
             within = omega (arith, v .cover);
-            is = through h ∙ ap (λ (x : Bool). when x refusal.OutputsDiffer then rest text tokens n blocks g (j + 1)) (sym e ∙ t);
+            is = through h ∙ ap (λ (x : Bool). refuseIf x refusal.OutputsDiffer orElse rest text tokens n blocks g (j + 1)) (sym e ∙ t);
           }
 
       -- the line's tokens are places within the text
@@ -179,16 +179,16 @@ module _ {text tokens : List ℕ} {n : ℕ} {blocks : List ℕ} {g : ℕ} where
 
         -- the pass answers what the line and those behind it give
         line-left : whole text tokens n blocks g
-            ≡ (linesFault (names - 1) met (row ∷ take (lines - (k + 1)) (rowsFrom text tokens n end)) then rest text tokens n blocks g (j + 1))
-        line-left = v .is ∙ ap (λ (x : List (List Bytes)). linesFault (names - 1) met x then rest text tokens n blocks g (j + 1)) lines-are
+            ≡ (linesFault (names - 1) met (row ∷ take (lines - (k + 1)) (rowsFrom text tokens n end)) orElse rest text tokens n blocks g (j + 1))
+        line-left = v .is ∙ ap (λ (x : List (List Bytes)). linesFault (names - 1) met x orElse rest text tokens n blocks g (j + 1)) lines-are
 
         -- a line that does not fit ends the pass
         pub line-misfits : not b ≡ true → Refused refusal.WrongCubeLine ≡ whole text tokens n blocks g
-        unfolding _then_
+        unfolding _orElse_
         line-misfits t =
             sym
             (line-left
-            ∙ ap (λ (x : Checked). x then rest text tokens n blocks g (j + 1))
+            ∙ ap (λ (x : Checked). x orElse rest text tokens n blocks g (j + 1))
             (misfit (names - 1) met (take (lines - (k + 1)) (rowsFrom text tokens n end)) line (fits-is ∙ not-true b t)))
 
         -- of a line that fits, all columns are left
@@ -203,37 +203,37 @@ module _ {text tokens : List ℕ} {n : ℕ} {blocks : List ℕ} {g : ℕ} where
               enough = omega (arith, v .enough h, ap length (rows-are (v .rows h) (line-there h) w));
               is =
                   line-left
-                  ∙ ap (λ (x : Checked). x then rest text tokens n blocks g (j + 1))
+                  ∙ ap (λ (x : Checked). x orElse rest text tokens n blocks g (j + 1))
                   (fitting (names - 1) met (take (lines - (k + 1)) (rowsFrom text tokens n end)) line (fits-is ∙ not-false b t)
                   ∙ ap₂
-                  (λ (c : Bytes) (x : Output). when (not (all isColumn c)) refusal.WrongCubeLine then linesFault (names - 1) (withOutput met x) (take (lines - (k + 1)) (rowsFrom text tokens n end)))
+                  (λ (c : Bytes) (x : Output). refuseIf (not (all isColumn c)) refusal.WrongCubeLine orElse linesFault (names - 1) (withOutput met x) (take (lines - (k + 1)) (rowsFrom text tokens n end)))
                   (sym p)
                   (sym q))
-                  ∙ then-assoc (when (not (all isColumn cols)) refusal.WrongCubeLine) _ (rest text tokens n blocks g (j + 1));
+                  ∙ orElse-assoc (refuseIf (not (all isColumn cols)) refusal.WrongCubeLine) _ (rest text tokens n blocks g (j + 1));
             }
 
     module _ {names lines k end : ℕ} {met : Outputs} {cols : Bytes} {o : Output} {i : ℕ} (v : Columns text tokens n blocks g j names lines k end met cols o i) where
       -- what is behind the line
       abbrev behind : Checked
-      behind = linesFault (names - 1) (withOutput met o) (take (lines - (k + 1)) (rowsFrom text tokens n end)) then rest text tokens n blocks g (j + 1)
+      behind = linesFault (names - 1) (withOutput met o) (take (lines - (k + 1)) (rowsFrom text tokens n end)) orElse rest text tokens n blocks g (j + 1)
 
       -- the columns from column i on: column i, then the others
       columns-are : i < length cols
-          → whole text tokens n blocks g ≡ (when (not (isColumn (getD cols i 0))) refusal.WrongCubeLine then (when (not (all isColumn (drop (i + 1) cols))) refusal.WrongCubeLine then behind))
+          → whole text tokens n blocks g ≡ (refuseIf (not (isColumn (getD cols i 0))) refusal.WrongCubeLine orElse (refuseIf (not (all isColumn (drop (i + 1) cols))) refusal.WrongCubeLine orElse behind))
       columns-are h =
           v .is
-          ∙ ap (λ (x : Bytes). when (not (all isColumn x)) refusal.WrongCubeLine then behind) (drop-next cols i 0 h)
-          ∙ when-and (isColumn (getD cols i 0)) (all isColumn (drop (i + 1) cols)) behind
+          ∙ ap (λ (x : Bytes). refuseIf (not (all isColumn x)) refusal.WrongCubeLine orElse behind) (drop-next cols i 0 h)
+          ∙ refuseIf-and (isColumn (getD cols i 0)) (all isColumn (drop (i + 1) cols)) behind
 
       -- a wrong column ends the pass
       pub bad-column : i < length cols → {b : Bool} → b ≡ isColumn (getD cols i 0) → not b ≡ true → Refused refusal.WrongCubeLine ≡ whole text tokens n blocks g
-      unfolding _then_ when
-      bad-column h {b} e t = sym (columns-are h ∙ ap (λ (x : Bool). when (not x) refusal.WrongCubeLine then (when (not (all isColumn (drop (i + 1) cols))) refusal.WrongCubeLine then behind)) (sym e ∙ not-true b t))
+      unfolding _orElse_ refuseIf
+      bad-column h {b} e t = sym (columns-are h ∙ ap (λ (x : Bool). refuseIf (not x) refusal.WrongCubeLine orElse (refuseIf (not (all isColumn (drop (i + 1) cols))) refusal.WrongCubeLine orElse behind)) (sym e ∙ not-true b t))
 
       -- the next column
       pub next-column : i < length cols → {b : Bool} → b ≡ isColumn (getD cols i 0) → not b ≡ false
           → Columns text tokens n blocks g j names lines k end met cols o (i + 1)
-      unfolding _then_ when
+      unfolding _orElse_ refuseIf
       next-column h {b} e t =
           record {
             places = v .places;
@@ -242,12 +242,12 @@ module _ {text tokens : List ℕ} {n : ℕ} {blocks : List ℕ} {g : ℕ} where
             named = v .named;
             rows = v .rows;
             enough = v .enough;
-            is = columns-are h ∙ ap (λ (x : Bool). when (not x) refusal.WrongCubeLine then (when (not (all isColumn (drop (i + 1) cols))) refusal.WrongCubeLine then behind)) (sym e ∙ not-false b t);
+            is = columns-are h ∙ ap (λ (x : Bool). refuseIf (not x) refusal.WrongCubeLine orElse (refuseIf (not (all isColumn (drop (i + 1) cols))) refusal.WrongCubeLine orElse behind)) (sym e ∙ not-false b t);
           }
 
       -- the columns are through: the next line
       pub end-line : length cols ≤ i → {more : Outputs} → more ≡ withOutput met o → Lines text tokens n blocks g j names lines end more (k + 1)
-      unfolding _then_ when
+      unfolding _orElse_ refuseIf
       end-line h {more} e =
           record {
             places = v .places;
@@ -258,8 +258,8 @@ module _ {text tokens : List ℕ} {n : ℕ} {blocks : List ℕ} {g : ℕ} where
             enough = λ l. v .enough;
             is =
                 v .is
-                ∙ ap (λ (x : Bytes). when (not (all isColumn x)) refusal.WrongCubeLine then behind) (drop-of-length-le cols h)
-                ∙ ap (λ (x : Outputs). linesFault (names - 1) x (take (lines - (k + 1)) (rowsFrom text tokens n end)) then rest text tokens n blocks g (j + 1)) (sym e);
+                ∙ ap (λ (x : Bytes). refuseIf (not (all isColumn x)) refusal.WrongCubeLine orElse behind) (drop-of-length-le cols h)
+                ∙ ap (λ (x : Outputs). linesFault (names - 1) x (take (lines - (k + 1)) (rowsFrom text tokens n end)) orElse rest text tokens n blocks g (j + 1)) (sym e);
           }
 
 pub ruleset steps = (start, enter-cover, end-pass, line-there, line-inside, last-there, line-some, lines-differ, lines-agree, line-misfits, enter-line, bad-column, next-column, end-line, needs)

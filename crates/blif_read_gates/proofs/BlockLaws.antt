@@ -17,7 +17,7 @@ use Rattle.blif_text.proofs.BlockLaws.{cover-from}
 use Rattle.blif_reading.specs.Read.{goodLine, added, coverFault}
 use Rattle.refusals.specs.declared.Refusal.the-variants as refusal
 use Rattle.refusals.specs.declared.Checked.the-variants.{Fine}
-use Rattle.refusals.proofs.Order.{then-left, fine-when}
+use Rattle.refusals.proofs.Order.{orElse-left, fine-refuseIf}
 use Rattle.blif_read_gates.specs.Steps.{GoodRows, CoverRoom, CoverBuilt, BlockRoom, BlockBuilt}
 use Rattle.blif_read_gates.proofs.GateLaws.{kept-none}
 
@@ -38,8 +38,8 @@ latch-stays text tokens n first zero lines e =
       kept = kept-none;
       counted = omega arith;
       end = omega arith;
-      main = λ look g. g;
-      more = λ look g i y q. absurd (let z : _≡_ {A = ℕ} 0 1 = cc in omega arith);
+      main = λ signalOf g. g;
+      more = λ signalOf g i y q. absurd (let z : _≡_ {A = ℕ} 0 1 = cc in omega arith);
     }
 latch-stays text tokens n first (suc k) lines e = absurd (omega arith)
 
@@ -51,7 +51,7 @@ latch-built text tokens n blocks {first} {names} {lines} {j} {next} {at} {gates}
 -- no refusal 12
 pub cover-good : (ns : List Bytes) (ls : List (List Bytes)) → coverFault (cover ns ls) ≡ Fine → all (goodLine (length ns - 1)) ls ≡ true
 unfolding coverFault
-cover-good ns ls e = not-false (all (goodLine (length ns - 1)) ls) (fine-when (not (all (goodLine (length ns - 1)) ls)) refusal.WrongCubeLine (then-left _ _ e))
+cover-good ns ls e = not-false (all (goodLine (length ns - 1)) ls) (fine-refuseIf (not (all (goodLine (length ns - 1)) ls)) refusal.WrongCubeLine (orElse-left _ _ e))
 
 module _ {text tokens : List ℕ} {n : ℕ} {blocks : List ℕ} {g j first names lines next at : ℕ} {gates pinsIn : List ℕ} (some-names : names ≡ 0 → ⊥) (low : j < g)
     (bs : Blocks text tokens n blocks g) (e : Cells blocks j first names lines) (room : BlockRoom (defAt text tokens n blocks j) j next at gates pinsIn) where
@@ -106,6 +106,6 @@ module _ {text tokens : List ℕ} {n : ℕ} {blocks : List ℕ} {g j first names
         kept = c .kept;
         counted = ap (λ (k : ℕ). next + k) (a ∙ ap added (sym lines-are));
         end = c .end;
-        main = λ look g. c .main _ g;
-        more = λ look g i y q. c .more _ g i y q;
+        main = λ signalOf g. c .main _ g;
+        more = λ signalOf g i y q. c .more _ g i y q;
       })

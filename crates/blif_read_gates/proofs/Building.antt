@@ -13,22 +13,22 @@ use Rattle.signal.specs.Signal.{Signal}
 use Rattle.gates.specs.Gate.{Gate}
 use Rattle.blif_text.specs.Decls.{Def}
 use Rattle.blif_meaning.specs.Model.{Block}
-use Rattle.blif_reading.specs.Build.{blockGate, moreGates, mains, extras}
+use Rattle.blif_reading.specs.Build.{blockGate, newGates, blockGates, allNewGates}
 use Rattle.blif_reading.specs.TextModel.{blockOf}
 use Rattle.blif_reading.specs.Working.{GateIn, GatesIn, placed}
-use Rattle.blif_reading.proofs.ModelToBuilt.{mains-length}
+use Rattle.blif_reading.proofs.ModelToBuilt.{blockGates-length}
 use Rattle.blif_read_gates.specs.declared.Built.{Built}
 use Rattle.blif_read_gates.specs.Pins.{builtPins}
 use Rattle.blif_read_gates.specs.Covers.{Buildable, BuiltBy}
 use Rattle.blif_read_gates.specs.Steps.{addedOf, addedPins, BlockRoom, BlockBuilt}
-use Rattle.blif_read_gates.proofs.Counting.{placed-long, mains-append, extras-append, extras-long, take-next, sum-next, sum-part, pins-split, gates-split, no-fault, built-few}
+use Rattle.blif_read_gates.proofs.Counting.{placed-long, blockGates-append, newGates-append, newGates-long, take-next, sum-next, sum-part, pins-split, gates-split, no-fault, built-few}
 use Rattle.blif_read_gates.proofs.LinesLaws.{append-place, one-place}
 
 -- the gates of the first j definitions are built, the others stand as they were placed first
-pub record Standing (look : Bytes → Signal) (ds : List Def) (g j at : ℕ) (gates pinsIn : List ℕ) : Type 0 where
-  pub mainsIn : GatesIn gates pinsIn at (mains look g (map blockOf (take j ds)))
-  pub placedIn : (h : ℕ) (d : Def) → j ≤ h → getElem? ds h ≡ some d → GateIn gates pinsIn at h (placed look d)
-  pub extrasIn : (i : ℕ) (y : Gate) → getElem? (extras look (map blockOf (take j ds))) i ≡ some y → GateIn gates pinsIn at (g + i) y
+pub record Standing (signalOf : Bytes → Signal) (ds : List Def) (g j at : ℕ) (gates pinsIn : List ℕ) : Type 0 where
+  pub mainsIn : GatesIn gates pinsIn at (blockGates signalOf g (map blockOf (take j ds)))
+  pub placedIn : (h : ℕ) (d : Def) → j ≤ h → getElem? ds h ≡ some d → GateIn gates pinsIn at h (placed signalOf d)
+  pub extrasIn : (i : ℕ) (y : Gate) → getElem? (allNewGates signalOf (map blockOf (take j ds))) i ≡ some y → GateIn gates pinsIn at (g + i) y
 
 -- j definitions are done: `next` is the number of the next gate of a line, `at` the next pin
 pub record Building (ds : List Def) (gates₀ pins₀ : List ℕ) (used g j next at : ℕ) (gates pinsIn : List ℕ) : Type 0 where
@@ -37,7 +37,7 @@ pub record Building (ds : List Def) (gates₀ pins₀ : List ℕ) (used g j next
   pub same-pins : length pinsIn ≡ length pins₀
   pub counted : next ≡ g + sumOf addedOf (take j ds)
   pub end : at ≡ used + sumOf builtPins (take j ds)
-  pub stands : (look : Bytes → Signal) → GatesIn gates₀ pins₀ used (map (placed look) ds) → Standing look ds g j at gates pinsIn
+  pub stands : (signalOf : Bytes → Signal) → GatesIn gates₀ pins₀ used (map (placed signalOf) ds) → Standing signalOf ds g j at gates pinsIn
 
 pub building-start : {ds : List Def} {gates pinsIn : List ℕ} {used g : ℕ} → Building ds gates pinsIn used g 0 g used gates pinsIn
 building-start {ds} {gates} {pinsIn} {used} {g} =
@@ -47,10 +47,10 @@ building-start {ds} {gates} {pinsIn} {used} {g} =
       same-pins = refl;
       counted = omega arith;
       end = omega arith;
-      stands = λ look first.
+      stands = λ signalOf first.
           record {
             mainsIn = λ h x e. absurd (let z : _≡_ {A = ℕ} 0 1 = cc in omega arith);
-            placedIn = λ h d l e. first h (placed look d) (map-place (placed look) ds h d e);
+            placedIn = λ h d l e. first h (placed signalOf d) (map-place (placed signalOf) ds h d e);
             extrasIn = λ i y e. absurd (let z : _≡_ {A = ℕ} 0 1 = cc in omega arith);
           };
     }
@@ -78,55 +78,55 @@ module _ {ds : List Def} {gates₀ pins₀ : List ℕ} {used g j next at : ℕ} 
       }
 
   module _ {next′ at′ : ℕ} {gates′ pinsIn′ : List ℕ} (p : BlockBuilt d j next at gates pinsIn gates′ pinsIn′ next′ at′) where
-    module _ (look : Bytes → Signal) (s : Standing look ds g j at gates pinsIn) where
+    module _ (signalOf : Bytes → Signal) (s : Standing signalOf ds g j at gates pinsIn) where
       abbrev done : List (Block Bytes)
       done = map blockOf (take j ds)
 
-      next-is : g + length (extras look done) ≡ next
-      next-is = ap (λ (k : ℕ). g + k) (extras-long look (take j ds)) ∙ sym (w .counted)
+      next-is : g + length (allNewGates signalOf done) ≡ next
+      next-is = ap (λ (k : ℕ). g + k) (newGates-long signalOf (take j ds)) ∙ sym (w .counted)
 
       now-done : map blockOf (take (j + 1) ds) ≡ done ++ (blockOf d ∷ [])
       now-done = ap (map blockOf) (take-next ds j d this) ∙ map-append blockOf (take j ds) (d ∷ [])
 
-      main-count : length (mains look g done) ≡ j
-      main-count = mains-length look g done ∙ length-map (take j ds) blockOf ∙ length-take-le j ds (omega (arith, low, size))
+      main-count : length (blockGates signalOf g done) ≡ j
+      main-count = blockGates-length signalOf g done ∙ length-map (take j ds) blockOf ∙ length-take-le j ds (omega (arith, low, size))
 
-      was : GateIn gates pinsIn at j (placed look d)
+      was : GateIn gates pinsIn at j (placed signalOf d)
       was = s .placedIn j d (omega arith) this
 
-      next-mains : GatesIn gates′ pinsIn′ at′ (mains look g (map blockOf (take (j + 1) ds)))
-      next-mains h x e =
-          let q : mains look g (map blockOf (take (j + 1) ds)) ≡ mains look g done ++ (blockGate look next (blockOf d) ∷ []) =
-          ap (mains look g) now-done
-          ∙ mains-append look g done (blockOf d ∷ [])
-          ∙ ap (λ (k : ℕ). mains look g done ++ (blockGate look k (blockOf d) ∷ [])) next-is in
+      next-blockGates : GatesIn gates′ pinsIn′ at′ (blockGates signalOf g (map blockOf (take (j + 1) ds)))
+      next-blockGates h x e =
+          let q : blockGates signalOf g (map blockOf (take (j + 1) ds)) ≡ blockGates signalOf g done ++ (blockGate signalOf next (blockOf d) ∷ []) =
+          ap (blockGates signalOf g) now-done
+          ∙ blockGates-append signalOf g done (blockOf d ∷ [])
+          ∙ ap (λ (k : ℕ). blockGates signalOf g done ++ (blockGate signalOf k (blockOf d) ∷ [])) next-is in
           ⊎-elim
           (λ t.
-          let l : h < j = omega (arith, place-lt (mains look g done) h x t, main-count) in
+          let l : h < j = omega (arith, place-lt (blockGates signalOf g done) h x t, main-count) in
           p .kept .stay h x (λ z. omega arith, omega (arith, low, w .counted)) (s .mainsIn h x t))
           (λ t.
-          let o = one-place (blockGate look next (blockOf d)) (t .0) x (t .2) in
+          let o = one-place (blockGate signalOf next (blockOf d)) (t .0) x (t .2) in
           let a : j ≡ h = omega (arith, t .1, main-count, o .0) in
-          subst (λ (k : ℕ). GateIn gates′ pinsIn′ at′ k x) a (subst (GateIn gates′ pinsIn′ at′ j) (o .1) (p .main look was)))
-          (append-place (mains look g done) (blockGate look next (blockOf d) ∷ []) h x (sym (ap (λ (l : List Gate). getElem? l h) q) ∙ e))
+          subst (λ (k : ℕ). GateIn gates′ pinsIn′ at′ k x) a (subst (GateIn gates′ pinsIn′ at′ j) (o .1) (p .main signalOf was)))
+          (append-place (blockGates signalOf g done) (blockGate signalOf next (blockOf d) ∷ []) h x (sym (ap (λ (l : List Gate). getElem? l h) q) ∙ e))
 
-      next-placed : (h : ℕ) (f : Def) → j + 1 ≤ h → getElem? ds h ≡ some f → GateIn gates′ pinsIn′ at′ h (placed look f)
+      next-placed : (h : ℕ) (f : Def) → j + 1 ≤ h → getElem? ds h ≡ some f → GateIn gates′ pinsIn′ at′ h (placed signalOf f)
       next-placed h f l e =
-          p .kept .stay h (placed look f) (λ z. omega arith, omega (arith, place-lt ds h f e, size, w .counted)) (s .placedIn h f (omega arith) e)
+          p .kept .stay h (placed signalOf f) (λ z. omega arith, omega (arith, place-lt ds h f e, size, w .counted)) (s .placedIn h f (omega arith) e)
 
-      next-extras : (i : ℕ) (y : Gate) → getElem? (extras look (map blockOf (take (j + 1) ds))) i ≡ some y → GateIn gates′ pinsIn′ at′ (g + i) y
-      next-extras i y e =
-          let q : extras look (map blockOf (take (j + 1) ds)) ≡ extras look done ++ moreGates look (blockOf d) =
-          ap (extras look) now-done
-          ∙ extras-append look done (blockOf d ∷ [])
-          ∙ ap (λ (l : List Gate). extras look done ++ l) (append-nil (moreGates look (blockOf d))) in
+      next-newGates : (i : ℕ) (y : Gate) → getElem? (allNewGates signalOf (map blockOf (take (j + 1) ds))) i ≡ some y → GateIn gates′ pinsIn′ at′ (g + i) y
+      next-newGates i y e =
+          let q : allNewGates signalOf (map blockOf (take (j + 1) ds)) ≡ allNewGates signalOf done ++ newGates signalOf (blockOf d) =
+          ap (allNewGates signalOf) now-done
+          ∙ newGates-append signalOf done (blockOf d ∷ [])
+          ∙ ap (λ (l : List Gate). allNewGates signalOf done ++ l) (append-nil (newGates signalOf (blockOf d))) in
           ⊎-elim
           (λ t.
-          p .kept .stay (g + i) y (λ z. omega (arith, low), omega (arith, place-lt (extras look done) i y t, next-is)) (s .extrasIn i y t))
+          p .kept .stay (g + i) y (λ z. omega (arith, low), omega (arith, place-lt (allNewGates signalOf done) i y t, next-is)) (s .extrasIn i y t))
           (λ t.
           let a : next + t .0 ≡ g + i = omega (arith, t .1, next-is) in
-          subst (λ (k : ℕ). GateIn gates′ pinsIn′ at′ k y) a (p .more look was (t .0) y (t .2)))
-          (append-place (extras look done) (moreGates look (blockOf d)) i y (sym (ap (λ (l : List Gate). getElem? l i) q) ∙ e))
+          subst (λ (k : ℕ). GateIn gates′ pinsIn′ at′ k y) a (p .more signalOf was (t .0) y (t .2)))
+          (append-place (allNewGates signalOf done) (newGates signalOf (blockOf d)) i y (sym (ap (λ (l : List Gate). getElem? l i) q) ∙ e))
 
     -- its gates are built
     pub building-next : length gates′ ≡ length gates → length pinsIn′ ≡ length pinsIn → Building ds gates₀ pins₀ used g (j + 1) next′ at′ gates′ pinsIn′
@@ -137,9 +137,9 @@ module _ {ds : List Def} {gates₀ pins₀ : List ℕ} {used g j next at : ℕ} 
           same-pins = sp ∙ w .same-pins;
           counted = omega (arith, p .counted, w .counted, sum-next addedOf ds j d this);
           end = omega (arith, p .end, w .end, sum-next builtPins ds j d this);
-          stands = λ look first.
-              let s = w .stands look first in
-              record { mainsIn = next-mains look s; placedIn = next-placed look s; extrasIn = next-extras look s };
+          stands = λ signalOf first.
+              let s = w .stands signalOf first in
+              record { mainsIn = next-blockGates signalOf s; placedIn = next-placed signalOf s; extrasIn = next-newGates signalOf s };
         }
 
 -- ---- all blocks
@@ -151,22 +151,22 @@ building-done {ds} {gates₀} {pins₀} {used} {g} {j} {gates} {pinsIn} r size b
     let next : r .gates ≡ g + sumOf addedOf ds = rw t at (w .counted) in
     let end : r .pins ≡ used + sumOf builtPins ds = rw t at (w .end) in
     let few : sumOf builtPins ds ≤ sumOf addedPins ds = rw t at (built-few j ds (b .good)) in
-    let main-count : (look : Bytes → Signal) → length (mains look (length (map blockOf ds)) (map blockOf ds)) ≡ length ds =
-    λ look. mains-length look (length (map blockOf ds)) (map blockOf ds) ∙ length-map ds blockOf in
+    let main-count : (signalOf : Bytes → Signal) → length (blockGates signalOf (length (map blockOf ds)) (map blockOf ds)) ≡ length ds =
+    λ signalOf. blockGates-length signalOf (length (map blockOf ds)) (map blockOf ds) ∙ length-map ds blockOf in
     record {
-      counted = λ look.
+      counted = λ signalOf.
           next
-          ∙ ap₂ (λ (a c : ℕ). a + c) (sym (main-count look ∙ size)) (sym (extras-long look ds))
-          ∙ sym (length-append (mains look (length (map blockOf ds)) (map blockOf ds)) (extras look (map blockOf ds)));
+          ∙ ap₂ (λ (a c : ℕ). a + c) (sym (main-count signalOf ∙ size)) (sym (newGates-long signalOf ds))
+          ∙ sym (length-append (blockGates signalOf (length (map blockOf ds)) (map blockOf ds)) (allNewGates signalOf (map blockOf ds)));
       pins = end;
       fewGates = omega (arith, next, gates-split ds, size, b .fewGates);
       fewPins = omega (arith, end, few, pins-split ds, b .start, b .fewPins);
-      gates-in = λ look first k x e.
-          let s = w .stands look first in
+      gates-in = λ signalOf first k x e.
+          let s = w .stands signalOf first in
           ⊎-elim
           (λ q. s .mainsIn k x (rw (t, ← size) (rw (length-map ds blockOf) at q)))
           (λ q.
-          let a : g + q .0 ≡ k = omega (arith, q .1, main-count look, size) in
+          let a : g + q .0 ≡ k = omega (arith, q .1, main-count signalOf, size) in
           subst (λ (i : ℕ). GateIn gates pinsIn (r .pins) i x) a (s .extrasIn (q .0) x (rw t (q .2))))
-          (append-place (mains look (length (map blockOf ds)) (map blockOf ds)) (extras look (map blockOf ds)) k x e);
+          (append-place (blockGates signalOf (length (map blockOf ds)) (map blockOf ds)) (allNewGates signalOf (map blockOf ds)) k x e);
     }

@@ -9,12 +9,12 @@ use Rattle.lists.specs.Lists.{Bytes, all, sumOf}
 use Rattle.lists.proofs.Counting.{sum-append}
 use Rattle.lists.proofs.Tests.{and-left, and-right}
 use Rattle.refusals.specs.declared.Checked.the-variants.{Fine}
-use Rattle.refusals.proofs.Order.{then-left, then-right}
+use Rattle.refusals.proofs.Order.{orElse-left, orElse-right}
 use Rattle.signal.specs.Signal.{Signal}
 use Rattle.signal.specs.Cell.{sigCell}
 use Rattle.gates.specs.Gate.{Gate, pins}
 use Rattle.blif_text.specs.Decls.{Def, latch, cover, coverIns, columns, isOne}
-use Rattle.blif_reading.specs.Build.{literals, lineGate, coverGate, lineGates, blockGate, moreGates, mains, extras}
+use Rattle.blif_reading.specs.Build.{literals, lineGate, coverGate, lineGates, blockGate, newGates, blockGates, allNewGates}
 use Rattle.blif_reading.specs.TextModel.{colOfByte, lineOf, blockOf}
 use Rattle.blif_reading.specs.Read.{goodLine, coverFault, coverFaults}
 use Rattle.blif_reading.specs.Working.{builtGates}
@@ -57,24 +57,24 @@ module _ (ss : List Signal) where
   cover-pins k (l ∷ []) g = omega (arith, lines-pins (l ∷ []) g)
   cover-pins k (l ∷ m ∷ ls) g = omega (arith, run-long k (length (map lineOf (l ∷ m ∷ ls))), length-map ls lineOf, lines-pins (l ∷ m ∷ ls) g)
 
-module _ (look : Bytes → Signal) where
-  def-pins : (k : ℕ) (d : Def) → coverFault d ≡ Fine → pinsOf (blockGate look k (blockOf d)) + sumOf pinsOf (moreGates look (blockOf d)) ≡ builtPins d + latchPins d
+module _ (signalOf : Bytes → Signal) where
+  def-pins : (k : ℕ) (d : Def) → coverFault d ≡ Fine → pinsOf (blockGate signalOf k (blockOf d)) + sumOf pinsOf (newGates signalOf (blockOf d)) ≡ builtPins d + latchPins d
   def-pins k (latch d q) e = refl
   def-pins k (cover ns ls) e =
-      let wide : length ns - 1 ≡ length (map look (coverIns ns)) = sym (placed-long look (cover ns ls)) in
-      omega (arith, cover-pins (map look (coverIns ns)) k ls (subst (λ (n : ℕ). all (goodLine n) ls ≡ true) wide (cover-good ns ls e)))
+      let wide : length ns - 1 ≡ length (map signalOf (coverIns ns)) = sym (placed-long signalOf (cover ns ls)) in
+      omega (arith, cover-pins (map signalOf (coverIns ns)) k ls (subst (λ (n : ℕ). all (goodLine n) ls ≡ true) wide (cover-good ns ls e)))
 
   both-pins : (k : ℕ) (ds : List Def) → coverFaults ds ≡ Fine
-      → sumOf pinsOf (mains look k (map blockOf ds)) + sumOf pinsOf (extras look (map blockOf ds)) ≡ sumOf builtPins ds + sumOf latchPins ds
+      → sumOf pinsOf (blockGates signalOf k (map blockOf ds)) + sumOf pinsOf (allNewGates signalOf (map blockOf ds)) ≡ sumOf builtPins ds + sumOf latchPins ds
   unfolding coverFaults
   both-pins k [] e = refl
   both-pins k (d ∷ ds) e =
-      let more = moreGates look (blockOf d) in
+      let more = newGates signalOf (blockOf d) in
       omega
-      (arith, def-pins k d (then-left (coverFault d) (coverFaults ds) e), both-pins (k + length more) ds (then-right (coverFault d) (coverFaults ds) e), sum-append pinsOf more (extras look (map blockOf ds)))
+      (arith, def-pins k d (orElse-left (coverFault d) (coverFaults ds) e), both-pins (k + length more) ds (orElse-right (coverFault d) (coverFaults ds) e), sum-append pinsOf more (allNewGates signalOf (map blockOf ds)))
 
   -- without refusal 12 or 13, whatever signals the names have
-  pub built-pins-are : (ds : List Def) → coverFaults ds ≡ Fine → sumOf (λ g. length (pins g)) (builtGates look ds) ≡ sumOf builtPins ds + sumOf latchPins ds
+  pub built-pins-are : (ds : List Def) → coverFaults ds ≡ Fine → sumOf (λ g. length (pins g)) (builtGates signalOf ds) ≡ sumOf builtPins ds + sumOf latchPins ds
   built-pins-are ds e =
       let n = length (map blockOf ds) in
-      sum-append pinsOf (mains look n (map blockOf ds)) (extras look (map blockOf ds)) ∙ both-pins n ds e
+      sum-append pinsOf (blockGates signalOf n (map blockOf ds)) (allNewGates signalOf (map blockOf ds)) ∙ both-pins n ds e

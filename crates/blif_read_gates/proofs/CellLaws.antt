@@ -8,10 +8,10 @@ use lib.Dec.{eqb}
 use lib.ListN.{length, getD, take, drop, length-append}
 use lib.Seq.{take-take, getD-take}
 use borrow.Author.Tests.{eq-eqb, ne-eqb}
-use Rattle.lists.specs.Lists.{Bytes, overAt}
+use Rattle.lists.specs.Lists.{Bytes, overwriteAt}
 use Rattle.lists.proofs.OverAt.{run-before}
 use Rattle.lists.proofs.Places.{run-within}
-use Rattle.signal.specs.Signal.{Node, Const, Input, Gated, Signal, turned}
+use Rattle.signal.specs.Signal.{Node, Const, Input, Var, Signal, invert}
 use Rattle.signal.specs.Cell.{bitOf, nodeCell, sigCell, sigOf}
 use Rattle.signal.proofs.Cells.{cell-again}
 use Rattle.gates.specs.Gate.{pins}
@@ -24,8 +24,8 @@ use Rattle.blif_read_gates.specs.Steps.{turnCell, columnCells, literalCe
 -- ---- lists with the same front
 
 -- the cells before what is laid stay
-pub over-front : (k : ℕ) (t o : List ℕ) → take k (overAt k t o) ≡ take k o
-over-front k t o = run-before k t o 0 k (omega arith)
+pub overwrite-front : (k : ℕ) (t o : List ℕ) → take k (overwriteAt k t o) ≡ take k o
+overwrite-front k t o = run-before k t o 0 k (omega arith)
 
 -- lists with the same front have the same elements there
 pub front-at : (k : ℕ) (a b : List ℕ) (i : ℕ) → take k a ≡ take k b → i < k → getD a i 0 ≡ getD b i 0
@@ -43,7 +43,7 @@ front-less j k a b h e = sym (take-take j k a h) ∙ ap (take j) e ∙ take-take
 
 even-node : (n : Node) → nodeCell n % 2 ≡ 0
 even-node Const = refl
-even-node (Gated v) = omega arith
+even-node (Var v) = omega arith
 even-node (Input v) = omega arith
 
 turn-bit : (x : ℕ) (b : Bool) → x % 2 ≡ 0 → turnCell (x + bitOf b) ≡ x + bitOf (not b)
@@ -51,11 +51,11 @@ turn-bit x false e = let t : eqb ((x + 0) % 2) 0 ≡ true = eq-eqb ((x + 0) % 2)
 turn-bit x true e = let t : eqb ((x + 1) % 2) 0 ≡ false = ne-eqb ((x + 1) % 2) 0 (λ z. omega arith) in rw t (omega arith)
 
 -- the cell of an inverted signal
-pub turn-sig : (s : Signal) → turnCell (sigCell s) ≡ sigCell (turned s)
+pub turn-sig : (s : Signal) → turnCell (sigCell s) ≡ sigCell (invert s)
 turn-sig s = turn-bit (nodeCell (s .node)) (s .inv) (even-node (s .node))
 
 -- what `not` makes of a cell
-pub turn-is : (c : ℕ) → c < 2 ^ 32 → sigCell (turned (sigOf c)) ≡ turnCell c
+pub turn-is : (c : ℕ) → c < 2 ^ 32 → sigCell (invert (sigOf c)) ≡ turnCell c
 turn-is c h = sym (turn-sig (sigOf c)) ∙ ap (λ (x : ℕ). turnCell x) (cell-again c h)
 
 -- ---- literals

@@ -17,12 +17,12 @@ use Rattle.gates.specs.Gate.{Gate, pins}
 use Rattle.blif_text.specs.Decls.{Def, latch, cover, coverIns}
 use Rattle.blif_text.specs.Blocks.{defAt, defsAt}
 use Rattle.blif_meaning.specs.Model.{Block, Line}
-use Rattle.blif_reading.specs.Build.{lineGate, lineGates, blockGate, moreGates, mains, extras}
+use Rattle.blif_reading.specs.Build.{lineGate, lineGates, blockGate, newGates, blockGates, allNewGates}
 use Rattle.blif_reading.specs.Read.{gateCount, pinCount, added, coverFault, coverFaults}
 use Rattle.blif_reading.specs.TextModel.{lineOf, blockOf}
 use Rattle.blif_reading.specs.Working.{placed, placedCount}
 use Rattle.refusals.specs.declared.Checked.the-variants.{Fine}
-use Rattle.refusals.proofs.Order.{then-left, then-right}
+use Rattle.refusals.proofs.Order.{orElse-left, orElse-right}
 use Rattle.blif_read_gates.specs.Pins.{builtPins}
 use Rattle.blif_read_gates.specs.Steps.{addedOf, addedPins}
 use Rattle.blif_read_gates.proofs.PinLaws.{cover-few}
@@ -30,10 +30,10 @@ use Rattle.blif_read_gates.proofs.CoverLaws.{added-many}
 use Rattle.blif_read_gates.proofs.BlockLaws.{cover-good}
 
 -- the pins of the gate placed first
-pub placed-long : (look : Bytes → Signal) (d : Def) → length (pins (placed look d)) ≡ placedCount d
+pub placed-long : (signalOf : Bytes → Signal) (d : Def) → length (pins (placed signalOf d)) ≡ placedCount d
 unfolding coverIns
-placed-long look (latch d q) = refl
-placed-long look (cover ns ls) = length-map (take (length ns - 1) ns) look ∙ length-take-le (length ns - 1) ns (omega arith)
+placed-long signalOf (latch d q) = refl
+placed-long signalOf (cover ns ls) = length-map (take (length ns - 1) ns) signalOf ∙ length-take-le (length ns - 1) ns (omega arith)
 
 -- ---- sums
 
@@ -74,8 +74,8 @@ gates-split (d ∷ ds) = omega (arith, gates-one d, gates-split ds)
 pub no-fault : (ds : List Def) (j : ℕ) (d : Def) → coverFaults ds ≡ Fine → getElem? ds j ≡ some d → coverFault d ≡ Fine
 unfolding coverFaults
 no-fault [] j d f e = absurd (let z : _≡_ {A = ℕ} 0 1 = cc in omega arith)
-no-fault (x ∷ ds) zero d f e = let s : x ≡ d = cc in ap coverFault (sym s) ∙ then-left (coverFault x) (coverFaults ds) f
-no-fault (x ∷ ds) (suc j) d f e = no-fault ds j d (then-right (coverFault x) (coverFaults ds) f) e
+no-fault (x ∷ ds) zero d f e = let s : x ≡ d = cc in ap coverFault (sym s) ∙ orElse-left (coverFault x) (coverFaults ds) f
+no-fault (x ∷ ds) (suc j) d f e = no-fault ds j d (orElse-right (coverFault x) (coverFaults ds) f) e
 
 -- ---- pins
 
@@ -90,7 +90,7 @@ built-few zero ds e = omega arith
 built-few (suc j) [] e = omega arith
 built-few (suc j) (d ∷ ds) e =
     omega
-    (arith, added-few d (then-left (coverFault d) (coverFaults ds) e), built-few j ds (then-right (coverFault d) (coverFaults ds) e))
+    (arith, added-few d (orElse-left (coverFault d) (coverFaults ds) e), built-few j ds (orElse-right (coverFault d) (coverFaults ds) e))
 
 -- ---- gates
 
@@ -100,29 +100,29 @@ lines-count ss [] = refl
 lines-count ss (l ∷ []) = refl
 lines-count ss (l ∷ m ∷ ls) = ap (λ (n : ℕ). suc (suc n)) (length-map ls (lineGate ss)) ∙ sym (added-many (suc (suc (length ls))) (omega arith))
 
-module _ (look : Bytes → Signal) where
+module _ (signalOf : Bytes → Signal) where
   -- the gates that a definition adds
-  more-long : (d : Def) → length (moreGates look (blockOf d)) ≡ addedOf d
+  more-long : (d : Def) → length (newGates signalOf (blockOf d)) ≡ addedOf d
   more-long (latch d q) = refl
-  more-long (cover ns ls) = lines-count (map look (coverIns ns)) (map lineOf ls) ∙ ap added (length-map ls lineOf)
+  more-long (cover ns ls) = lines-count (map signalOf (coverIns ns)) (map lineOf ls) ∙ ap added (length-map ls lineOf)
 
   -- and those of all
-  pub extras-long : (ds : List Def) → length (extras look (map blockOf ds)) ≡ sumOf addedOf ds
-  extras-long [] = refl
-  extras-long (d ∷ ds) =
-      length-append (moreGates look (blockOf d)) (extras look (map blockOf ds)) ∙ ap₂ (λ (a b : ℕ). a + b) (more-long d) (extras-long ds)
+  pub newGates-long : (ds : List Def) → length (allNewGates signalOf (map blockOf ds)) ≡ sumOf addedOf ds
+  newGates-long [] = refl
+  newGates-long (d ∷ ds) =
+      length-append (newGates signalOf (blockOf d)) (allNewGates signalOf (map blockOf ds)) ∙ ap₂ (λ (a b : ℕ). a + b) (more-long d) (newGates-long ds)
 
-  pub extras-append : (a b : List (Block Bytes)) → extras look (a ++ b) ≡ extras look a ++ extras look b
-  extras-append [] b = refl
-  extras-append (x ∷ a) b =
-      ap (λ (l : List Gate). moreGates look x ++ l) (extras-append a b) ∙ sym (append-assoc (moreGates look x) (extras look a) (extras look b))
+  pub newGates-append : (a b : List (Block Bytes)) → allNewGates signalOf (a ++ b) ≡ allNewGates signalOf a ++ allNewGates signalOf b
+  newGates-append [] b = refl
+  newGates-append (x ∷ a) b =
+      ap (λ (l : List Gate). newGates signalOf x ++ l) (newGates-append a b) ∙ sym (append-assoc (newGates signalOf x) (allNewGates signalOf a) (allNewGates signalOf b))
 
-  pub mains-append : (k : ℕ) (a b : List (Block Bytes)) → mains look k (a ++ b) ≡ mains look k a ++ mains look (k + length (extras look a)) b
-  mains-append k [] b = ap (λ (n : ℕ). mains look n b) (sym (add-zero k))
-  mains-append k (x ∷ a) b =
-      let n : k + length (moreGates look x) + length (extras look a) ≡ k + length (moreGates look x ++ extras look a) = omega (arith, length-append (moreGates look x) (extras look a)) in
-      ap (λ (l : List Gate). blockGate look k x ∷ l)
-      (mains-append (k + length (moreGates look x)) a b ∙ ap (λ (m : ℕ). mains look (k + length (moreGates look x)) a ++ mains look m b) n)
+  pub blockGates-append : (k : ℕ) (a b : List (Block Bytes)) → blockGates signalOf k (a ++ b) ≡ blockGates signalOf k a ++ blockGates signalOf (k + length (allNewGates signalOf a)) b
+  blockGates-append k [] b = ap (λ (n : ℕ). blockGates signalOf n b) (sym (add-zero k))
+  blockGates-append k (x ∷ a) b =
+      let n : k + length (newGates signalOf x) + length (allNewGates signalOf a) ≡ k + length (newGates signalOf x ++ allNewGates signalOf a) = omega (arith, length-append (newGates signalOf x) (allNewGates signalOf a)) in
+      ap (λ (l : List Gate). blockGate signalOf k x ∷ l)
+      (blockGates-append (k + length (newGates signalOf x)) a b ∙ ap (λ (m : ℕ). blockGates signalOf (k + length (newGates signalOf x)) a ++ blockGates signalOf m b) n)
 
 -- ---- the definitions by places
 

@@ -7,8 +7,8 @@ use native.Mathlib.Omega.{arith}
 use lib.ListN.{length, getD, getElem?, take, drop, set, length-map}
 use lib.Seq.{drop-cons, length-take-le}
 use borrow.Author.Tests.{lt-ltb}
-use Rattle.lists.specs.Lists.{Bytes, all, overAt}
-use Rattle.lists.proofs.OverAt.{length-overAt}
+use Rattle.lists.specs.Lists.{Bytes, all, overwriteAt}
+use Rattle.lists.proofs.OverAt.{length-overwriteAt}
 use Rattle.lists.proofs.Laying.{one-store}
 use Rattle.lists.proofs.Tests.{and-left}
 use Rattle.signal.specs.Signal.{Signal, zeroS}
@@ -98,7 +98,7 @@ module _ {text tokens : List ℕ} {n row count j next at : ℕ} {gates pinsIn : 
   )
 
   module _ (f : ℕ) {source inputs : ℕ} {gates₁ pins₁ : List ℕ} (es : source ≡ firstAt gates j) (ei : inputs ≡ countAt gates j)
-      (eg : gates₁ ≡ overAt (j * gateWidth) (three f at count) gates) (ep : pins₁ ≡ overAt at (joinCells next count) pinsIn) where
+      (eg : gates₁ ≡ overwriteAt (j * gateWidth) (three f at count) gates) (ep : pins₁ ≡ overwriteAt at (joinCells next count) pinsIn) where
     -- room for the lines behind them
     pub joined-room : LinesRoom inputs count source (at + count) next gates₁ pins₁
     joined-room =
@@ -106,8 +106,8 @@ module _ {text tokens : List ℕ} {n row count j next at : ℕ} {gates pinsIn : 
         record {
           room =
               record {
-                gateRoom = omega (arith, room .room .gateRoom, ap length eg ∙ length-overAt (j * gateWidth) (three f at count) gates);
-                pinRoom = omega (arith, room .room .pinRoom, ap length ep ∙ length-overAt at (joinCells next count) pinsIn);
+                gateRoom = omega (arith, room .room .gateRoom, ap length eg ∙ length-overwriteAt (j * gateWidth) (three f at count) gates);
+                pinRoom = omega (arith, room .room .pinRoom, ap length ep ∙ length-overwriteAt at (joinCells next count) pinsIn);
               };
           sources = omega (arith, room .sources, es, ei);
           fits = rw k (omega (arith, join-pins count (countAt gates j), room .fits));
@@ -161,10 +161,10 @@ module _ {text tokens : List ℕ} {n row count j next at : ℕ} {gates pinsIn : 
 
 -- "A cover without lines is Buf(zero)"
 pub none-built : (rows : List (List Bytes)) {count j next at x : ℕ} {gates pinsIn gates′ : List ℕ} → CoverRoom count j next at gates pinsIn → count ≡ 0 → x ≡ sigCell zeroS
-    → gates′ ≡ overAt (j * gateWidth) (three (formNumber Buf) at 1) gates → CoverBuilt (take count rows) j next at gates pinsIn gates′ (set pinsIn at x) (at + 1)
+    → gates′ ≡ overwriteAt (j * gateWidth) (three (formNumber Buf) at 1) gates → CoverBuilt (take count rows) j next at gates pinsIn gates′ (set pinsIn at x) (at + 1)
 none-built rows {count} {j} {next} {at} {x} {gates} {pinsIn} {gates′} room z ex eg =
     let t : take count rows ≡ [] = ap (λ (k : ℕ). take k rows) z in
-    let ep : set pinsIn at x ≡ overAt at (0 ∷ []) pinsIn = ap (set pinsIn at) ex ∙ one-store at 0 pinsIn in
+    let ep : set pinsIn at x ≡ overwriteAt at (0 ∷ []) pinsIn = ap (set pinsIn at) ex ∙ one-store at 0 pinsIn in
     let there : j * gateWidth + 2 < length gates = omega (arith, room .before, room .low, room .room .gateRoom) in
     let fit : at + 1 ≤ length pinsIn = omega (arith, room .fits, room .room .pinRoom) in
     rw (t, ep, eg)

@@ -5,8 +5,8 @@ use mathlib.Core.List.{List, [], _∷_, map}
 use Prim.Native.Nat.{ℕ, _+_, _*_, _≤_, _<_}
 use native.Mathlib.Omega.{arith}
 use lib.ListN.{length, getD, take, drop, set, length-map}
-use Rattle.lists.specs.Lists.{Bytes, overAt}
-use Rattle.lists.proofs.OverAt.{length-overAt}
+use Rattle.lists.specs.Lists.{Bytes, overwriteAt}
+use Rattle.lists.proofs.OverAt.{length-overwriteAt}
 use Rattle.signal.specs.Signal.{Signal}
 use Rattle.signal.specs.Cell.{sigCell}
 use Rattle.gates.specs.Gate.{Buf, Gate, pins}
@@ -18,14 +18,14 @@ use Rattle.blif_reading.specs.Working.{GateIn}
 use Rattle.blif_reading.proofs.WorkingLaws.{record-kept, run-kept, used-more, gate-written}
 use Rattle.blif_read_gates.specs.Steps.{literalCells, literalsAt, singleCell, lineCells, lineForm, manyForm, LineRoom, LinePut, GatesKept}
 use Rattle.blif_read_gates.proofs.LiteralLaws.{LaidAt, many-pins, single-pins}
-use Rattle.blif_read_gates.proofs.CellLaws.{over-front, front-less, literals-sig, literals-few, line-sig, form-sig, line-few}
+use Rattle.blif_read_gates.proofs.CellLaws.{overwrite-front, front-less, literals-sig, literals-few, line-sig, form-sig, line-few}
 
 -- the cells of a gate's record
 abbrev pub three : ℕ → ℕ → ℕ → List ℕ
 three f p c = f ∷ p ∷ c ∷ []
 
 -- a gate whose record and run are written
-pub gate-put : (gates pinsIn : List ℕ) (at : ℕ) {gates′ pinsIn′ t : List ℕ} {r h f c : ℕ} (x : Gate) → gates′ ≡ overAt (h * gateWidth) (three f at c) gates → pinsIn′ ≡ overAt at t pinsIn
+pub gate-put : (gates pinsIn : List ℕ) (at : ℕ) {gates′ pinsIn′ t : List ℕ} {r h f c : ℕ} (x : Gate) → gates′ ≡ overwriteAt (h * gateWidth) (three f at c) gates → pinsIn′ ≡ overwriteAt at t pinsIn
     → r ≡ at + c → f ≡ formCell x → t ≡ map sigCell (pins x) → c ≡ length (pins x) → h * gateWidth + 2 < length gates → r ≤ length pinsIn → GateIn gates′ pinsIn′ r h x
 gate-put gates pinsIn at {gates′} {pinsIn′} {t} {r} {h} {f} {c} x eg ep er ef et ec l fit =
     rw (eg, ep, er, ef, et, ec) (gate-written gates pinsIn at h x l (omega arith))
@@ -53,11 +53,11 @@ kept-some f a = record { low = a .low; front = a .front; stay = λ h x k g. a .s
 
 -- a record and its run are written
 pub kept-put : (gates pinsIn t : List ℕ) (at at′ j f p c : ℕ) → at ≤ at′
-    → GatesKept (λ h. h ≡ j → ⊥) gates pinsIn at (overAt (j * gateWidth) (three f p c) gates) (overAt at t pinsIn) at′
+    → GatesKept (λ h. h ≡ j → ⊥) gates pinsIn at (overwriteAt (j * gateWidth) (three f p c) gates) (overwriteAt at t pinsIn) at′
 kept-put gates pinsIn t at at′ j f p c l =
     record {
       low = l;
-      front = over-front at t pinsIn;
+      front = overwrite-front at t pinsIn;
       stay = λ h x ne g. used-more at′ l (record-kept j (three f p c) (omega arith) ne (run-kept at t (omega arith) g));
     }
 
@@ -65,19 +65,19 @@ kept-put gates pinsIn t at at′ j f p c l =
 
 module _ {columns : Bytes} {one : Bool} {source at h m : ℕ} {gates pinsIn gates′ pinsIn′ : List ℕ} (d : LaidAt at (literalsAt columns source pinsIn) pinsIn pinsIn′ m) where
   -- a line with two or more literals is put
-  pub line-many : {f : ℕ} → 1 < m → f ≡ manyForm one → gates′ ≡ overAt (h * gateWidth) (three f at m) gates → LinePut columns one source at h gates pinsIn gates′ pinsIn′ (at + m)
+  pub line-many : {f : ℕ} → 1 < m → f ≡ manyForm one → gates′ ≡ overwriteAt (h * gateWidth) (three f at m) gates → LinePut columns one source at h gates pinsIn gates′ pinsIn′ (at + m)
   line-many {f} l ef e =
       let lits = literalsAt columns source pinsIn in
       let q = many-pins one lits (omega (arith, d .1)) in
       let n : m ≡ length (lineCells one lits) = d .1 ∙ ap length (sym (q .0)) in
       record {
-        runs = d .0 ∙ ap (λ (t : List ℕ). overAt at t pinsIn) (sym (q .0));
-        records = e ∙ ap₂ (λ (a b : ℕ). overAt (h * gateWidth) (three a at b) gates) (ef ∙ sym (q .1)) n;
+        runs = d .0 ∙ ap (λ (t : List ℕ). overwriteAt at t pinsIn) (sym (q .0));
+        records = e ∙ ap₂ (λ (a b : ℕ). overwriteAt (h * gateWidth) (three a at b) gates) (ef ∙ sym (q .1)) n;
         end = ap (λ (k : ℕ). at + k) n;
       }
 
   -- a line with none or one
-  pub line-single : {x : ℕ} → m ≤ 1 → at < length pinsIn → x ≡ singleCell one m (getD pinsIn′ at 0) → gates′ ≡ overAt (h * gateWidth) (three (formNumber Buf) at 1) gates
+  pub line-single : {x : ℕ} → m ≤ 1 → at < length pinsIn → x ≡ singleCell one m (getD pinsIn′ at 0) → gates′ ≡ overwriteAt (h * gateWidth) (three (formNumber Buf) at 1) gates
       → LinePut columns one source at h gates pinsIn gates′ (set pinsIn′ at x) (at + 1)
   line-single {x} l room ex e =
       let lits = literalsAt columns source pinsIn in
@@ -87,7 +87,7 @@ module _ {columns : Bytes} {one : Bool} {source at h m : ℕ} {gates pinsIn gate
             ap (λ (y : ℕ). set pinsIn′ at y) (ex ∙ ap (λ (k : ℕ). singleCell one k (getD pinsIn′ at 0)) (d .1))
             ∙ ap (λ (s : List ℕ). set s at (singleCell one (length lits) (getD s at 0))) (d .0)
             ∙ q .0;
-        records = e ∙ ap₂ (λ (a b : ℕ). overAt (h * gateWidth) (three a at b) gates) (sym (q .1)) (sym (q .2));
+        records = e ∙ ap₂ (λ (a b : ℕ). overwriteAt (h * gateWidth) (three a at b) gates) (sym (q .1)) (sym (q .2));
         end = ap (λ (k : ℕ). at + k) (sym (q .2));
       }
 
@@ -125,8 +125,8 @@ module _ {columns : Bytes} {one : Bool} {source at h : ℕ} {gates pinsIn gates�
   pub line-same : (length gates′ ≡ length gates) × (length pinsIn′ ≡ length pinsIn)
   line-same =
       let lits = literalsAt columns source pinsIn in (
-        ap length (p .records) ∙ length-overAt (h * gateWidth) (three (lineForm one lits) at (length (lineCells one lits))) gates,
-        ap length (p .runs) ∙ length-overAt at (lineCells one lits) pinsIn,
+        ap length (p .records) ∙ length-overwriteAt (h * gateWidth) (three (lineForm one lits) at (length (lineCells one lits))) gates,
+        ap length (p .runs) ∙ length-overwriteAt at (lineCells one lits) pinsIn,
       )
 
   -- no more pins than columns, or one

@@ -4,7 +4,7 @@ use mathlib.Core.List.{List, _∷_, map}
 use Prim.Native.Nat.{ℕ, zero, suc, _+_, _-_, _^_, _≤_, _<_}
 use native.Mathlib.Omega.{arith}
 use lib.ListN.{length, set}
-use Rattle.lists.specs.Lists.{overAt}
+use Rattle.lists.specs.Lists.{overwriteAt}
 use Rattle.lists.proofs.Laying.{Laying, laying-start, laying-next, laying-done}
 use Rattle.signal.specs.Cell.{sigCell, gateCell}
 use Rattle.signal.proofs.Cells.{gate-cell}
@@ -37,7 +37,7 @@ joining-next {next = next} {count} {i} few l q h =
     record { within = omega arith; laying = laying-next (h .laying) e (omega arith) }
 
 pub joining-done : {pins₀ pinsIn : List ℕ} {at next count i : ℕ} → count ≤ i → Joining pins₀ pinsIn at next count i
-    → pinsIn ≡ overAt at (joinCells next count) pins₀
+    → pinsIn ≡ overwriteAt at (joinCells next count) pins₀
 joining-done {next = next} {count} {i} l h =
     let g : count - i ≡ 0 = omega arith in
     laying-done (h .laying) (ap (joinCells (next + i)) g)

@@ -8,8 +8,8 @@ use lib.Dec.{eqb}
 use lib.ListN.{length, getD, take, drop, set, length-append, length-drop, drop-of-length-le}
 use lib.Seq.{length-take-le, getD-take, getD-drop, set-set}
 use borrow.Author.Tests.{eq-eqb, ne-eqb}
-use Rattle.lists.specs.Lists.{Bytes, overAt}
-use Rattle.lists.proofs.OverAt.{overAt-nil, overAt-inside, length-overAt, over-first, over-append}
+use Rattle.lists.specs.Lists.{Bytes, overwriteAt}
+use Rattle.lists.proofs.OverAt.{overwriteAt-nil, overwriteAt-inside, length-overwriteAt, overwrite-first, overwrite-append}
 use Rattle.lists.proofs.Laying.{one-store, Laying, laying-start, laying-more, laying-done}
 use Rattle.lists.proofs.Places.{drop-next, length-run}
 use Rattle.signal.specs.Signal.{zeroS, xorS}
@@ -17,18 +17,18 @@ use Rattle.signal.specs.Cell.{sigCell, sigOf}
 use Rattle.gates.specs.Gate.{Buf}
 use Rattle.gates.specs.Forms.{formNumber}
 use Rattle.blif_read_gates.specs.Steps.{turnCell, columnCells, literalCells, literalsAt, singleCell, lineCells, lineForm, manyForm}
-use Rattle.blif_read_gates.proofs.CellLaws.{over-front, front-at, front-less, one-literal}
+use Rattle.blif_read_gates.proofs.CellLaws.{overwrite-front, front-at, front-less, one-literal}
 
 -- ---- one column
 
 -- the cells t are laid over o, and counted
 abbrev pub LaidAt : ℕ → List ℕ → List ℕ → List ℕ → ℕ → Type 0
-LaidAt k t o o′ r = (o′ ≡ overAt k t o) × (r ≡ length t)
+LaidAt k t o o′ r = (o′ ≡ overwriteAt k t o) × (r ≡ length t)
 
 pub literal-zero : (b c k x : ℕ) (o : List ℕ) → b ≡ 48 → x ≡ turnCell c → LaidAt k (columnCells b c) o (set o k x) 1
 literal-zero b c k x o e q =
     let t : eqb 48 b ≡ true = eq-eqb 48 b (sym e) in
-    rw t (one-store k x o ∙ ap (λ (y : ℕ). overAt k (y ∷ []) o) q, refl)
+    rw t (one-store k x o ∙ ap (λ (y : ℕ). overwriteAt k (y ∷ []) o) q, refl)
 
 pub literal-one : (b c k : ℕ) (o : List ℕ) → (b ≡ 48 → ⊥) → b ≡ 49 → LaidAt k (columnCells b c) o (set o k c) 1
 literal-one b c k o n e =
@@ -40,7 +40,7 @@ pub literal-dash : (b c k : ℕ) (o : List ℕ) → (b ≡ 48 → ⊥) → (b �
 literal-dash b c k o n m =
     let s : eqb 48 b ≡ false = ne-eqb 48 b (λ z. n (sym z)) in
     let t : eqb 49 b ≡ false = ne-eqb 49 b (λ z. m (sym z)) in
-    rw (s, t) (sym (overAt-nil k o), refl)
+    rw (s, t) (sym (overwriteAt-nil k o), refl)
 
 -- ---- one column after the other
 
@@ -98,7 +98,7 @@ module _ {columns pins₀ pinsIn : List ℕ} {source at m i : ℕ} (before : sou
           few = omega (arith, w .few, d .1, one-literal (getD columns i 0) (getD pinsIn (source + i) 0));
           front =
               ap (take at) (d .0)
-              ∙ front-less at (at + m) (overAt (at + m) col pinsIn) pinsIn (omega arith) (over-front (at + m) col pinsIn)
+              ∙ front-less at (at + m) (overwriteAt (at + m) col pinsIn) pinsIn (omega arith) (overwrite-front (at + m) col pinsIn)
               ∙ w .front;
           laying = laying-more (w .laying) col left (d .0) (omega (arith, d .1));
           counted = omega (arith, w .counted, ap length left, length-append col more, d .1);
@@ -130,15 +130,15 @@ many-pins one (c ∷ d ∷ cs) h = (refl, refl)
 
 -- one pin for none or one
 pub single-pins : (one : Bool) (lits o : List ℕ) (k : ℕ) → length lits ≤ 1 → k < length o
-    → (set (overAt k lits o) k (singleCell one (length lits) (getD (overAt k lits o) k 0)) ≡ overAt k (lineCells one lits) o)
+    → (set (overwriteAt k lits o) k (singleCell one (length lits) (getD (overwriteAt k lits o) k 0)) ≡ overwriteAt k (lineCells one lits) o)
     × (lineForm one lits ≡ formNumber Buf) × (length (lineCells one lits) ≡ 1)
 single-pins one [] o k h l =
-    (ap (λ (s : List ℕ). set s k (singleCell one 0 0)) (overAt-nil k o) ∙ one-store k (singleCell one 0 0) o, refl, refl)
+    (ap (λ (s : List ℕ). set s k (singleCell one 0 0)) (overwriteAt-nil k o) ∙ one-store k (singleCell one 0 0) o, refl, refl)
 single-pins one (c ∷ []) o k h l =
     let z : k + 0 ≡ k = omega arith in
-    let e : getD (overAt k (c ∷ []) o) k 0 ≡ c = rw z at (overAt-inside k (c ∷ []) o 0 0 (omega arith) (omega arith)) in
+    let e : getD (overwriteAt k (c ∷ []) o) k 0 ≡ c = rw z at (overwriteAt-inside k (c ∷ []) o 0 0 (omega arith) (omega arith)) in
     let x = singleCell one 1 c in (
-      ap (λ (y : ℕ). set (overAt k (c ∷ []) o) k (singleCell one 1 y)) e
+      ap (λ (y : ℕ). set (overwriteAt k (c ∷ []) o) k (singleCell one 1 y)) e
           ∙ ap (λ (s : List ℕ). set s k x) (sym (one-store k c o))
           ∙ set-set o k c x
           ∙ one-store k x o,

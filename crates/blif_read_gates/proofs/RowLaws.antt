@@ -35,18 +35,18 @@ two-tokens n ts e =
     record { few = elem-few (length ts) (and-left a b p); wide = eqb-true n (length (columns ts)) (and-right a b p) }
 
 module _ {text tokens : List ℕ} {row end inputs : ℕ} (g : GoodRow text tokens row end inputs) where
-  two : TwoTokens inputs (rowTokens text tokens row end)
-  two = two-tokens inputs (rowTokens text tokens row end) (g .good)
+  atLeastTwo : TwoTokens inputs (rowTokens text tokens row end)
+  atLeastTwo = two-tokens inputs (rowTokens text tokens row end) (g .good)
 
   -- as many columns as inputs
   pub row-wide : length (columns (rowTokens text tokens row end)) ≡ inputs
-  row-wide = sym (two .wide)
+  row-wide = sym (atLeastTwo .wide)
 
   -- whether its output is 1
   pub row-one : same (tokenOf text (getD tokens (end - 1) 0)) (49 ∷ []) ≡ isOne (rowTokens text tokens row end)
   unfolding isOne
   row-one =
-      let h : end - row < 3 = omega (arith, two .few, row-count text tokens row end (g .low) (g .places .room)) in
+      let h : end - row < 3 = omega (arith, atLeastTwo .few, row-count text tokens row end (g .low) (g .places .room)) in
       ap (λ (t : Bytes). same t (49 ∷ [])) (sym (last-output text tokens row end (g .low) (g .places .room) h))
 
   -- the last token is within the text

@@ -26,12 +26,12 @@ pub record Buildable (ds : List Def) (gates pinsIn : List ℕ) (used : ℕ) : Ty
   -- the pins of the gates placed first are in use
   pub start : used ≡ sumOf placedCount ds
   -- and those gates stand in the cells
-  pub first : (look : Bytes → Signal) × GatesIn gates pinsIn used (map (placed look) ds)
+  pub first : (signalOf : Bytes → Signal) × GatesIn gates pinsIn used (map (placed signalOf) ds)
 
 -- the gates built stand in the cells
 pub record BuiltBy (ds : List Def) (gates pinsIn : List ℕ) (used : ℕ) (gates′ pinsIn′ : List ℕ) (r : Built) : Type 0 where
   -- the gates are counted
-  pub counted : (look : Bytes → Signal) → r .gates ≡ length (builtGates look ds)
+  pub counted : (signalOf : Bytes → Signal) → r .gates ≡ length (builtGates signalOf ds)
   -- and the pins in use: those of the gates placed first, and those that building adds
   pub pins : r .pins ≡ used + sumOf builtPins ds
   -- "1,024 gates"
@@ -39,4 +39,4 @@ pub record BuiltBy (ds : List Def) (gates pinsIn : List ℕ) (used : ℕ) (gates
   -- "16,384 pins"
   pub fewPins : r .pins ≤ maxPins
   -- whatever signals the names have
-  pub gates-in : (look : Bytes → Signal) → GatesIn gates pinsIn used (map (placed look) ds) → GatesIn gates′ pinsIn′ (r .pins) (builtGates look ds)
+  pub gates-in : (signalOf : Bytes → Signal) → GatesIn gates pinsIn used (map (placed signalOf) ds) → GatesIn gates′ pinsIn′ (r .pins) (builtGates signalOf ds)

@@ -8,7 +8,7 @@ use Prim.Native.Nat.{ℕ, zero, suc, _+_, _-_, _*_, _%_, _≤_, _<_}
 use lib.Dec.{eqb}
 use lib.ListN.{length, getElem?, take, drop}
 use lib.Seq.{slice}
-use Rattle.lists.specs.Lists.{Bytes, all, sumOf, overAt}
+use Rattle.lists.specs.Lists.{Bytes, all, sumOf, overwriteAt}
 use Rattle.refusals.specs.declared.Checked.the-variants.{Fine}
 use Rattle.signal.specs.Signal.{Signal}
 use Rattle.signal.specs.Cell.{bitOf, sigCell}
@@ -18,7 +18,7 @@ use Rattle.network.specs.Cells.{gateWidth, maxGates, maxPins, firstAt, countAt}
 use Rattle.blif_text.specs.Decls.{Def, latch, cover}
 use Rattle.blif_text.specs.Places.{tokensOf}
 use Rattle.blif_text.specs.Walk.{rowsFrom, Inside, RowsAt}
-use Rattle.blif_reading.specs.Build.{lineGate, coverGate, lineGates, blockGate, moreGates}
+use Rattle.blif_reading.specs.Build.{lineGate, coverGate, lineGates, blockGate, newGates}
 use Rattle.blif_reading.specs.Read.{goodLine, added, coverFault}
 use Rattle.blif_reading.specs.TextModel.{lineOf, blockOf}
 use Rattle.blif_reading.specs.Working.{GateIn, placed, placedCount, WorkRoom}
@@ -86,10 +86,10 @@ pub record LineRoom (width source at h : ℕ) (gates pinsIn : List ℕ) : Type 0
 -- the line's gate is put into record h, its pins from cell at on
 pub record LinePut (columns : Bytes) (one : Bool) (source at h : ℕ) (gates pinsIn gates′ pinsIn′ : List ℕ) (r : ℕ) : Type 0 where
   -- the pins
-  pub runs : pinsIn′ ≡ overAt at (lineCells one (literalsAt columns source pinsIn)) pinsIn
+  pub runs : pinsIn′ ≡ overwriteAt at (lineCells one (literalsAt columns source pinsIn)) pinsIn
   -- the record
   pub records :
-      gates′ ≡ overAt (h * gateWidth)
+      gates′ ≡ overwriteAt (h * gateWidth)
       (lineForm one (literalsAt columns source pinsIn) ∷ at ∷ length (lineCells one (literalsAt columns source pinsIn)) ∷ []) gates
   -- the pins' end
   pub end : r ≡ at + length (lineCells one (literalsAt columns source pinsIn))
@@ -211,7 +211,7 @@ pub record BlockBuilt (d : Def) (j next at : ℕ) (gates pinsIn gates′ pinsIn�
   -- the pins' end
   pub end : at′ ≡ at + builtPins d
   -- its gate
-  pub main : (look : Bytes → Signal) → GateIn gates pinsIn at j (placed look d) → GateIn gates′ pinsIn′ at′ j (blockGate look next (blockOf d))
+  pub main : (signalOf : Bytes → Signal) → GateIn gates pinsIn at j (placed signalOf d) → GateIn gates′ pinsIn′ at′ j (blockGate signalOf next (blockOf d))
   -- its lines' gates
-  pub more : (look : Bytes → Signal) → GateIn gates pinsIn at j (placed look d) → (i : ℕ) (y : Gate)
-      → getElem? (moreGates look (blockOf d)) i ≡ some y → GateIn gates′ pinsIn′ at′ (next + i) y
+  pub more : (signalOf : Bytes → Signal) → GateIn gates pinsIn at j (placed signalOf d) → (i : ℕ) (y : Gate)
+      → getElem? (newGates signalOf (blockOf d)) i ≡ some y → GateIn gates′ pinsIn′ at′ (next + i) y

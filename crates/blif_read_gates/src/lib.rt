@@ -15,7 +15,7 @@ ghost use mathlib.Core.Path.{_≡_};
 ghost use mathlib.Core.List.{[], _∷_, map};
 ghost use Prim.Native.Nat.{_+_, _*_, _≤_, _<_};
 ghost use lib.ListN.{length, getD, take};
-ghost use Rattle.lists.specs.Lists.{overAt, same};
+ghost use Rattle.lists.specs.Lists.{overwriteAt, same};
 ghost use Rattle.signal.specs.Cell.{sigCell};
 ghost use Rattle.network.specs.Cells.{gateWidth, maxGates, firstAt, countAt};
 ghost use Rattle.blif_text.specs.Decls.{columns, isOne};
@@ -53,7 +53,7 @@ fn sources_at(gates: &[u32], j: usize) -> Sources
 // Writes the literal of a column, none for a dash. Answers how many are written.
 fn write_literal(column: u8, source: u32, pins: &mut [u32], at: usize) -> usize
     requires { ⌜ at < length (now pins) ⌝ }
-    ensures { λ r. ⌜ (now (pins .exit) ≡ overAt at (columnCells column source) (now (pins .entry))) × (r ≡ length (columnCells column source)) ⌝ }
+    ensures { λ r. ⌜ (now (pins .exit) ≡ overwriteAt at (columnCells column source) (now (pins .entry))) × (r ≡ length (columnCells column source)) ⌝ }
 {
     if column == 48 {
         pins[at] = Signal { a: source }.not().raw();
@@ -69,7 +69,7 @@ fn write_literal(column: u8, source: u32, pins: &mut [u32], at: usize) -> usize
 // Writes the literals of a line from pin at on; its sources are the pins from source on. Answers how many are written.
 fn write_literals(columns: &[u8], pins: &mut [u32], source: usize, at: usize) -> usize
     requires { ⌜ (source + length (now columns) ≤ at) × (at + length (now columns) ≤ length (now pins)) ⌝ }
-    ensures { λ r. ⌜ (now (pins .exit) ≡ overAt at (literalsAt (now (columns .entry)) source (now (pins .entry))) (now (pins .entry))) × (r ≡ length (literalsAt (now (columns .entry)) source (now (pins .entry)))) ⌝ }
+    ensures { λ r. ⌜ (now (pins .exit) ≡ overwriteAt at (literalsAt (now (columns .entry)) source (now (pins .entry))) (now (pins .entry))) × (r ≡ length (literalsAt (now (columns .entry)) source (now (pins .entry)))) ⌝ }
 {
     let mut m = 0;
     let mut i = 0;
@@ -171,7 +171,7 @@ fn put_row(
 // Writes the signals of the gates next, next + 1, .. from pin at on.
 fn put_joins(pins: &mut [u32], at: usize, next: usize, count: usize)
     requires { ⌜ (at + count ≤ length (now pins)) × (next + count ≤ maxGates) ⌝ }
-    ensures { λ _. ⌜ now (pins .exit) ≡ overAt at (map sigCell (gateRun next count)) (now (pins .entry)) ⌝ }
+    ensures { λ _. ⌜ now (pins .exit) ≡ overwriteAt at (map sigCell (gateRun next count)) (now (pins .entry)) ⌝ }
 {
     let mut i = 0;
     while i < count {

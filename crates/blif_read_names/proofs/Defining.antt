@@ -16,14 +16,14 @@ use Rattle.blif_text.proofs.RowWalk.{inside-less}
 use Rattle.blif_text.proofs.RefusalLaws.{stmts-end}
 use Rattle.name_index.specs.Search.{Entry}
 use Rattle.name_index.specs.Index.{entriesOf, Index}
-use Rattle.refusals.specs.Order.{_then_, when}
+use Rattle.refusals.specs.Order.{_orElse_, refuseIf}
 use Rattle.refusals.specs.declared.Refusal.the-variants as refusal
 use Rattle.refusals.specs.declared.Checked.{Checked}
 use Rattle.refusals.specs.declared.Checked.the-variants.{Fine, Refused}
 use Rattle.blif_reading.specs.Read.{naming}
 use Rattle.blif_read_sizes.specs.Rows.{names, RowIs, LinesAt}
 use Rattle.blif_read_names.specs.Entries.{inputEntries}
-use Rattle.blif_read_names.specs.Naming.{namesIn, InputsEntered, stepOf, TablesTo, Going, Steps, stops, goes}
+use Rattle.blif_read_names.specs.Naming.{namesIn, InputsEntered, stepOf, TablesTo, NamingSoFar, Steps, stops, goes}
 use Rattle.blif_read_names.specs.declared.Walk.{Walk}
 use Rattle.blif_read_names.specs.declared.Step.{Step}
 use Rattle.blif_read_names.specs.declared.Step.the-variants as step
@@ -91,12 +91,12 @@ module _ {text tokens : List ℕ} {n at r : ℕ} where
 pub step-is : {s : Step} {b k : Checked} (w : Walk) → s ≡ stepOf b w → b ≡ k → stepOf k w ≡ s
 step-is w e q = sym (e ∙ ap (λ (x : Checked). stepOf x w) q)
 
-module _ {text tokens : List ℕ} {n : ℕ} {index out blocks : List ℕ} {v : Walk} (c : Going text tokens n index out blocks v) where
+module _ {text tokens : List ℕ} {n : ℕ} {index out blocks : List ℕ} {v : Walk} (c : NamingSoFar text tokens n index out blocks v) where
   -- the walk at another place, with these tables
   pub on : {index′ out′ blocks′ : List ℕ} (w : Walk) → StmtsAt text tokens n (w .at) → length out′ ≡ length out → length blocks′ ≡ length blocks
       → naming false [] (decls (stmtsFrom text tokens n 0)) ≡ naming (w .seen) (namesIn text index′ (w .inputs + w .gates)) (decls (stmtsFrom text tokens n (w .at)))
       → TablesTo (decls (stmtsFrom text tokens n 0)) (decls (stmtsFrom text tokens n (w .at))) text tokens n index′ out′ blocks′ (w .inputs) (w .gates) (w .outputs)
-      → Going text tokens n index′ out′ blocks′ w
+      → NamingSoFar text tokens n index′ out′ blocks′ w
   on w r p q e t =
       record {
         rest = r;
@@ -119,10 +119,10 @@ module _ {text tokens : List ℕ} {n : ℕ} {index out blocks : List ℕ} {v : W
   left-as e = c .left ∙ ap (naming (v .seen) (namesIn text index (v .inputs + v .gates))) e
 
   -- a statement is passed: its refusal counts, or the walk goes on
-  pub step-on : {index′ out′ blocks′ : List ℕ} (b rest : Checked) (w : Walk) → v .at < w .at → naming false [] (decls (stmtsFrom text tokens n 0)) ≡ (b then rest)
-      → (b ≡ Fine → naming false [] (decls (stmtsFrom text tokens n 0)) ≡ rest → Going text tokens n index′ out′ blocks′ w)
+  pub step-on : {index′ out′ blocks′ : List ℕ} (b rest : Checked) (w : Walk) → v .at < w .at → naming false [] (decls (stmtsFrom text tokens n 0)) ≡ (b orElse rest)
+      → (b ≡ Fine → naming false [] (decls (stmtsFrom text tokens n 0)) ≡ rest → NamingSoFar text tokens n index′ out′ blocks′ w)
       → Steps text tokens n index′ out′ blocks′ v (stepOf b w)
-  unfolding _then_
+  unfolding _orElse_
   step-on Fine rest w h e g = goes h (g refl e)
   step-on (Refused r) rest w h e g = stops e
 
@@ -146,7 +146,7 @@ module _ {text tokens : List ℕ} {n : ℕ} {index out blocks : List ℕ} {v : W
     -- "7 at a second `.model`"
     pub go-model : RowIs text tokens n (v .at) r place.Model
         → Steps text tokens n index out blocks v
-        (stepOf (when (v .seen) refusal.SecondModel) (record { at = r; seen = true; inputs = v .inputs; gates = v .gates; outputs = v .outputs }))
+        (stepOf (refuseIf (v .seen) refusal.SecondModel) (record { at = r; seen = true; inputs = v .inputs; gates = v .gates; outputs = v .outputs }))
     go-model w =
         let l = decls (stmtsFrom text tokens n r) in
         let q = left-as (model-decls w) ∙ naming-model (v .seen) (namesIn text index (v .inputs + v .gates)) l in
@@ -155,7 +155,7 @@ module _ {text tokens : List ℕ} {n : ℕ} {index out blocks : List ℕ} {v : W
     -- "8 at `.end` before any `.model`"
     pub go-end : RowIs text tokens n (v .at) r place.End
         → Steps text tokens n index out blocks v
-        (stepOf (when (not (v .seen)) refusal.EndBeforeModel) (record { at = r; seen = v .seen; inputs = v .inputs; gates = v .gates; outputs = v .outputs }))
+        (stepOf (refuseIf (not (v .seen)) refusal.EndBeforeModel) (record { at = r; seen = v .seen; inputs = v .inputs; gates = v .gates; outputs = v .outputs }))
     go-end w =
         let l = decls (stmtsFrom text tokens n r) in
         let q = left-as (end-decls w) ∙ naming-end (v .seen) (namesIn text index (v .inputs + v .gates)) l in
@@ -171,7 +171,7 @@ module _ {text tokens : List ℕ} {n : ℕ} {index out blocks : List ℕ} {v : W
         let l = decls (stmtsFrom text tokens n r) in
         let k : v .inputs + (r - (v .at + 1)) + v .gates ≡ v .inputs + (r - v .at - 1) + v .gates = omega arith in
         let rest = naming (v .seen) (namesIn text index (v .inputs + v .gates) ++ ns) l in
-        let q = left-as (inputs-decls w) ∙ naming-inputs (v .seen) (namesIn text index (v .inputs + v .gates)) l ns ∙ ap (λ (x : Checked). x then rest) (sym (e .refused)) in
+        let q = left-as (inputs-decls w) ∙ naming-inputs (v .seen) (namesIn text index (v .inputs + v .gates)) l ns ∙ ap (λ (x : Checked). x orElse rest) (sym (e .refused)) in
         step-on b rest _ (w .low) q
         (λ z left.
         let a : entriesOf text index′ (v .inputs + (r - v .at - 1) + v .gates) ≡ entriesOf text index (v .inputs + v .gates) ++ inputEntries (v .inputs) ns =

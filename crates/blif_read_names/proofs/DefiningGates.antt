@@ -16,12 +16,12 @@ use Rattle.blif_text.specs.declared.Run.{Run}
 use Rattle.blif_text.specs.declared.Statement.the-variants as place
 use Rattle.blif_text.proofs.BlockLaws.{cover-from}
 use Rattle.name_index.specs.Index.{entriesOf}
-use Rattle.refusals.specs.Order.{_then_, when}
+use Rattle.refusals.specs.Order.{_orElse_, refuseIf}
 use Rattle.refusals.specs.declared.Refusal.the-variants as refusal
 use Rattle.refusals.specs.declared.Checked.{Checked}
 use Rattle.blif_reading.specs.Read.{gateCount, naming}
 use Rattle.blif_read_sizes.specs.Rows.{names, RowIs}
-use Rattle.blif_read_names.specs.Naming.{namesIn, GateDefined, gateWalk, stepOf, LatchStep, CoverStep, Going, Steps, stops}
+use Rattle.blif_read_names.specs.Naming.{namesIn, GateDefined, gateWalk, stepOf, LatchStep, CoverStep, NamingSoFar, Steps, stops}
 use Rattle.blif_read_names.specs.declared.Walk.{Walk}
 use Rattle.blif_read_names.specs.declared.Step.{Step}
 use Rattle.blif_read_names.specs.declared.Step.the-variants as step
@@ -64,12 +64,12 @@ cover-defines : (ns : List Bytes) (ls : List (List Bytes)) → coverOut ns ≡ d
 unfolding defines
 cover-defines ns ls = refl
 
-module _ {text tokens : List ℕ} {n : ℕ} {index out blocks : List ℕ} {v : Walk} (c : Going text tokens n index out blocks v) where
+module _ {text tokens : List ℕ} {n : ℕ} {index out blocks : List ℕ} {v : Walk} (c : NamingSoFar text tokens n index out blocks v) where
   -- a gate is defined
   go-gate : {d : Def} {x : Bytes} {a k l at : ℕ} {b : Checked} {index′ blocks′ : List ℕ} → v .at < at → StmtsAt text tokens n at
       → decls (stmtsFrom text tokens n (v .at)) ≡ gate d ∷ decls (stmtsFrom text tokens n at)
       → naming (v .seen) (namesIn text index (v .inputs + v .gates)) (gate d ∷ decls (stmtsFrom text tokens n at))
-      ≡ (b then naming (v .seen) (namesIn text index (v .inputs + v .gates) ++ (x ∷ [])) (decls (stmtsFrom text tokens n at)))
+      ≡ (b orElse naming (v .seen) (namesIn text index (v .inputs + v .gates) ++ (x ∷ [])) (decls (stmtsFrom text tokens n at)))
       → x ≡ defines d → defFrom text tokens n a k l ≡ d → BlockIn text tokens n a k l
       → GateDefined text index (v .inputs) (v .gates) x (record { first = a; names = k; lines = l }) blocks index′ blocks′ b → length blocks′ ≡ length blocks
       → Steps text tokens n index′ out blocks′ v (stepOf b (gateWalk v at))
@@ -97,7 +97,7 @@ module _ {text tokens : List ℕ} {n : ℕ} {index out blocks : List ℕ} {v : W
         subst (Steps text tokens n index′ out blocks′ v) (sym (s .walk))
         (go-gate (row .low) (row .rest) (latch-decls row)
         (naming-latch (v .seen) (namesIn text index (v .inputs + v .gates)) (decls (stmtsFrom text tokens n r)) d q
-        ∙ ap (λ (b : Checked). b then naming (v .seen) (namesIn text index (v .inputs + v .gates) ++ (q ∷ [])) (decls (stmtsFrom text tokens n r))) (sym (s .gate .refused)))
+        ∙ ap (λ (b : Checked). b orElse naming (v .seen) (namesIn text index (v .inputs + v .gates) ++ (q ∷ [])) (decls (stmtsFrom text tokens n r))) (sym (s .gate .refused)))
         (latch-defines d q) (ap (λ (k : ℕ). latch d (tokenOf text (getD tokens k 0))) j)
         (record {
           latchNames = λ z. omega (arith, row .starts .1, row .rest .rows .high);
@@ -133,8 +133,8 @@ module _ {text tokens : List ℕ} {n : ℕ} {index out blocks : List ℕ} {v : W
         subst (Steps text tokens n index′ out blocks′ v) (sym (s .walk))
         (go-gate (omega (arith, row .low, s .lines .low)) (s .lines .rest) (cover-decls row (s .lines))
         (naming-cover (v .seen) (namesIn text index (v .inputs + v .gates)) l ns ls (λ z. f (sym (names-length row) ∙ z))
-        ∙ ap (λ (x : Bytes). when (known x (namesIn text index (v .inputs + v .gates))) refusal.DefinedTwice then naming (v .seen) (namesIn text index (v .inputs + v .gates) ++ (x ∷ [])) l) y
-        ∙ ap (λ (b : Checked). b then naming (v .seen) (namesIn text index (v .inputs + v .gates) ++ (tokenOf text (getD tokens (at + 1 + (r - at - 1) - 1) 0) ∷ [])) l) (sym (g .refused)))
+        ∙ ap (λ (x : Bytes). refuseIf (known x (namesIn text index (v .inputs + v .gates))) refusal.DefinedTwice orElse naming (v .seen) (namesIn text index (v .inputs + v .gates) ++ (x ∷ [])) l) y
+        ∙ ap (λ (b : Checked). b orElse naming (v .seen) (namesIn text index (v .inputs + v .gates) ++ (tokenOf text (getD tokens (at + 1 + (r - at - 1) - 1) 0) ∷ [])) l) (sym (g .refused)))
         (sym y ∙ cover-defines ns ls)
         (cover-from text tokens n (at + 1) (r - at - 1) (s .count) f ∙ ap (λ (x : ℕ). cover (tokensOf text (slice (at + 1) x tokens)) (take (s .count) (rowsFrom text tokens n x))) m)
         (record {

@@ -8,8 +8,8 @@ use native.Mathlib.Numerals.{add-one}
 use lib.ListN.{length, getD, take, set, length-map}
 use lib.Seq.{slice, slice-cons, slice-empty, length-slice, take-add}
 use borrow.Author.Tests.{not-true, not-false}
-use Rattle.lists.specs.Lists.{Bytes, known, overAt}
-use Rattle.lists.proofs.OverAt.{run-before, run-overAt}
+use Rattle.lists.specs.Lists.{Bytes, known, overwriteAt}
+use Rattle.lists.proofs.OverAt.{run-before, run-overwriteAt}
 use Rattle.lists.proofs.Laying.{Laying, laying-start, laying-next, laying-done}
 use Rattle.signal.specs.Signal.{Input, plain}
 use Rattle.signal.specs.Cell.{sigCell, gateCell, inputCell}
@@ -23,8 +23,8 @@ use Rattle.name_index.specs.Search.{Entry, entry}
 use Rattle.name_index.specs.Index.{entriesOf, Index, Entered}
 use Rattle.refusals.specs.declared.Refusal.the-variants as refusal
 use Rattle.refusals.specs.declared.Checked.the-variants.{Fine, Refused}
-use Rattle.refusals.proofs.Order.{refused-ne-fine, when-yes, when-no}
-use Rattle.blif_reading.specs.Read.{twice}
+use Rattle.refusals.proofs.Order.{refused-ne-fine, refuseIf-yes, refuseIf-no}
+use Rattle.blif_reading.specs.Read.{definedTwice}
 use Rattle.blif_read_names.specs.Entries.{inputEntries}
 use Rattle.blif_read_names.specs.Naming.{namesIn, InputsFit, InputsEntered, GateFits, GateDefined}
 
@@ -44,17 +44,17 @@ inputs-snoc (y ∷ xs) i x =
 
 -- ---- tests
 
-twice-none : (earlier : List Bytes) → twice earlier [] ≡ false
-unfolding twice
-twice-none earlier = refl
+definedTwice-none : (earlier : List Bytes) → definedTwice earlier [] ≡ false
+unfolding definedTwice
+definedTwice-none earlier = refl
 
-twice-new : (earlier : List Bytes) (x : Bytes) (xs : List Bytes) → known x earlier ≡ false → twice earlier (x ∷ xs) ≡ twice (earlier ++ (x ∷ [])) xs
-unfolding twice
-twice-new earlier x xs e = ap (λ (b : Bool). b || twice (earlier ++ (x ∷ [])) xs) e
+definedTwice-new : (earlier : List Bytes) (x : Bytes) (xs : List Bytes) → known x earlier ≡ false → definedTwice earlier (x ∷ xs) ≡ definedTwice (earlier ++ (x ∷ [])) xs
+unfolding definedTwice
+definedTwice-new earlier x xs e = ap (λ (b : Bool). b || definedTwice (earlier ++ (x ∷ [])) xs) e
 
-twice-known : (earlier : List Bytes) (x : Bytes) (xs : List Bytes) → known x earlier ≡ true → twice earlier (x ∷ xs) ≡ true
-unfolding twice
-twice-known earlier x xs e = ap (λ (b : Bool). b || twice (earlier ++ (x ∷ [])) xs) e
+definedTwice-known : (earlier : List Bytes) (x : Bytes) (xs : List Bytes) → known x earlier ≡ true → definedTwice earlier (x ∷ xs) ≡ true
+unfolding definedTwice
+definedTwice-known earlier x xs e = ap (λ (b : Bool). b || definedTwice (earlier ++ (x ∷ [])) xs) e
 
 -- ---- inputs
 
@@ -69,7 +69,7 @@ pub record Entering (text tokens : List ℕ) (first end : ℕ) (index₀ : List 
   pub kept : length index ≡ length index₀
   pub index-is : Index text index (i + gates)
   pub added : entriesOf text index (i + gates) ≡ entriesOf text index₀ (inputs + gates) ++ inputEntries inputs (tokensOf text (slice first j tokens))
-  pub left : twice (namesIn text index₀ (inputs + gates)) (tokensOf text (slice first end tokens)) ≡ twice (namesIn text index (i + gates)) (tokensOf text (slice j end tokens))
+  pub left : definedTwice (namesIn text index₀ (inputs + gates)) (tokensOf text (slice first end tokens)) ≡ definedTwice (namesIn text index (i + gates)) (tokensOf text (slice j end tokens))
 
 -- before the first
 pub entering-start : {text tokens : List ℕ} {first end : ℕ} {index : List ℕ} {inputs gates : ℕ}
@@ -102,7 +102,7 @@ module _ {text tokens : List ℕ} {first end : ℕ} {index₀ : List ℕ} {input
   entering-known {index′} {s} {r} e z =
       let k : known (tokenOf text (getD tokens j 0)) (namesIn text index (i + gates)) ≡ true = not-false _ (sym (e .new) ∙ z) in
       record {
-        refused = when-yes refusal.DefinedTwice (c .left ∙ ap (twice (namesIn text index (i + gates))) names-next ∙ twice-known _ _ (tokensOf text (slice (j + 1) end tokens)) k);
+        refused = refuseIf-yes refusal.DefinedTwice (c .left ∙ ap (definedTwice (namesIn text index (i + gates))) names-next ∙ definedTwice-known _ _ (tokensOf text (slice (j + 1) end tokens)) k);
         index-is = λ y. absurd (refused-ne-fine y);
         added = λ y. absurd (refused-ne-fine y);
       }
@@ -137,9 +137,9 @@ module _ {text tokens : List ℕ} {first end : ℕ} {index₀ : List ℕ} {input
             ∙ ap (inputEntries inputs) (sym (ap (tokensOf text) (ap (λ (m : ℕ). slice first m tokens) (add-one j) ∙ slice-snoc tokens first j (c .low) (omega (arith, c .places .room))) ∙ map-append (tokenOf text) (slice first j tokens) _)));
         left =
             c .left
-            ∙ ap (twice (namesIn text index (i + gates))) names-next
-            ∙ twice-new (namesIn text index (i + gates)) x (tokensOf text (slice (j + 1) end tokens)) k
-            ∙ ap (λ (y : List Bytes). twice y (tokensOf text (slice (j + 1) end tokens)))
+            ∙ ap (definedTwice (namesIn text index (i + gates))) names-next
+            ∙ definedTwice-new (namesIn text index (i + gates)) x (tokensOf text (slice (j + 1) end tokens)) k
+            ∙ ap (λ (y : List Bytes). definedTwice y (tokensOf text (slice (j + 1) end tokens)))
             (sym (ap (map (λ (y : Entry). y .name)) a ∙ map-append (λ (y : Entry). y .name) (entriesOf text index (i + gates)) (entry x s ∷ [])));
       }
 
@@ -151,8 +151,8 @@ entering-done {text} {tokens} {first} {end} {index₀} {inputs} {gates} {index} 
     let q : i + gates ≡ inputs + (end - first) + gates = omega (arith, c .counted) in
     record {
       refused =
-          when-no refusal.DefinedTwice (c .left ∙ ap (λ (m : ℕ). twice (namesIn text index (i + gates)) (tokensOf text (slice m end tokens))) p
-          ∙ ap (λ (x : List ℕ). twice (namesIn text index (i + gates)) (tokensOf text x)) (slice-empty end tokens) ∙ twice-none (namesIn text index (i + gates)));
+          refuseIf-no refusal.DefinedTwice (c .left ∙ ap (λ (m : ℕ). definedTwice (namesIn text index (i + gates)) (tokensOf text (slice m end tokens))) p
+          ∙ ap (λ (x : List ℕ). definedTwice (namesIn text index (i + gates)) (tokensOf text x)) (slice-empty end tokens) ∙ definedTwice-none (namesIn text index (i + gates)));
       index-is = λ z. subst (Index text index) q (c .index-is);
       added = λ z.
           sym (ap (entriesOf text index) q) ∙ c .added
@@ -193,11 +193,11 @@ module _ {tokens : List ℕ} {first end : ℕ} {out₀ : List ℕ} {outputs : �
   copying-done h =
       let cs = slice first end tokens in
       let p : j ≡ end = omega (arith, c .high) in
-      let e : out ≡ overAt outputs cs out₀ = laying-done (c .laying) (ap (λ (m : ℕ). slice m end tokens) p ∙ slice-empty end tokens) in
+      let e : out ≡ overwriteAt outputs cs out₀ = laying-done (c .laying) (ap (λ (m : ℕ). slice m end tokens) p ∙ slice-empty end tokens) in
       let n : end - first ≡ length cs = sym (length-slice first end tokens (c .room)) in
       ap₂ (λ (k : ℕ) (l : List ℕ). take (outputs + k) l) n e
-      ∙ take-add outputs (length cs) (overAt outputs cs out₀)
-      ∙ ap₂ (λ (x y : List ℕ). x ++ y) (run-before outputs cs out₀ 0 outputs (omega arith)) (run-overAt outputs cs out₀ (omega (arith, c .fits)))
+      ∙ take-add outputs (length cs) (overwriteAt outputs cs out₀)
+      ∙ ap₂ (λ (x y : List ℕ). x ++ y) (run-before outputs cs out₀ 0 outputs (omega arith)) (run-overwriteAt outputs cs out₀ (omega (arith, c .fits)))
 
 -- ---- a gate
 
@@ -207,19 +207,19 @@ module _ {text index : List ℕ} {i g cell : ℕ} {block : Block} {blocks : List
   pub gate-known : {blocks′ : List ℕ} → r ≡ false → GateDefined text index i g (tokenOf text cell) block blocks index′ blocks′ (Refused refusal.DefinedTwice)
   gate-known z =
       record {
-        refused = when-yes refusal.DefinedTwice (not-false _ (sym (e .new) ∙ z));
+        refused = refuseIf-yes refusal.DefinedTwice (not-false _ (sym (e .new) ∙ z));
         index-is = λ y. absurd (refused-ne-fine y);
         added = λ y. absurd (refused-ne-fine y);
         block-is = λ y. absurd (refused-ne-fine y);
       }
 
   -- its name is new
-  pub gate-new : {blocks′ : List ℕ} → r ≡ true → s ≡ gateCell g → blocks′ ≡ overAt (g * blockWidth) (block .first ∷ block .names ∷ block .lines ∷ []) blocks
+  pub gate-new : {blocks′ : List ℕ} → r ≡ true → s ≡ gateCell g → blocks′ ≡ overwriteAt (g * blockWidth) (block .first ∷ block .names ∷ block .lines ∷ []) blocks
       → GateDefined text index i g (tokenOf text cell) block blocks index′ blocks′ Fine
   gate-new z q b =
       let p : i + g + 1 ≡ i + (g + 1) = omega arith in
       record {
-        refused = when-no refusal.DefinedTwice (not-true _ (sym (e .new) ∙ z));
+        refused = refuseIf-no refusal.DefinedTwice (not-true _ (sym (e .new) ∙ z));
         index-is = λ y. subst (Index text index′) p (e .index z);
         added = λ y.
             ap (entriesOf text index′) (sym p) ∙ e .added z

@@ -16,13 +16,13 @@ use Rattle.lists.proofs.Known.{known-mem}
 use Rattle.lists.proofs.Every.{Every, every-nil, every-cons, every-append}
 use Rattle.lists.proofs.Places.{place-lt, mem-place, place-right, map-place}
 use Rattle.refusals.specs.declared.Checked.the-variants.{Fine}
-use Rattle.signal.specs.Signal.{Signal, Input, Gated, plain}
+use Rattle.signal.specs.Signal.{Signal, Input, Var, plain}
 use Rattle.signal.specs.Cell.{sigCell}
 use Rattle.blif_text.specs.Decls.{Def, Decl, model, end, inputs, outputs, gate, insOf, defsOf, ins, defs, defines}
 use Rattle.name_index.specs.Search.{Entry, signalIn}
 use Rattle.blif_reading.specs.Lookup.{byte-names}
 use Rattle.blif_reading.specs.TextModel.{blockOf, modelOf}
-use Rattle.blif_reading.specs.Read.{tooLarge, naming, look}
+use Rattle.blif_reading.specs.Read.{tooLarge, naming, signalOf}
 use Rattle.blif_reading.proofs.Lookups.{looks}
 use Rattle.blif_reading.proofs.Passed.{target-of, once-of}
 use Rattle.blif_read_names.specs.Entries.{inputEntries, entries}
@@ -80,18 +80,18 @@ entries-known x (gate d ∷ ds) i g =
 
 module _ (all : List Decl) (named : naming false [] all ≡ Fine) where
   -- input i is input signal i
-  input-at : (i : ℕ) (x : Bytes) → getElem? (ins all) i ≡ some x → look all x ≡ plain (Input i)
+  input-at : (i : ℕ) (x : Bytes) → getElem? (ins all) i ≡ some x → signalOf all x ≡ plain (Input i)
   input-at i x e = looks byte-names (modelOf all) (once-of all named) .inputAt i x e
 
   -- block j is gate j
-  gate-at : (j : ℕ) (d : Def) → getElem? (defs all) j ≡ some d → look all (defines d) ≡ plain (Gated j)
+  gate-at : (j : ℕ) (d : Def) → getElem? (defs all) j ≡ some d → signalOf all (defines d) ≡ plain (Var j)
   gate-at j d e =
-      ap (look all) (sym (target-of d))
+      ap (signalOf all) (sym (target-of d))
       ∙ looks byte-names (modelOf all) (once-of all named) .blockAt j (blockOf d) (map-place blockOf (defs all) j d e)
 
   -- inputs behind others
   right-inputs : (ns rest before : List Bytes) (i : ℕ) → ins all ≡ before ++ (ns ++ rest) → i ≡ length before
-      → Every (λ (e : Entry). e .signal ≡ sigCell (look all (e .name))) (inputEntries i ns)
+      → Every (λ (e : Entry). e .signal ≡ sigCell (signalOf all (e .name))) (inputEntries i ns)
   right-inputs [] rest before i e q = every-nil
   right-inputs (x ∷ ns) rest before i e q =
       let p : getElem? (ins all) i ≡ some x =
@@ -101,7 +101,7 @@ module _ (all : List Decl) (named : naming false [] all ≡ Fine) where
 
   -- declarations behind others
   right-entries : (ds : List Decl) (is : List Bytes) (gs : List Def) (i g : ℕ) → ins all ≡ is ++ ins ds → defs all ≡ gs ++ defs ds → i ≡ length is → g ≡ length gs
-      → Every (λ (e : Entry). e .signal ≡ sigCell (look all (e .name))) (entries i g ds)
+      → Every (λ (e : Entry). e .signal ≡ sigCell (signalOf all (e .name))) (entries i g ds)
   unfolding ins defs flatMap insOf defsOf
   right-entries [] is gs i g a b p q = every-nil
   right-entries (model ∷ ds) is gs i g a b p q = right-entries ds is gs i g a b p q
@@ -120,14 +120,14 @@ module _ (all : List Decl) (named : naming false [] all ≡ Fine) where
 
 -- the entries found are the signals of the definition's search
 pub entry-signal : (ds : List Decl) → naming false [] ds ≡ Fine → (x : Bytes)
-    → signalIn (entries 0 0 ds) x ≡ cond (known x (ins ds ++ map defines (defs ds))) (sigCell (look ds x)) 0
+    → signalIn (entries 0 0 ds) x ≡ cond (known x (ins ds ++ map defines (defs ds))) (sigCell (signalOf ds x)) 0
 entry-signal ds e x =
-    signal-known (λ (y : Bytes). sigCell (look ds y)) (entries 0 0 ds) x (right-entries ds e ds [] [] 0 0 refl refl refl refl)
-    ∙ ap (λ (b : Bool). cond b (sigCell (look ds x)) 0) (entries-known x ds 0 0 ∙ sym (known-append x (ins ds) (map defines (defs ds))))
+    signal-known (λ (y : Bytes). sigCell (signalOf ds y)) (entries 0 0 ds) x (right-entries ds e ds [] [] 0 0 refl refl refl refl)
+    ∙ ap (λ (b : Bool). cond b (sigCell (signalOf ds x)) 0) (entries-known x ds 0 0 ∙ sym (known-append x (ins ds) (map defines (defs ds))))
 
 -- a defined name's signal is not the constant zero
 defined-cell : (ds : List Decl) → naming false [] ds ≡ Fine → tooLarge ds ≡ false → (x : Bytes) → List·Memᴰ x (ins ds ++ map defines (defs ds))
-    → 0 < sigCell (look ds x)
+    → 0 < sigCell (signalOf ds x)
 defined-cell ds e s x m =
     ⊎-elim
     (λ (w : List·Memᴰ x (ins ds)).
@@ -137,7 +137,7 @@ defined-cell ds e s x m =
     (λ (w : List·Memᴰ x (map defines (defs ds))).
     let t = Memᴰ·of-map defines (defs ds) w in
     let p = mem-place (defs ds) (t .0) (t .1) in
-    subst (λ (y : Signal). 0 < sigCell y) (sym (ap (look ds) (sym (t .2)) ∙ gate-at ds e (p .0) (t .0) (p .1))) (omega arith))
+    subst (λ (y : Signal). 0 < sigCell y) (sym (ap (signalOf ds) (sym (t .2)) ∙ gate-at ds e (p .0) (t .0) (p .1))) (omega arith))
     (List·Memᴰ·append-cases (ins ds) m)
 
 -- a name that is defined is found: zero is no name's signal
@@ -145,6 +145,6 @@ pub entry-found : (ds : List Decl) → naming false [] ds ≡ Fine → tooLarge 
     → not (eqb 0 (signalIn (entries 0 0 ds) x)) ≡ true
 entry-found ds e s x k =
     let d = defined-cell ds e s x (known-mem x (ins ds ++ map defines (defs ds)) k) in
-    let q : signalIn (entries 0 0 ds) x ≡ sigCell (look ds x) =
-    entry-signal ds e x ∙ ap (λ (b : Bool). cond b (sigCell (look ds x)) 0) k in
-    ap not (ap (eqb 0) q ∙ ne-eqb 0 (sigCell (look ds x)) (λ z. omega arith))
+    let q : signalIn (entries 0 0 ds) x ≡ sigCell (signalOf ds x) =
+    entry-signal ds e x ∙ ap (λ (b : Bool). cond b (sigCell (signalOf ds x)) 0) k in
+    ap not (ap (eqb 0) q ∙ ne-eqb 0 (sigCell (signalOf ds x)) (λ z. omega arith))

@@ -6,21 +6,21 @@ use native.Mathlib.Omega.{arith}
 use lib.ListN.{length}
 use Rattle.lists.specs.Lists.{Bytes, known}
 use Rattle.blif_text.specs.Decls.{latch, cover, Decl, model, end, inputs, outputs, gate, coverOut}
-use Rattle.refusals.specs.Order.{_then_, when}
+use Rattle.refusals.specs.Order.{_orElse_, refuseIf}
 use Rattle.refusals.specs.declared.Refusal.the-variants as refusal
 use Rattle.refusals.specs.declared.Checked.the-variants.{Refused}
-use Rattle.blif_reading.specs.Read.{twice, naming}
+use Rattle.blif_reading.specs.Read.{definedTwice, naming}
 
 module _ (seen : Bool) (earlier : List Bytes) (ds : List Decl) where
-  pub naming-model : naming seen earlier (model ∷ ds) ≡ (when seen refusal.SecondModel then naming true earlier ds)
+  pub naming-model : naming seen earlier (model ∷ ds) ≡ (refuseIf seen refusal.SecondModel orElse naming true earlier ds)
   unfolding naming
   naming-model = refl
 
-  pub naming-end : naming seen earlier (end ∷ ds) ≡ (when (not seen) refusal.EndBeforeModel then naming seen earlier ds)
+  pub naming-end : naming seen earlier (end ∷ ds) ≡ (refuseIf (not seen) refusal.EndBeforeModel orElse naming seen earlier ds)
   unfolding naming
   naming-end = refl
 
-  pub naming-inputs : (ns : List Bytes) → naming seen earlier (inputs ns ∷ ds) ≡ (when (twice earlier ns) refusal.DefinedTwice then naming seen (earlier ++ ns) ds)
+  pub naming-inputs : (ns : List Bytes) → naming seen earlier (inputs ns ∷ ds) ≡ (refuseIf (definedTwice earlier ns) refusal.DefinedTwice orElse naming seen (earlier ++ ns) ds)
   unfolding naming
   naming-inputs ns = refl
 
@@ -28,7 +28,7 @@ module _ (seen : Bool) (earlier : List Bytes) (ds : List Decl) where
   unfolding naming
   naming-outputs ns = refl
 
-  pub naming-latch : (d q : Bytes) → naming seen earlier (gate (latch d q) ∷ ds) ≡ (when (known q earlier) refusal.DefinedTwice then naming seen (earlier ++ (q ∷ [])) ds)
+  pub naming-latch : (d q : Bytes) → naming seen earlier (gate (latch d q) ∷ ds) ≡ (refuseIf (known q earlier) refusal.DefinedTwice orElse naming seen (earlier ++ (q ∷ [])) ds)
   unfolding naming
   naming-latch d q = refl
 
@@ -38,7 +38,7 @@ module _ (seen : Bool) (earlier : List Bytes) (ds : List Decl) where
   naming-empty (n ∷ ns) ls e = absurd (omega arith)
 
   pub naming-cover : (ns : List Bytes) (ls : List (List Bytes)) → (length ns ≡ 0 → ⊥)
-      → naming seen earlier (gate (cover ns ls) ∷ ds) ≡ (when (known (coverOut ns) earlier) refusal.DefinedTwice then naming seen (earlier ++ (coverOut ns ∷ [])) ds)
+      → naming seen earlier (gate (cover ns ls) ∷ ds) ≡ (refuseIf (known (coverOut ns) earlier) refusal.DefinedTwice orElse naming seen (earlier ++ (coverOut ns ∷ [])) ds)
   unfolding naming
   naming-cover [] ls f = absurd (f refl)
   naming-cover (n ∷ ns) ls f = refl

@@ -6,10 +6,10 @@ use native.Mathlib.Omega.{arith}
 use native.Mathlib.Numerals.{add-one}
 use lib.ListN.{length, getD, take, length-append, length-map, List·getD-append}
 use lib.Seq.{slice, getD-take, getD-drop, getD-append-add, length-take-le}
-use Rattle.lists.specs.Lists.{Bytes, overAt}
+use Rattle.lists.specs.Lists.{Bytes, overwriteAt}
 use Rattle.lists.proofs.Tests.{by-order}
-use Rattle.lists.proofs.OverAt.{length-overAt, overAt-before, overAt-inside}
-use Rattle.signal.specs.Signal.{Gated, plain}
+use Rattle.lists.proofs.OverAt.{length-overwriteAt, overwriteAt-before, overwriteAt-inside}
+use Rattle.signal.specs.Signal.{Var, plain}
 use Rattle.signal.specs.Cell.{sigCell}
 use Rattle.blif_text.specs.Decls.{Def, Decl, model, end, inputs, outputs, gate, insOf, outsOf, defsOf, ins, outs, defs, defines}
 use Rattle.blif_text.specs.Places.{InText, tokenOf, tokensOf}
@@ -25,12 +25,12 @@ use Rattle.blif_read_names.specs.Naming.{TablesTo}
 
 -- a block behind the others
 module _ {text tokens : List ℕ} {n : ℕ} {blocks blocks′ : List ℕ} (g a b c : ℕ) (h : g * 3 + 2 < length blocks)
-    (w : Blocks text tokens n blocks g) (e : blocks′ ≡ overAt (g * blockWidth) (a ∷ b ∷ c ∷ []) blocks) where
+    (w : Blocks text tokens n blocks g) (e : blocks′ ≡ overwriteAt (g * blockWidth) (a ∷ b ∷ c ∷ []) blocks) where
   cell-before : (k : ℕ) → k < g * 3 → getD blocks′ k 0 ≡ getD blocks k 0
-  cell-before k l = ap (λ (x : List ℕ). getD x k 0) e ∙ overAt-before (g * 3) (a ∷ b ∷ c ∷ []) blocks k 0 l
+  cell-before k l = ap (λ (x : List ℕ). getD x k 0) e ∙ overwriteAt-before (g * 3) (a ∷ b ∷ c ∷ []) blocks k 0 l
 
   cell-is : (i : ℕ) → i < 3 → getD blocks′ (g * 3 + i) 0 ≡ getD (a ∷ b ∷ c ∷ []) i 0
-  cell-is i l = ap (λ (x : List ℕ). getD x (g * 3 + i) 0) e ∙ overAt-inside (g * 3) (a ∷ b ∷ c ∷ []) blocks i 0 l (omega arith)
+  cell-is i l = ap (λ (x : List ℕ). getD x (g * 3 + i) 0) e ∙ overwriteAt-inside (g * 3) (a ∷ b ∷ c ∷ []) blocks i 0 l (omega arith)
 
   first-is : firstName blocks′ g ≡ a
   first-is = let z : g * 3 ≡ g * 3 + 0 = omega arith in ap (λ (k : ℕ). getD blocks′ k 0) z ∙ cell-is 0 (omega arith)
@@ -47,7 +47,7 @@ module _ {text tokens : List ℕ} {n : ℕ} {blocks blocks′ : List ℕ} (g a b
       record {
         few = w .few;
         places = w .places;
-        room = omega (arith, ap length e ∙ length-overAt (g * 3) (a ∷ b ∷ c ∷ []) blocks);
+        room = omega (arith, ap length e ∙ length-overwriteAt (g * 3) (a ∷ b ∷ c ∷ []) blocks);
         each = λ j l.
             by-order g j
             (λ m.
@@ -166,7 +166,7 @@ module _ {ds l : List Decl} {text tokens : List ℕ} {n : ℕ} {index out blocks
       }
 
   pub tabled-gate : {d : Def} {x : Bytes} {index′ blocks′ : List ℕ} → TablesTo ds (gate d ∷ l) text tokens n index out blocks i g o → x ≡ defines d
-      → Index text index′ (i + (g + 1)) → entriesOf text index′ (i + (g + 1)) ≡ entriesOf text index (i + g) ++ (entry x (sigCell (plain (Gated g))) ∷ [])
+      → Index text index′ (i + (g + 1)) → entriesOf text index′ (i + (g + 1)) ≡ entriesOf text index (i + g) ++ (entry x (sigCell (plain (Var g))) ∷ [])
       → Blocks text tokens n blocks′ (g + 1) → defsAt text tokens n blocks′ (g + 1) ≡ defsAt text tokens n blocks g ++ (d ∷ [])
       → TablesTo ds l text tokens n index′ out blocks′ i (g + 1) o
   unfolding ins outs defs flatMap insOf outsOf defsOf
@@ -178,8 +178,8 @@ module _ {ds l : List Decl} {text tokens : List ℕ} {n : ℕ} {index out blocks
         index-is = ix;
         entries-are =
             t .entries-are
-            ∙ ap₂ (λ (y : Bytes) (k : ℕ). entriesOf text index (i + g) ++ (entry y (sigCell (plain (Gated g))) ∷ entries i k l)) (sym q) (sym (add-one g))
-            ∙ sym (append-assoc (entriesOf text index (i + g)) (entry x (sigCell (plain (Gated g))) ∷ []) (entries i (g + 1) l))
+            ∙ ap₂ (λ (y : Bytes) (k : ℕ). entriesOf text index (i + g) ++ (entry y (sigCell (plain (Var g))) ∷ entries i k l)) (sym q) (sym (add-one g))
+            ∙ sym (append-assoc (entriesOf text index (i + g)) (entry x (sigCell (plain (Var g))) ∷ []) (entries i (g + 1) l))
             ∙ ap (λ (y : List Entry). y ++ entries i (g + 1) l) (sym a);
         outputs-are = t .outputs-are;
         outputs-in = t .outputs-in;

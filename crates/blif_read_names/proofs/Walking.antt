@@ -21,7 +21,7 @@ use Rattle.name_index.specs.Index.{indexCells, entriesOf, Index}
 use Rattle.name_index.proofs.IndexLaws.{index-empty}
 use Rattle.blif_reading.specs.Read.{tooLarge, naming}
 use Rattle.blif_read_sizes.specs.Rows.{names, RowIs}
-use Rattle.blif_read_names.specs.Naming.{namesIn, InputsFit, CoverFits, LatchFits, TablesTo, Going, Steps, stops, goes}
+use Rattle.blif_read_names.specs.Naming.{namesIn, InputsFit, CoverFits, LatchFits, TablesTo, NamingSoFar, Steps, stops, goes}
 use Rattle.blif_read_names.specs.Tables.{Tables, DefinedBy}
 use Rattle.blif_read_names.specs.declared.Walk.{Walk}
 use Rattle.blif_read_names.specs.declared.Step.the-variants as step
@@ -41,7 +41,7 @@ names-decls : {text tokens : List ℕ} {n at r : ℕ} {run : Run} → RowIs text
 unfolding decls
 names-decls w = ap decls (w .starts)
 
-module _ {text tokens : List ℕ} {n : ℕ} {index out blocks : List ℕ} {v : Walk} (c : Going text tokens n index out blocks v) where
+module _ {text tokens : List ℕ} {n : ℕ} {index out blocks : List ℕ} {v : Walk} (c : NamingSoFar text tokens n index out blocks v) where
   -- "256 inputs", "1,024 gates"
   few-names : (v .inputs ≤ 256) × (v .gates ≤ 1024)
   few-names =
@@ -112,7 +112,7 @@ module _ {text tokens : List ℕ} {n : ℕ} {index out blocks : List ℕ} {v : W
 -- before the first statement
 pub going-start : {text tokens : List ℕ} {n : ℕ} {index out blocks : List ℕ} → StmtsAt text tokens n 0 → n ≤ maxTokens
     → tooLarge (decls (stmtsFrom text tokens n 0)) ≡ false → index ≡ zeros indexCells → maxOutputs ≤ length out → maxGates * blockWidth ≤ length blocks
-    → Going text tokens n index out blocks (record { at = 0; seen = false; inputs = 0; gates = 0; outputs = 0 })
+    → NamingSoFar text tokens n index out blocks (record { at = 0; seen = false; inputs = 0; gates = 0; outputs = 0 })
 going-start {text} {tokens} {n} {index} {out} {blocks} c h s e o b =
     record {
       rest = c;
@@ -137,7 +137,7 @@ going-start {text} {tokens} {n} {index} {out} {blocks} c h s e o b =
 
 -- the walk behind a statement
 pub going-next : {text tokens : List ℕ} {n : ℕ} {index out blocks : List ℕ} {v w : Walk} → Steps text tokens n index out blocks v (step.Next w)
-    → (v .at < w .at) × Going text tokens n index out blocks w
+    → (v .at < w .at) × NamingSoFar text tokens n index out blocks w
 going-next (goes h g) = (h, g)
 
 -- the refusal of a statement
@@ -171,7 +171,7 @@ tables-all {ds} {text} {tokens} {n} {index} {out} {blocks} {i} {g} {o} t =
     }
 
 -- behind the last statement
-pub going-done : {text tokens : List ℕ} {n : ℕ} {index out blocks : List ℕ} {w : Walk} → Going text tokens n index out blocks w → n ≤ w .at
+pub going-done : {text tokens : List ℕ} {n : ℕ} {index out blocks : List ℕ} {w : Walk} → NamingSoFar text tokens n index out blocks w → n ≤ w .at
     → DefinedBy (decls (stmtsFrom text tokens n 0)) text tokens n index out blocks
     (defined.Names (record { inputs = w .inputs; gates = w .gates; outputs = w .outputs }))
 going-done {text} {tokens} {n} {index} {out} {blocks} {w} c h =

@@ -4,7 +4,7 @@ use mathlib.Core.List.{List, [], _∷_, _++_}
 use Prim.Native.Nat.{ℕ, suc, _+_}
 use lib.ListN.{length}
 use Rattle.lists.specs.Lists.{Bytes}
-use Rattle.signal.specs.Signal.{Input, Gated, plain}
+use Rattle.signal.specs.Signal.{Input, Var, plain}
 use Rattle.signal.specs.Cell.{sigCell}
 use Rattle.blif_text.specs.Decls.{Decl, model, end, inputs, outputs, gate, defines}
 use Rattle.name_index.specs.Search.{Entry, entry}
@@ -21,4 +21,4 @@ entries i g (model ∷ ds) = entries i g ds
 entries i g (end ∷ ds) = entries i g ds
 entries i g (inputs ns ∷ ds) = inputEntries i ns ++ entries (i + length ns) g ds
 entries i g (outputs ns ∷ ds) = entries i g ds
-entries i g (gate d ∷ ds) = entry (defines d) (sigCell (plain (Gated g))) ∷ entries i (suc g) ds
+entries i g (gate d ∷ ds) = entry (defines d) (sigCell (plain (Var g))) ∷ entries i (suc g) ds

@@ -6,13 +6,13 @@ use mathlib.Core.List.{List, [], _∷_, _++_, map}
 use Prim.Native.Nat.{ℕ, _+_, _-_, _*_, _≤_, _<_}
 use lib.ListN.{length, getD, take}
 use lib.Seq.{slice}
-use Rattle.lists.specs.Lists.{Bytes, known, overAt}
-use Rattle.refusals.specs.Order.{when}
+use Rattle.lists.specs.Lists.{Bytes, known, overwriteAt}
+use Rattle.refusals.specs.Order.{refuseIf}
 use Rattle.refusals.specs.declared.Refusal.{Refusal}
 use Rattle.refusals.specs.declared.Refusal.the-variants as refusal
 use Rattle.refusals.specs.declared.Checked.{Checked}
 use Rattle.refusals.specs.declared.Checked.the-variants.{Fine, Refused}
-use Rattle.signal.specs.Signal.{Gated, plain}
+use Rattle.signal.specs.Signal.{Var, plain}
 use Rattle.signal.specs.Cell.{sigCell}
 use Rattle.network.specs.Cells.{maxInputs, maxGates, maxOutputs}
 use Rattle.blif_text.specs.Decls.{Decl, decls, ins, outs, defs}
@@ -22,7 +22,7 @@ use Rattle.blif_text.specs.Blocks.{blockWidth, defsAt, Blocks}
 use Rattle.blif_text.specs.declared.Block.{Block}
 use Rattle.name_index.specs.Search.{Entry, entry}
 use Rattle.name_index.specs.Index.{entriesOf, Index}
-use Rattle.blif_reading.specs.Read.{tooLarge, twice, naming}
+use Rattle.blif_reading.specs.Read.{tooLarge, definedTwice, naming}
 use Rattle.blif_read_sizes.specs.Rows.{LinesAt}
 use Rattle.blif_read_names.specs.Entries.{inputEntries, entries}
 use Rattle.blif_read_names.specs.declared.Walk.{Walk}
@@ -49,7 +49,7 @@ pub record InputsFit (text tokens : List ℕ) (first end : ℕ) (index : List �
 -- the names from first to end are entered as inputs, or one "is defined twice"
 pub record InputsEntered (text tokens : List ℕ) (first end : ℕ) (index : List ℕ) (i g : ℕ) (index′ : List ℕ) (r : Checked) : Type 0 where
   -- "10 when a name is defined twice"
-  pub refused : r ≡ when (twice (namesIn text index (i + g)) (tokensOf text (slice first end tokens))) refusal.DefinedTwice
+  pub refused : r ≡ refuseIf (definedTwice (namesIn text index (i + g)) (tokensOf text (slice first end tokens))) refusal.DefinedTwice
   -- the index has them now
   pub index-is : r ≡ Fine → Index text index′ (i + (end - first) + g)
   -- behind the others
@@ -77,13 +77,13 @@ pub record GateFits (text index : List ℕ) (i g cell : ℕ) (block : Block) (bl
 -- gate g is defined by the name x and its block, or the name "is defined twice"
 pub record GateDefined (text index : List ℕ) (i g : ℕ) (x : Bytes) (block : Block) (blocks index′ blocks′ : List ℕ) (r : Checked) : Type 0 where
   -- "10 when a name is defined twice"
-  pub refused : r ≡ when (known x (namesIn text index (i + g))) refusal.DefinedTwice
+  pub refused : r ≡ refuseIf (known x (namesIn text index (i + g))) refusal.DefinedTwice
   -- the index has it now
   pub index-is : r ≡ Fine → Index text index′ (i + (g + 1))
   -- behind the others
-  pub added : r ≡ Fine → entriesOf text index′ (i + (g + 1)) ≡ entriesOf text index (i + g) ++ (entry x (sigCell (plain (Gated g))) ∷ [])
+  pub added : r ≡ Fine → entriesOf text index′ (i + (g + 1)) ≡ entriesOf text index (i + g) ++ (entry x (sigCell (plain (Var g))) ∷ [])
   -- and its record is written
-  pub block-is : r ≡ Fine → blocks′ ≡ overAt (g * blockWidth) (block .first ∷ block .names ∷ block .lines ∷ []) blocks
+  pub block-is : r ≡ Fine → blocks′ ≡ overwriteAt (g * blockWidth) (block .first ∷ block .names ∷ block .lines ∷ []) blocks
 
 -- gate g can be defined by a cover of these names
 pub record CoverFits (text tokens index : List ℕ) (i g first names : ℕ) (blocks : List ℕ) : Type 0 where
@@ -178,7 +178,7 @@ pub record TablesTo (ds left : List Decl) (text tokens : List ℕ) (n : ℕ) (in
   pub blocks-are : defs ds ≡ defsAt text tokens n blocks g ++ defs left
 
 -- no refusal so far: the tables, and the refusal of what is left
-pub record Going (text tokens : List ℕ) (n : ℕ) (index outNames blocks : List ℕ) (w : Walk) : Type 0 where
+pub record NamingSoFar (text tokens : List ℕ) (n : ℕ) (index outNames blocks : List ℕ) (w : Walk) : Type 0 where
   -- statements stand at the place
   pub rest : StmtsAt text tokens n (w .at)
   -- no more tokens than a text may have
@@ -199,4 +199,4 @@ pub data Steps (text tokens : List ℕ) (n : ℕ) (index outNames blocks : List 
   -- the first refusal counts
   stops : {r : Refusal} → naming false [] (decls (stmtsFrom text tokens n 0)) ≡ Refused r → Steps text tokens n index outNames blocks v (step.Refused r)
   -- or the walk goes on
-  goes : {w : Walk} → v .at < w .at → Going text tokens n index outNames blocks w → Steps text tokens n index outNames blocks v (step.Next w)
+  goes : {w : Walk} → v .at < w .at → NamingSoFar text tokens n index outNames blocks w → Steps text tokens n index outNames blocks v (step.Next w)

@@ -8,7 +8,7 @@ use blif_text::put_block;
 use name_index::enter_name;
 use refusals::Checked;
 use refusals::Refusal;
-use refusals::when;
+use refusals::refuse_if;
 use signal::Signal;
 ghost use mathlib.Core.Path.{_≡_};
 ghost use mathlib.Core.Bool.{false};
@@ -24,7 +24,7 @@ ghost use Rattle.blif_text.specs.Walk.{stmtsFrom, StmtsAt};
 ghost use Rattle.blif_text.specs.Blocks.{blockWidth};
 ghost use Rattle.name_index.specs.Index.{indexCells};
 ghost use Rattle.blif_reading.specs.Read.{tooLarge};
-ghost use Rattle.blif_read_names.specs.Naming.{InputsFit, InputsEntered, GateFits, GateDefined, CoverFits, CoverDefined, stepOf, LatchFits, LatchStep, CoverStep, Going, Steps};
+ghost use Rattle.blif_read_names.specs.Naming.{InputsFit, InputsEntered, GateFits, GateDefined, CoverFits, CoverDefined, stepOf, LatchFits, LatchStep, CoverStep, NamingSoFar, Steps};
 ghost use Rattle.blif_read_names.specs.Tables.{DefinedBy};
 
 // How many inputs, gates and outputs are declared.
@@ -211,7 +211,7 @@ fn define_row(
     blocks: &mut [u32],
     w: Walk,
 ) -> Step
-    requires { ⌜ Going (now text) (now tokens) n (now index) (now «out_names») (now blocks) w × (w .at < n) ⌝ }
+    requires { ⌜ NamingSoFar (now text) (now tokens) n (now index) (now «out_names») (now blocks) w × (w .at < n) ⌝ }
     ensures { λ r. ⌜ Steps (now (text .entry)) (now (tokens .entry)) n (now (index .exit)) (now («out_names» .exit)) (now (blocks .exit)) w r ⌝ }
 {
     let row = row_at(text, tokens, n, w.at);
@@ -222,9 +222,9 @@ fn define_row(
     match statement {
         Statement::Model => {
             next.seen = true;
-            step_of(when(w.seen, Refusal::SecondModel), next)
+            step_of(refuse_if(w.seen, Refusal::SecondModel), next)
         }
-        Statement::End => step_of(when(!w.seen, Refusal::EndBeforeModel), next),
+        Statement::End => step_of(refuse_if(!w.seen, Refusal::EndBeforeModel), next),
         Statement::Inputs(_) => {
             next.inputs += end - w.at - 1;
             let checked = enter_inputs(text, tokens, w.at + 1, end, index, w.inputs, w.gates);

@@ -6,8 +6,8 @@ use Prim.Native.Nat.{ℕ, zero, suc, _+_, _-_, _*_, _≤_, _<_}
 use native.Mathlib.Omega.{arith}
 use lib.ListN.{length, getD, take, drop, set, length-take, length-drop, length-map}
 use lib.Seq.{slice, drop-cons, getD-take, getD-drop, length-slice}
-use Rattle.lists.specs.Lists.{Bytes, all, overAt}
-use Rattle.lists.proofs.OverAt.{over-three, part-laid}
+use Rattle.lists.specs.Lists.{Bytes, all, overwriteAt}
+use Rattle.lists.proofs.OverAt.{overwrite-three, part-laid}
 use Rattle.lists.proofs.Places.{run-within}
 use Rattle.lists.proofs.Laying.{one-store}
 use Rattle.gates.specs.Gate.{AndN}
@@ -89,15 +89,15 @@ not-placed {sig} {at = at} {run = run} w n t =
 -- what the part of the pins holds then
 module _ (sig : Bytes → ℕ) {names₀ names : List Bytes} (at : ℕ) (pinsIn : List ℕ) {q : List ℕ} {r : Bool}
     (w : Resolved (map sig names₀) (take (length pinsIn - at) (drop at pinsIn)) q r) (n : names₀ ≡ names) (t : r ≡ true) (h : at ≤ length pinsIn) where
-  names-laid : take at pinsIn ++ (q ++ drop (length pinsIn - at) (drop at pinsIn)) ≡ overAt at (map sig names) pinsIn
-  names-laid = part-laid at (map sig names₀) pinsIn h (w .laid t) ∙ ap (λ (l : List Bytes). overAt at (map sig l) pinsIn) n
+  names-laid : take at pinsIn ++ (q ++ drop (length pinsIn - at) (drop at pinsIn)) ≡ overwriteAt at (map sig names) pinsIn
+  names-laid = part-laid at (map sig names₀) pinsIn h (w .laid t) ∙ ap (λ (l : List Bytes). overwriteAt at (map sig l) pinsIn) n
 
   all-found : true ≡ all isFound (map sig names)
   all-found = sym t ∙ w .found ∙ ap (λ (l : List Bytes). all isFound (map sig l)) n
 
 pub cover-placed : {sig : Bytes → ℕ} {names₀ names : List Bytes} {j at count : ℕ} {q gates pinsIn gates′ : List ℕ} {r : Bool}
     → Resolved (map sig names₀) (take (length pinsIn - at) (drop at pinsIn)) q r → names₀ ≡ names → length names ≡ count → r ≡ true
-    → GateRoom gates pinsIn j at count → gates′ ≡ overAt (j * gateWidth) (formNumber AndN ∷ at ∷ count ∷ []) gates
+    → GateRoom gates pinsIn j at count → gates′ ≡ overwriteAt (j * gateWidth) (formNumber AndN ∷ at ∷ count ∷ []) gates
     → GatePlaced sig (formNumber AndN) names (map sig names) j at gates pinsIn gates′ (take at pinsIn ++ (q ++ drop (length pinsIn - at) (drop at pinsIn)))
     (answer.Pins (at + count))
 cover-placed {sig} {names = names} {j} {at} {count} {gates = gates} {pinsIn} w n l t m g =
@@ -105,13 +105,13 @@ cover-placed {sig} {names = names} {j} {at} {count} {gates = gates} {pinsIn} w n
     let e : count ≡ length (map sig names) = sym (length-map names sig ∙ l) in
     record {
       end = ap₂ (λ (k : ℕ) (b : Bool). placedTo b (at + k)) e (all-found sig at pinsIn w n t u);
-      records = λ v. g ∙ ap (λ (k : ℕ). overAt (j * gateWidth) (formNumber AndN ∷ at ∷ k ∷ []) gates) e;
+      records = λ v. g ∙ ap (λ (k : ℕ). overwriteAt (j * gateWidth) (formNumber AndN ∷ at ∷ k ∷ []) gates) e;
       runs = λ v. names-laid sig at pinsIn w n t u;
     }
 
 pub latch-placed : {sig : Bytes → ℕ} {names₀ : List Bytes} {x : Bytes} {j at : ℕ} {q gates pinsIn gates′ : List ℕ} {r : Bool}
     → Resolved (map sig names₀) (take (length pinsIn - at) (drop at pinsIn)) q r → names₀ ≡ x ∷ [] → r ≡ true → GateRoom gates pinsIn j at 3
-    → gates′ ≡ overAt (j * gateWidth) (flopNumber ∷ at ∷ 3 ∷ []) gates
+    → gates′ ≡ overwriteAt (j * gateWidth) (flopNumber ∷ at ∷ 3 ∷ []) gates
     → GatePlaced sig flopNumber (x ∷ []) (sig x ∷ 1 ∷ 0 ∷ []) j at gates pinsIn gates′
     (set (set (take at pinsIn ++ (q ++ drop (length pinsIn - at) (drop at pinsIn))) (at + 1) 1) (at + 2) 0)
     (answer.Pins (at + 3))
@@ -122,7 +122,7 @@ latch-placed {sig} {x = x} {at = at} {pinsIn = pinsIn} w n t m g =
       records = λ v. g;
       runs = λ v.
           ap (λ (l : List ℕ). set (set l (at + 1) 1) (at + 2) 0) (names-laid sig at pinsIn w n t u ∙ sym (one-store at (sig x) pinsIn))
-          ∙ over-three at (sig x) 1 0 pinsIn;
+          ∙ overwrite-three at (sig x) 1 0 pinsIn;
     }
 
 -- ---- the block's definition

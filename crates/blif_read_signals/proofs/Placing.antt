@@ -8,9 +8,9 @@ use native.Mathlib.Omega.{arith}
 use native.Mathlib.Nat.{sub-zero}
 use native.Mathlib.Decide.{ℕ-discrete}
 use lib.ListN.{length, getElem?, length-take, length-map}
-use Rattle.lists.specs.Lists.{Bytes, all, range, sumOf, overAt}
+use Rattle.lists.specs.Lists.{Bytes, all, range, sumOf, overwriteAt}
 use Rattle.lists.proofs.Tests.{and-left, and-right}
-use Rattle.lists.proofs.OverAt.{length-overAt}
+use Rattle.lists.proofs.OverAt.{length-overwriteAt}
 use Rattle.lists.proofs.Places.{map-map, place-lt}
 use Rattle.lists.proofs.Range.{all-append, map-range, length-range, range-cons, range-end}
 use Rattle.signal.specs.Signal.{Signal}
@@ -32,22 +32,22 @@ use Rattle.refusals.specs.declared.Refusal.the-variants as refusal
 -- ---- the gate of a definition
 
 -- found names are the cells of their signals
-found-cells : (sig : Bytes → ℕ) (look : Bytes → Signal) → Signals sig look → (ns : List Bytes) → all isFound (map sig ns) ≡ true
-    → map sig ns ≡ map sigCell (map look ns)
-found-cells sig look s [] f = refl
-found-cells sig look s (x ∷ ns) f =
+found-cells : (sig : Bytes → ℕ) (signalOf : Bytes → Signal) → Signals sig signalOf → (ns : List Bytes) → all isFound (map sig ns) ≡ true
+    → map sig ns ≡ map sigCell (map signalOf ns)
+found-cells sig signalOf s [] f = refl
+found-cells sig signalOf s (x ∷ ns) f =
     let b : Bool = all isFound (map sig ns) in
-    ap₂ (λ (a : ℕ) (l : List ℕ). a ∷ l) (s x (and-left (isFound (sig x)) b f)) (found-cells sig look s ns (and-right (isFound (sig x)) b f))
+    ap₂ (λ (a : ℕ) (l : List ℕ). a ∷ l) (s x (and-left (isFound (sig x)) b f)) (found-cells sig signalOf s ns (and-right (isFound (sig x)) b f))
 
-run-is : (sig : Bytes → ℕ) (look : Bytes → Signal) → Signals sig look → (d : Def) → all isFound (map sig (usedNames d)) ≡ true
-    → placedRun sig d ≡ map sigCell (pins (placed look d))
+run-is : (sig : Bytes → ℕ) (signalOf : Bytes → Signal) → Signals sig signalOf → (d : Def) → all isFound (map sig (usedNames d)) ≡ true
+    → placedRun sig d ≡ map sigCell (pins (placed signalOf d))
 unfolding usedNames
-run-is sig look s (latch d q) f = ap (λ (a : ℕ). a ∷ 1 ∷ 0 ∷ []) (s d (and-left (isFound (sig d)) true f))
-run-is sig look s (cover ns ls) f = found-cells sig look s (coverIns ns) f
+run-is sig signalOf s (latch d q) f = ap (λ (a : ℕ). a ∷ 1 ∷ 0 ∷ []) (s d (and-left (isFound (sig d)) true f))
+run-is sig signalOf s (cover ns ls) f = found-cells sig signalOf s (coverIns ns) f
 
-form-is : (look : Bytes → Signal) (d : Def) → placedForm d ≡ formCell (placed look d)
-form-is look (latch d q) = refl
-form-is look (cover ns ls) = refl
+form-is : (signalOf : Bytes → Signal) (d : Def) → placedForm d ≡ formCell (placed signalOf d)
+form-is signalOf (latch d q) = refl
+form-is signalOf (cover ns ls) = refl
 
 run-length : (sig : Bytes → ℕ) (d : Def) → length (placedRun sig d) ≡ placedCount d
 unfolding coverIns
@@ -58,15 +58,15 @@ run-length sig (cover ns ls) =
 
 -- the gate stands in the cells after it was placed
 def-in : {sig : Bytes → ℕ} (d : Def) {j at : ℕ} {gates pinsIn gates′ pinsIn′ : List ℕ} {r : Placed} → DefPlaced sig d j at gates pinsIn gates′ pinsIn′ r
-    → GateRoom gates pinsIn j at (placedCount d) → all isFound (map sig (usedNames d)) ≡ true → (look : Bytes → Signal) → Signals sig look
-    → GateIn gates′ pinsIn′ (at + length (placedRun sig d)) j (placed look d)
-def-in {sig} d {j} {at} {gates} {pinsIn} {gates′} {pinsIn′} {r} p w t look s =
-    let x : Gate = placed look d in
-    let e : placedRun sig d ≡ map sigCell (pins x) = run-is sig look s d t in
+    → GateRoom gates pinsIn j at (placedCount d) → all isFound (map sig (usedNames d)) ≡ true → (signalOf : Bytes → Signal) → Signals sig signalOf
+    → GateIn gates′ pinsIn′ (at + length (placedRun sig d)) j (placed signalOf d)
+def-in {sig} d {j} {at} {gates} {pinsIn} {gates′} {pinsIn′} {r} p w t signalOf s =
+    let x : Gate = placed signalOf d in
+    let e : placedRun sig d ≡ map sigCell (pins x) = run-is sig signalOf s d t in
     let n : length (placedRun sig d) ≡ length (pins x) = ap length e ∙ length-map (pins x) sigCell in
-    let g : gates′ ≡ overAt (j * gateWidth) (formCell x ∷ at ∷ length (pins x) ∷ []) gates =
-    p .records t ∙ ap₂ (λ (f k : ℕ). overAt (j * gateWidth) (f ∷ at ∷ k ∷ []) gates) (form-is look d) n in
-    let q : pinsIn′ ≡ overAt at (map sigCell (pins x)) pinsIn = p .runs t ∙ ap (λ (l : List ℕ). overAt at l pinsIn) e in
+    let g : gates′ ≡ overwriteAt (j * gateWidth) (formCell x ∷ at ∷ length (pins x) ∷ []) gates =
+    p .records t ∙ ap₂ (λ (f k : ℕ). overwriteAt (j * gateWidth) (f ∷ at ∷ k ∷ []) gates) (form-is signalOf d) n in
+    let q : pinsIn′ ≡ overwriteAt at (map sigCell (pins x)) pinsIn = p .runs t ∙ ap (λ (l : List ℕ). overwriteAt at l pinsIn) e in
     rw (g, q, n)
     (gate-written gates pinsIn at j x (omega (arith, w .low, w .cells .gateRoom)) (omega (arith, n, run-length sig d, w .few, w .cells .pinRoom)))
 
@@ -109,7 +109,7 @@ pub record Placing (sig : Bytes → ℕ) (def : ℕ → Def) (g : ℕ) (gates₀
   pub few : sumOf placedCount (map def (range 0 g)) ≤ maxPins
   pub found : allFound sig (from def g j) ≡ allFound sig (map def (range 0 g))
   pub counted : at + sumOf placedCount (from def g j) ≡ sumOf placedCount (map def (range 0 g))
-  pub gates-in : (look : Bytes → Signal) → Signals sig look → (h : ℕ) → h < j → GateIn gates pinsIn at h (placed look (def h))
+  pub gates-in : (signalOf : Bytes → Signal) → Signals sig signalOf → (h : ℕ) → h < j → GateIn gates pinsIn at h (placed signalOf (def h))
 
 pub placing-start : {sig : Bytes → ℕ} {def : ℕ → Def} {g : ℕ} {gates pinsIn : List ℕ} → WorkRoom gates pinsIn → g ≤ maxGates
     → sumOf placedCount (map def (range 0 g)) ≤ maxPins → Placing sig def g gates pinsIn gates pinsIn 0 0
@@ -124,7 +124,7 @@ placing-start {def = def} {g = g} w l f =
       few = f;
       found = rw e;
       counted = omega (arith, ap (sumOf placedCount) e);
-      gates-in = λ look s h u. absurd (omega arith);
+      gates-in = λ signalOf s h u. absurd (omega arith);
     }
 
 module _ {sig : Bytes → ℕ} {def : ℕ → Def} {g : ℕ} {gates₀ pinsIn₀ gates pinsIn : List ℕ} {j at : ℕ} (c : Placing sig def g gates₀ pinsIn₀ gates pinsIn j at) where
@@ -153,21 +153,21 @@ module _ {sig : Bytes → ℕ} {def : ℕ → Def} {g : ℕ} {gates₀ pinsIn₀
         }
 
     -- the gates before, after this one was placed
-    kept : all isFound (map sig (usedNames (def j))) ≡ true → (look : Bytes → Signal) → Signals sig look → (i : ℕ) → i < j → GateIn gates′ pinsIn′ (at + length (placedRun sig (def j))) i (placed look (def i))
-    kept t look s i u =
+    kept : all isFound (map sig (usedNames (def j))) ≡ true → (signalOf : Bytes → Signal) → Signals sig signalOf → (i : ℕ) → i < j → GateIn gates′ pinsIn′ (at + length (placedRun sig (def j))) i (placed signalOf (def i))
+    kept t signalOf s i u =
         let k : ℕ = length (placedRun sig (def j)) in
         let three : List ℕ = placedForm (def j) ∷ at ∷ k ∷ [] in
         rw (p .records t, p .runs t)
         (used-more (at + k) (omega arith)
-        (run-kept at (placedRun sig (def j)) (omega arith) (record-kept j three (omega arith) (λ z. omega arith) (c .gates-in look s i u))))
+        (run-kept at (placedRun sig (def j)) (omega arith) (record-kept j three (omega arith) (λ z. omega arith) (c .gates-in signalOf s i u))))
 
     pub placing-next : {end : ℕ} → r ≡ answer.Pins end → Placing sig def g gates₀ pinsIn₀ gates′ pinsIn′ (j + 1) end
     placing-next {end} e =
         let x = pins-found (all isFound (map sig (usedNames (def j)))) _ (sym e ∙ p .end) in
         let t = x .0 in
         let three : List ℕ = placedForm (def j) ∷ at ∷ length (placedRun sig (def j)) ∷ [] in
-        let lg : length gates′ ≡ length gates = ap length (p .records t) ∙ length-overAt (j * gateWidth) three gates in
-        let lp : length pinsIn′ ≡ length pinsIn = ap length (p .runs t) ∙ length-overAt at (placedRun sig (def j)) pinsIn in
+        let lg : length gates′ ≡ length gates = ap length (p .records t) ∙ length-overwriteAt (j * gateWidth) three gates in
+        let lp : length pinsIn′ ≡ length pinsIn = ap length (p .runs t) ∙ length-overwriteAt at (placedRun sig (def j)) pinsIn in
         record {
           within = omega arith;
           low = c .low;
@@ -177,10 +177,10 @@ module _ {sig : Bytes → ℕ} {def : ℕ → Def} {g : ℕ} {gates₀ pinsIn₀
           few = c .few;
           found = sym (ap (λ (b : Bool). b && allFound sig (from def g (j + 1))) t) ∙ now-found h;
           counted = omega (arith, c .counted, x .1, run-length sig (def j), ap (sumOf placedCount) (from-cons def g j h));
-          gates-in = λ look s i u.
+          gates-in = λ signalOf s i u.
               elim (ℕ-discrete i j) [
-                | yes z ↦ rw (z, x .1) (def-in (def j) p (placing-room h) t look s)
-                | no z ↦ rw (x .1) (kept t look s i (omega arith))
+                | yes z ↦ rw (z, x .1) (def-in (def j) p (placing-room h) t signalOf s)
+                | no z ↦ rw (x .1) (kept t signalOf s i (omega arith))
               ];
         }
 
@@ -190,16 +190,16 @@ module _ {sig : Bytes → ℕ} {def : ℕ → Def} {g : ℕ} {gates₀ pinsIn₀
       let all-counted : at ≡ sumOf placedCount (map def (range 0 g)) = omega (arith, c .counted, ap (sumOf placedCount) e) in
       record {
         counted = ap₂ (λ (k : ℕ) (b : Bool). placedTo b k) all-counted (sym (ap (allFound sig) e ∙ found-nil sig) ∙ c .found);
-        gates-in = λ t look s i x q.
-            let m : map (placed look) (map def (range 0 g)) ≡ map (λ (k : ℕ). placed look (def k)) (range 0 g) = map-map (placed look) def (range 0 g) in
-            let l : i < length (map (placed look) (map def (range 0 g))) = place-lt (map (placed look) (map def (range 0 g))) i x q in
-            let n : length (map (λ (k : ℕ). placed look (def k)) (range 0 g)) ≡ g = length-map (range 0 g) (λ (k : ℕ). placed look (def k)) ∙ length-range 0 g in
+        gates-in = λ t signalOf s i x q.
+            let m : map (placed signalOf) (map def (range 0 g)) ≡ map (λ (k : ℕ). placed signalOf (def k)) (range 0 g) = map-map (placed signalOf) def (range 0 g) in
+            let l : i < length (map (placed signalOf) (map def (range 0 g))) = place-lt (map (placed signalOf) (map def (range 0 g))) i x q in
+            let n : length (map (λ (k : ℕ). placed signalOf (def k)) (range 0 g)) ≡ g = length-map (range 0 g) (λ (k : ℕ). placed signalOf (def k)) ∙ length-range 0 g in
             let u : i < g = omega (arith, ap length m) in
             let z : 0 + i ≡ i = omega arith in
-            let v : some x ≡ some (placed look (def i)) =
-            sym q ∙ ap (λ (ys : List Gate). getElem? ys i) m ∙ map-range (λ (k : ℕ). placed look (def k)) 0 g i u ∙ ap (λ (k : ℕ). some (placed look (def k))) z in
-            let w : x ≡ placed look (def i) = cc in
-            rw (w, ← all-counted) (c .gates-in look s i (omega arith));
+            let v : some x ≡ some (placed signalOf (def i)) =
+            sym q ∙ ap (λ (ys : List Gate). getElem? ys i) m ∙ map-range (λ (k : ℕ). placed signalOf (def k)) 0 g i u ∙ ap (λ (k : ℕ). some (placed signalOf (def k))) z in
+            let w : x ≡ placed signalOf (def i) = cc in
+            rw (w, ← all-counted) (c .gates-in signalOf s i (omega arith));
       }
 
 -- the blocks up to this one

@@ -5,7 +5,7 @@ use mathlib.Core.Bool.{Bool, true, not, cond}
 use mathlib.Core.List.{List, map, flatMap}
 use Prim.Native.Nat.{ℕ}
 use lib.Dec.{eqb}
-use Rattle.lists.specs.Lists.{Bytes, all, over, sumOf}
+use Rattle.lists.specs.Lists.{Bytes, all, overwrite, sumOf}
 use Rattle.refusals.specs.declared.Refusal.the-variants as refusal
 use Rattle.signal.specs.Signal.{Signal}
 use Rattle.signal.specs.Cell.{sigCell}
@@ -23,11 +23,11 @@ pub record Resolved (signals cells cells′ : List ℕ) (r : Bool) : Type 0 wher
   -- whether all were found
   pub found : r ≡ all isFound signals
   -- they stand in the cells
-  pub laid : r ≡ true → cells′ ≡ over signals cells
+  pub laid : r ≡ true → cells′ ≡ overwrite signals cells
 
 -- sig is the cell of each name's signal, where it is found
 abbrev pub Signals : (Bytes → ℕ) → (Bytes → Signal) → Type 0
-Signals sig look = (x : Bytes) → isFound (sig x) ≡ true → sig x ≡ sigCell (look x)
+Signals sig signalOf = (x : Bytes) → isFound (sig x) ≡ true → sig x ≡ sigCell (signalOf x)
 
 -- whether the names that definitions use were found
 abbrev pub allFound : (Bytes → ℕ) → List Def → Bool
@@ -42,4 +42,4 @@ pub record PlacedBy (sig : Bytes → ℕ) (ds : List Def) (gates pinsIn : List �
   -- the pins are counted
   pub counted : r ≡ placedTo (allFound sig ds) (sumOf placedCount ds)
   -- the gates stand in the cells
-  pub gates-in : allFound sig ds ≡ true → (look : Bytes → Signal) → Signals sig look → GatesIn gates pinsIn (sumOf placedCount ds) (map (placed look) ds)
+  pub gates-in : allFound sig ds ≡ true → (signalOf : Bytes → Signal) → Signals sig signalOf → GatesIn gates pinsIn (sumOf placedCount ds) (map (placed signalOf) ds)

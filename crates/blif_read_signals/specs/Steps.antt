@@ -4,7 +4,7 @@ use mathlib.Core.Bool.{true}
 use mathlib.Core.List.{List, [], _∷_, map}
 use Prim.Native.Nat.{ℕ, _+_, _*_, _≤_, _<_}
 use lib.ListN.{length, getD}
-use Rattle.lists.specs.Lists.{Bytes, all, overAt}
+use Rattle.lists.specs.Lists.{Bytes, all, overwriteAt}
 use Rattle.gates.specs.Gate.{AndN}
 use Rattle.gates.specs.Forms.{formNumber, flopNumber}
 use Rattle.network.specs.Cells.{gateWidth, maxGates, maxPins}
@@ -35,9 +35,9 @@ pub record GatePlaced (sig : Bytes → ℕ) (form : ℕ) (names : List Bytes) (r
   -- the cell behind the run, where all were found
   pub end : r ≡ placedTo (all isFound (map sig names)) (at + length run)
   -- the record
-  pub records : all isFound (map sig names) ≡ true → gates′ ≡ overAt (j * gateWidth) (form ∷ at ∷ length run ∷ []) gates
+  pub records : all isFound (map sig names) ≡ true → gates′ ≡ overwriteAt (j * gateWidth) (form ∷ at ∷ length run ∷ []) gates
   -- the run
-  pub runs : all isFound (map sig names) ≡ true → pinsIn′ ≡ overAt at run pinsIn
+  pub runs : all isFound (map sig names) ≡ true → pinsIn′ ≡ overwriteAt at run pinsIn
 
 -- the form number of the gate first placed for a definition: a Dff, or a Nary And
 abbrev pub placedForm : Def → ℕ

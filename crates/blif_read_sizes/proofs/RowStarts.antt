@@ -13,7 +13,7 @@ use Rattle.blif_text.specs.Statements.{Stmt, Parsed, ok, bad, modelStmt, latchS
 use Rattle.blif_text.specs.Rows.{rowStmt}
 use Rattle.blif_text.specs.Places.{tokenOf, tokensOf, grouped}
 use Rattle.blif_text.specs.Keywords.{keywordOf}
-use Rattle.blif_text.specs.PlacedStatements.{said, RowTo, statementAt, refusalIn}
+use Rattle.blif_text.specs.PlacedStatements.{parsedFrom, RowTo, statementAt, refusalIn}
 use Rattle.blif_text.specs.Walk.{rowsFrom, stmtsFrom, RowsAt, StmtsAt}
 use Rattle.blif_text.specs.declared.Keyword.{Keyword}
 use Rattle.blif_text.specs.declared.Keyword.the-variants as key
@@ -21,7 +21,7 @@ use Rattle.blif_text.specs.declared.Statement.{Statement}
 use Rattle.blif_text.specs.declared.Statement.the-variants as place
 use Rattle.blif_text.proofs.StatementLaws.{row-by-keyword, statement-says}
 use Rattle.blif_text.proofs.RowWalk.{rows-end, rows-are}
-use Rattle.blif_text.proofs.RefusalLaws.{stmts-are, stmts-said, stmts-next}
+use Rattle.blif_text.proofs.RefusalLaws.{stmts-are, stmts-parsedFrom, stmts-next}
 use Rattle.blif_read_sizes.specs.Rows.{names, Starts, RowIs}
 
 -- ---- what a statement has of its row's tokens, the first and the others
@@ -98,7 +98,7 @@ module _ {text cells : List ℕ} {n at r : ℕ} (c : StmtsAt text cells n at) (h
   first = tokenOf text (getD cells at 0)
 
   -- a row's statement has its tokens
-  row-has : (s : Statement) → said text cells s ≡ rowStmt (tokensOf text (slice at r cells)) → Has (said text cells s) first (names text cells at r)
+  row-has : (s : Statement) → parsedFrom text cells s ≡ rowStmt (tokensOf text (slice at r cells)) → Has (parsedFrom text cells s) first (names text cells at r)
   row-has s q =
       subst (λ (p : Parsed). Has p first (names text cells at r)) (sym (q ∙ row-by-keyword text cells at r (w .low) within)) (keyword-has (keywordOf first) first (names text cells at r))
 
@@ -123,12 +123,12 @@ module _ {text cells : List ℕ} {n at r : ℕ} (c : StmtsAt text cells n at) (h
       cc
 
   -- of the row's statement
-  has : {s : Statement} → s ≡ statementAt text cells at r → Has (said text cells s) first (names text cells at r)
-  has {s} e = row-has s (ap (said text cells) e ∙ statement-says text cells (w .low) within)
+  has : {s : Statement} → s ≡ statementAt text cells at r → Has (parsedFrom text cells s) first (names text cells at r)
+  has {s} e = row-has s (ap (parsedFrom text cells) e ∙ statement-says text cells (w .low) within)
 
   -- the row's statement, then the others
-  are : {s : Statement} → s ≡ statementAt text cells at r → stmtsFrom text cells n at ≡ stmts (said text cells s ∷ map rowStmt (rowsFrom text cells n r))
-  are e = stmts-are c h w ∙ ap (λ (t : Statement). stmts (said text cells t ∷ map rowStmt (rowsFrom text cells n r))) (sym e)
+  are : {s : Statement} → s ≡ statementAt text cells at r → stmtsFrom text cells n at ≡ stmts (parsedFrom text cells s ∷ map rowStmt (rowsFrom text cells n r))
+  are e = stmts-are c h w ∙ ap (λ (t : Statement). stmts (parsedFrom text cells t ∷ map rowStmt (rowsFrom text cells n r))) (sym e)
 
   row-starts : (s : Statement) → s ≡ statementAt text cells at r → Starts text cells n at r s
   unfolding stmts
@@ -143,7 +143,7 @@ module _ {text cells : List ℕ} {n at r : ℕ} (c : StmtsAt text cells n at) (h
       let l : at + 3 ≤ r = omega (arith, sym (names-count text cells at r within) ∙ ap length (a .1)) in
       (are e ∙ latch-is _ _ (a .0) (a .1) l, l)
   row-starts (place.Cube run) e = are e ∙ ap (λ (ns : List Bytes). Stmt.cube ns ∷ stmtsFrom text cells n r) (has e ∙ sym (tokens-from at (w .low)))
-  row-starts (place.Refused k) e = refused-ne-fine (ap refusalIn e ∙ stmts-said c h w)
+  row-starts (place.Refused k) e = refused-ne-fine (ap refusalIn e ∙ stmts-parsedFrom c h w)
 
   pub row-is : {s : Statement} → s ≡ statementAt text cells at r → RowIs text cells n at r s
   row-is {s} e = record { low = w .low; rest = stmts-next c h w; rows = rows-are (c .rows) h w; is = e; starts = row-starts s e }

@@ -9,11 +9,11 @@ use native.Mathlib.Omega.{arith}
 use lib.Dec.{leb, ltb}
 use lib.ListN.{length}
 use Rattle.lists.specs.Lists.{Bytes, any}
-use Rattle.refusals.specs.Order.{_then_, when}
+use Rattle.refusals.specs.Order.{_orElse_, refuseIf}
 use Rattle.refusals.specs.declared.Refusal.the-variants as refusal
 use Rattle.refusals.specs.declared.Checked.{Checked}
 use Rattle.refusals.specs.declared.Checked.the-variants.{Fine, Refused}
-use Rattle.refusals.proofs.Order.{then-right}
+use Rattle.refusals.proofs.Order.{orElse-right}
 use Rattle.network.specs.Net.{Net}
 use Rattle.network.specs.Settle.{run}
 use Rattle.sort_order.specs.Sorted.{sorted}
@@ -24,7 +24,7 @@ use Rattle.blif_meaning.specs.Model.{BlifRuns}
 use Rattle.blif_reading.specs.Build.{build}
 use Rattle.blif_reading.specs.Lookup.{byte-names}
 use Rattle.blif_reading.specs.TextModel.{blockOf, modelOf, modelOfText}
-use Rattle.blif_reading.specs.Read.{declFault, readFault, read, answer, look, builtFrom, readText}
+use Rattle.blif_reading.specs.Read.{declFault, readFault, read, answer, signalOf, builtFrom, readText}
 use Rattle.blif_reading.specs.Accepts.{Accepts}
 use Rattle.blif_meaning.specs.WellFormed.{GoodBlock}
 use Rattle.blif_reading.proofs.Meaning.{builtOf, sorted-means}
@@ -50,9 +50,9 @@ pub passed-read : (s : Bytes) (new : Net) → readText s ≡ read new → Passed
 unfolding readText readFault
 passed-read s new e =
     let r : (readFault s ≡ Fine) × (sorted (builtFrom (declsOf s)) ≡ some new) = read-fine (readFault s) (sorted (builtFrom (declsOf s))) new e in
-    let f₃ = then-right (when (ltb 32768 (length s)) refusal.TextTooLong) (when (any (leb 128) s) refusal.HighByte then firstBad (parsed s) then declFault (declsOf s)) (r .0) in
-    let f₄ = then-right (when (any (leb 128) s) refusal.HighByte) (firstBad (parsed s) then declFault (declsOf s)) f₃ in
-    (passed (declsOf s) (then-right (firstBad (parsed s)) (declFault (declsOf s)) f₄), r .1)
+    let f₃ = orElse-right (refuseIf (ltb 32768 (length s)) refusal.TextTooLong) (refuseIf (any (leb 128) s) refusal.HighByte orElse firstBad (parsed s) orElse declFault (declsOf s)) (r .0) in
+    let f₄ = orElse-right (refuseIf (any (leb 128) s) refusal.HighByte) (firstBad (parsed s) orElse declFault (declsOf s)) f₃ in
+    (passed (declsOf s) (orElse-right (firstBad (parsed s)) (declFault (declsOf s)) f₄), r .1)
 
 pub reads-of : (s : Bytes) (new : Net) → readText s ≡ read new → Reads s new
 unfolding declsOf builtFrom
@@ -67,7 +67,7 @@ reads-of s new e =
           closed = closed-of ds (p .used);
           good = λ b w. let t = Memᴰ·of-map blockOf (defs ds) w in subst GoodBlock (t .2) (good-of (t .0) (goods-of (defs ds) (p .covered) (t .0) (t .1)));
         };
-        free = sorted-free (build (look ds) (modelOf ds)) (passed-valid ds p) new (r .1);
+        free = sorted-free (build (signalOf ds) (modelOf ds)) (passed-valid ds p) new (r .1);
       };
       isSorted = r .1;
     }

@@ -18,11 +18,11 @@ use Rattle.gates.specs.Forms.{formed}
 use Rattle.network.specs.Cells.{pinCells}
 use Rattle.blif_text.specs.Decls.{Def, latch, cover, coverIns}
 use Rattle.blif_meaning.specs.Model.{Col, C0, C1, Dash, Line}
-use Rattle.blif_reading.specs.Build.{literals, literalGate, lineGate, gateRun, coverGate, lineGates, blockGate, moreGates, mains, extras}
+use Rattle.blif_reading.specs.Build.{literals, literalGate, lineGate, gateRun, coverGate, lineGates, blockGate, newGates, blockGates, allNewGates}
 use Rattle.blif_reading.specs.TextModel.{lineOf, blockOf}
 use Rattle.blif_reading.specs.Read.{added, gateCount, pinCount}
 use Rattle.blif_reading.specs.Working.{builtGates}
-use Rattle.blif_reading.proofs.ModelToBuilt.{mains-length}
+use Rattle.blif_reading.proofs.ModelToBuilt.{blockGates-length}
 
 -- ---- sums
 
@@ -115,62 +115,62 @@ lines-added ss (l ∷ m ∷ ls) =
 
 -- ---- the gates of a definition
 
-module _ (look : Bytes → Signal) where
-  def-pins : (k : ℕ) (g : Def) → pinsOf (blockGate look k (blockOf g)) + sumOf pinsOf (moreGates look (blockOf g)) ≤ pinCount g
+module _ (signalOf : Bytes → Signal) where
+  def-pins : (k : ℕ) (g : Def) → pinsOf (blockGate signalOf k (blockOf g)) + sumOf pinsOf (newGates signalOf (blockOf g)) ≤ pinCount g
   unfolding pinCount coverIns
   def-pins k (latch d q) = omega arith
   def-pins k (cover ns ls) =
-      let n : length (map look (coverIns ns)) ≡ length ns - 1 = length-map (coverIns ns) look ∙ length-take (length ns - 1) ns ∙ omega arith in
+      let n : length (map signalOf (coverIns ns)) ≡ length ns - 1 = length-map (coverIns ns) signalOf ∙ length-take (length ns - 1) ns ∙ omega arith in
       let m : length (map lineOf ls) ≡ length ls = length-map ls lineOf in
-      subst (λ (x : ℕ). pinsOf (coverGate k (map look (coverIns ns)) (map lineOf ls)) + sumOf pinsOf (lineGates (map look (coverIns ns)) (map lineOf ls)) ≤ x)
+      subst (λ (x : ℕ). pinsOf (coverGate k (map signalOf (coverIns ns)) (map lineOf ls)) + sumOf pinsOf (lineGates (map signalOf (coverIns ns)) (map lineOf ls)) ≤ x)
       (λ i. (m i + 1) * (n i + 2))
-      (cover-pins k (map look (coverIns ns)) (map lineOf ls))
+      (cover-pins k (map signalOf (coverIns ns)) (map lineOf ls))
 
-  def-gates : (g : Def) → 1 + length (moreGates look (blockOf g)) ≡ gateCount g
+  def-gates : (g : Def) → 1 + length (newGates signalOf (blockOf g)) ≡ gateCount g
   unfolding gateCount
   def-gates (latch d q) = refl
-  def-gates (cover ns ls) = ap (λ (x : ℕ). 1 + x) (lines-added (map look (coverIns ns)) (map lineOf ls) ∙ ap added (length-map ls lineOf))
+  def-gates (cover ns ls) = ap (λ (x : ℕ). 1 + x) (lines-added (map signalOf (coverIns ns)) (map lineOf ls) ∙ ap added (length-map ls lineOf))
 
-  main-formed : (k : ℕ) (g : Def) → formed (blockGate look k (blockOf g)) ≡ true
+  main-formed : (k : ℕ) (g : Def) → formed (blockGate signalOf k (blockOf g)) ≡ true
   main-formed k (latch d q) = refl
-  main-formed k (cover ns ls) = cover-formed k (map look (coverIns ns)) (map lineOf ls)
+  main-formed k (cover ns ls) = cover-formed k (map signalOf (coverIns ns)) (map lineOf ls)
 
-  more-formed : (g : Def) → AllFormed (moreGates look (blockOf g))
+  more-formed : (g : Def) → AllFormed (newGates signalOf (blockOf g))
   more-formed (latch d q) = every-nil
-  more-formed (cover ns ls) = lines-formed (map look (coverIns ns)) (map lineOf ls)
+  more-formed (cover ns ls) = lines-formed (map signalOf (coverIns ns)) (map lineOf ls)
 
   -- ---- all gates
 
-  mains-formed : (k : ℕ) (gs : List Def) → AllFormed (mains look k (map blockOf gs))
-  mains-formed k [] = every-nil
-  mains-formed k (g ∷ gs) = every-cons (main-formed k g) (mains-formed (k + length (moreGates look (blockOf g))) gs)
+  blockGates-formed : (k : ℕ) (gs : List Def) → AllFormed (blockGates signalOf k (map blockOf gs))
+  blockGates-formed k [] = every-nil
+  blockGates-formed k (g ∷ gs) = every-cons (main-formed k g) (blockGates-formed (k + length (newGates signalOf (blockOf g))) gs)
 
-  extras-formed : (gs : List Def) → AllFormed (extras look (map blockOf gs))
-  extras-formed [] = every-nil
-  extras-formed (g ∷ gs) = every-append (more-formed g) (extras-formed gs)
+  newGates-formed : (gs : List Def) → AllFormed (allNewGates signalOf (map blockOf gs))
+  newGates-formed [] = every-nil
+  newGates-formed (g ∷ gs) = every-append (more-formed g) (newGates-formed gs)
 
-  both-pins : (k : ℕ) (gs : List Def) → sumOf pinsOf (mains look k (map blockOf gs)) + sumOf pinsOf (extras look (map blockOf gs)) ≤ sumOf pinCount gs
+  both-pins : (k : ℕ) (gs : List Def) → sumOf pinsOf (blockGates signalOf k (map blockOf gs)) + sumOf pinsOf (allNewGates signalOf (map blockOf gs)) ≤ sumOf pinCount gs
   both-pins k [] = omega arith
   both-pins k (g ∷ gs) =
       omega
-      (arith, def-pins k g, both-pins (k + length (moreGates look (blockOf g))) gs, sum-append pinsOf (moreGates look (blockOf g)) (extras look (map blockOf gs)))
+      (arith, def-pins k g, both-pins (k + length (newGates signalOf (blockOf g))) gs, sum-append pinsOf (newGates signalOf (blockOf g)) (allNewGates signalOf (map blockOf gs)))
 
-  both-gates : (gs : List Def) → length gs + length (extras look (map blockOf gs)) ≡ sumOf gateCount gs
+  both-gates : (gs : List Def) → length gs + length (allNewGates signalOf (map blockOf gs)) ≡ sumOf gateCount gs
   both-gates [] = refl
-  both-gates (g ∷ gs) = omega (arith, def-gates g, both-gates gs, length-append (moreGates look (blockOf g)) (extras look (map blockOf gs)))
+  both-gates (g ∷ gs) = omega (arith, def-gates g, both-gates gs, length-append (newGates signalOf (blockOf g)) (allNewGates signalOf (map blockOf gs)))
 
   -- as many gates are built as are counted
-  pub built-gates : (gs : List Def) → length (builtGates look gs) ≡ sumOf gateCount gs
+  pub built-gates : (gs : List Def) → length (builtGates signalOf gs) ≡ sumOf gateCount gs
   built-gates gs =
       omega
-      (arith, length-append (mains look (length (map blockOf gs)) (map blockOf gs)) (extras look (map blockOf gs)), mains-length look (length (map blockOf gs)) (map blockOf gs), length-map gs blockOf, both-gates gs)
+      (arith, length-append (blockGates signalOf (length (map blockOf gs)) (map blockOf gs)) (allNewGates signalOf (map blockOf gs)), blockGates-length signalOf (length (map blockOf gs)) (map blockOf gs), length-map gs blockOf, both-gates gs)
 
   -- and no more pins
-  pub built-pins : (gs : List Def) → length (pinCells (builtGates look gs)) ≤ sumOf pinCount gs
+  pub built-pins : (gs : List Def) → length (pinCells (builtGates signalOf gs)) ≤ sumOf pinCount gs
   built-pins gs =
       omega
-      (arith, pins-sum (builtGates look gs), sum-append pinsOf (mains look (length (map blockOf gs)) (map blockOf gs)) (extras look (map blockOf gs)), both-pins (length (map blockOf gs)) gs)
+      (arith, pins-sum (builtGates signalOf gs), sum-append pinsOf (blockGates signalOf (length (map blockOf gs)) (map blockOf gs)) (allNewGates signalOf (map blockOf gs)), both-pins (length (map blockOf gs)) gs)
 
   -- the form of each can have its pins
-  pub built-formed : (gs : List Def) → AllFormed (builtGates look gs)
-  built-formed gs = every-append (mains-formed (length (map blockOf gs)) gs) (extras-formed gs)
+  pub built-formed : (gs : List Def) → AllFormed (builtGates signalOf gs)
+  built-formed gs = every-append (blockGates-formed (length (map blockOf gs)) gs) (newGates-formed gs)

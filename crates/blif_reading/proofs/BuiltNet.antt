@@ -27,7 +27,7 @@ use Rattle.network.specs.declared.Counts.{Counts}
 use Rattle.network.proofs.Lent.{valid-small}
 use Rattle.sort_order.specs.Sortable.{Sortable}
 use Rattle.blif_text.specs.Decls.{Decl, ins, outs, defs}
-use Rattle.blif_reading.specs.Read.{gateCount, pinCount, declFault, look, builtFrom}
+use Rattle.blif_reading.specs.Read.{gateCount, pinCount, declFault, signalOf, builtFrom}
 use Rattle.blif_reading.specs.Working.{GateIn, GatesIn, builtGates}
 use Rattle.blif_reading.proofs.SizeLimits.{Sized, sizes-within}
 use Rattle.blif_reading.proofs.BuiltCounts.{built-gates, built-pins, built-formed}
@@ -35,13 +35,13 @@ use Rattle.blif_reading.proofs.Passed.{passed, passed-valid}
 
 -- the gates as built, with runs among the first `used` pins, and the outputs stand in the cells, of which these counts are in use
 pub record BuiltIn (ds : List Decl) (c : Counts) (gates pinsIn outsIn : List ℕ) (used : ℕ) : Type 0 where
-  pub held : GatesIn gates pinsIn used (builtGates (look ds) (defs ds))
+  pub held : GatesIn gates pinsIn used (builtGates (signalOf ds) (defs ds))
   pub pinsRoom : used ≤ length pinsIn
   pub gatesRoom : c .gates * gateWidth ≤ length gates
   pub inputsCounted : c .inputs ≡ length (ins ds)
-  pub gatesCounted : c .gates ≡ length (builtGates (look ds) (defs ds))
+  pub gatesCounted : c .gates ≡ length (builtGates (signalOf ds) (defs ds))
   pub outputsCounted : c .outputs ≡ length (outs ds)
-  pub outsHeld : take (c .outputs) outsIn ≡ map (λ x. sigCell (look ds x)) (outs ds)
+  pub outsHeld : take (c .outputs) outsIn ≡ map (λ x. sigCell (signalOf ds x)) (outs ds)
 
 -- ---- one gate
 
@@ -57,14 +57,14 @@ gate-held gates pinsIn used h x c r u f s =
 -- ---- all of them
 
 -- the gates in the cells are those of the network
-pub gates-are : (ds : List Decl) → builtGates (look ds) (defs ds) ≡ builtFrom ds .gates
+pub gates-are : (ds : List Decl) → builtGates (signalOf ds) (defs ds) ≡ builtFrom ds .gates
 unfolding builtFrom
 gates-are ds = refl
 
 module _ {ds : List Decl} {c : Counts} {gates pinsIn outsIn : List ℕ} {used : ℕ} (fault : declFault ds ≡ Fine) (b : BuiltIn ds c gates pinsIn outsIn used) where
   -- the gates in the cells
   abbrev built : List Gate
-  built = builtGates (look ds) (defs ds)
+  built = builtGates (signalOf ds) (defs ds)
 
   sizes : Sized ds
   sizes = sizes-within ds (passed ds fault .within)
@@ -73,7 +73,7 @@ module _ {ds : List Decl} {c : Counts} {gates pinsIn outsIn : List ℕ} {used : 
   valid = passed-valid ds (passed ds fault)
 
   few-gates : length built ≤ maxGates
-  few-gates = omega (arith, built-gates (look ds) (defs ds), sizes .gates)
+  few-gates = omega (arith, built-gates (signalOf ds) (defs ds), sizes .gates)
 
   node-small : (n : Node) → ValidNode (builtFrom ds) n → Small n
   unfolding builtFrom
@@ -85,7 +85,7 @@ module _ {ds : List Decl} {c : Counts} {gates pinsIn outsIn : List ℕ} {used : 
       gate-held gates pinsIn used h x (b .held h x e)
       (omega (arith, place-lt built h x e, b .gatesCounted, b .gatesRoom))
       (b .pinsRoom)
-      (every-place (built-formed (look ds) (defs ds)) h x e)
+      (every-place (built-formed (signalOf ds) (defs ds)) h x e)
       (λ s m. node-small (s .node) (valid .pinsValid h x s (ap (λ (l : List Gate). getElem? l h) (sym (gates-are ds)) ∙ e) m))
 
   gates-back : map (λ (g : ℕ). orBuf (gateAt gates pinsIn g)) (range 0 (c .gates)) ≡ built
@@ -98,11 +98,11 @@ module _ {ds : List Decl} {c : Counts} {gates pinsIn outsIn : List ℕ} {used : 
       let z : 0 + i ≡ i = omega arith in
       map-range held 0 (c .gates) i (omega (arith, place-lt built i x e, b .gatesCounted)) ∙ ap (λ (g : ℕ). some (held g)) z ∙ ap (λ o. some (orBuf o)) (gate-back i x e)))
 
-  outs-back : map sigOf (take (c .outputs) outsIn) ≡ map (look ds) (outs ds)
+  outs-back : map sigOf (take (c .outputs) outsIn) ≡ map (signalOf ds) (outs ds)
   unfolding builtFrom
   outs-back =
-      ap (map sigOf) (b .outsHeld ∙ sym (map-map sigCell (look ds) (outs ds)))
-      ∙ signals-again (map (look ds) (outs ds)) (λ s m. node-small (s .node) (valid .outsValid s m))
+      ap (map sigOf) (b .outsHeld ∙ sym (map-map sigCell (signalOf ds) (outs ds)))
+      ∙ signals-again (map (signalOf ds) (outs ds)) (λ s m. node-small (s .node) (valid .outsValid s m))
 
   -- the cells hold the network as built
   pub built-net : netOf (lent c gates pinsIn outsIn) ≡ builtFrom ds
@@ -111,7 +111,7 @@ module _ {ds : List Decl} {c : Counts} {gates pinsIn outsIn : List ℕ} {used : 
 
   built-laid : length (pinCells (netOf (lent c gates pinsIn outsIn) .gates)) ≤ maxPins
   unfolding netOf
-  built-laid = omega (arith, ap (λ (l : List Gate). length (pinCells l)) gates-back, built-pins (look ds) (defs ds), sizes .pins)
+  built-laid = omega (arith, ap (λ (l : List Gate). length (pinCells l)) gates-back, built-pins (signalOf ds) (defs ds), sizes .pins)
 
   -- which can be sorted into cells enough for any network
   pub built-sortable : {newGates newPins : ℕ} → maxGates * gateWidth ≤ newGates → maxPins ≤ newPins → Sortable (lent c gates pinsIn outsIn) newGates newPins
@@ -120,7 +120,7 @@ module _ {ds : List Decl} {c : Counts} {gates pinsIn outsIn : List ℕ} {used : 
         few = omega (arith, few-gates, b .gatesCounted);
         readable = λ h l. let t = lt-place built h (omega (arith, l, b .gatesCounted)) in (t .0, gate-back h (t .0) (t .1));
         valid = subst Valid (sym built-net) valid;
-        outputs = omega (arith, length-take (c .outputs) outsIn, ap length (b .outsHeld), length-map (outs ds) (λ x. sigCell (look ds x)), b .outputsCounted);
+        outputs = omega (arith, length-take (c .outputs) outsIn, ap length (b .outsHeld), length-map (outs ds) (λ x. sigCell (signalOf ds x)), b .outputsCounted);
         fewPins = built-laid;
         room = omega (arith, few-gates, b .gatesCounted, g);
         pinRoom = omega (arith, built-laid, p);

@@ -7,26 +7,26 @@ use Prim.Native.Nat.{ℕ, zero, suc, _+_}
 use native.Mathlib.Omega.{arith}
 use native.Mathlib.Nat.{zero-add, add-zero}
 use lib.ListN.{length, getElem?}
-use Rattle.signal.specs.Signal.{Node, Const, Input, Gated, Signal, oneS, zeroS}
+use Rattle.signal.specs.Signal.{Node, Const, Input, Var, Signal, oneS, zeroS}
 use Rattle.gates.specs.Gate.{Gate}
 use Rattle.network.specs.Net.{GateIs}
 use Rattle.network.specs.Clock.{Clock, sigBit}
 use Rattle.blif_meaning.specs.Model.{Line, Feed, Block, Latch, Cover, Model, target, optBit, blockBit, coverBit, BlifClock}
-use Rattle.blif_reading.specs.Build.{optSig, lineGate, lineGates, blockGate, moreGates, mains, extras, build}
+use Rattle.blif_reading.specs.Build.{optSig, lineGate, lineGates, blockGate, newGates, blockGates, allNewGates, build}
 use Rattle.blif_meaning.specs.WellFormed.{Closed, GoodBlock}
 use Rattle.blif_reading.proofs.Lookups.{Looks}
 use Rattle.lists.proofs.Places.{place-mem, mem-place, place-left, place-right, map-map}
 use Rattle.blif_reading.proofs.Covers.{lineBit, linesBits, line-bit, cover-bit}
 use Rattle.blif_reading.proofs.Along.{Seg}
-use Rattle.blif_reading.proofs.ModelToBuilt.{mains-length, Holds}
+use Rattle.blif_reading.proofs.ModelToBuilt.{blockGates-length, Holds}
 use Rattle.network.proofs.Runs.{Simulates}
 
 -- block j's gate stands at j, and the gates of its lines from k + d on
-module _ {Name : Type 0} (look : Name → Signal) where
+module _ {Name : Type 0} (signalOf : Name → Signal) where
   pub record Placed (k : ℕ) (bs : List (Block Name)) (j : ℕ) (b : Block Name) : Type 0 where
     pub d : ℕ
-    pub main : getElem? (mains look k bs) j ≡ some (blockGate look (k + d) b)
-    pub lines : (i : ℕ) (x : Gate) → getElem? (moreGates look b) i ≡ some x → getElem? (extras look bs) (d + i) ≡ some x
+    pub main : getElem? (blockGates signalOf k bs) j ≡ some (blockGate signalOf (k + d) b)
+    pub lines : (i : ℕ) (x : Gate) → getElem? (newGates signalOf b) i ≡ some x → getElem? (allNewGates signalOf bs) (d + i) ≡ some x
 
   pub placed : (k : ℕ) (bs : List (Block Name)) (j : ℕ) (b : Block Name) → getElem? bs j ≡ some b → Placed k bs j b
   placed k [] j b e = absurd (let z : _≡_ {A = ℕ} 0 1 = cc in omega arith)
@@ -34,88 +34,88 @@ module _ {Name : Type 0} (look : Name → Signal) where
       let q : a ≡ b = cc in
       record {
         d = 0;
-        main = ap some (ap₂ (blockGate look) (sym (add-zero k)) q);
-        lines = λ i x w. ap (getElem? (moreGates look a ++ extras look bs)) (zero-add i) ∙ place-left (moreGates look a) (extras look bs) i x (ap (λ (y : Block Name). getElem? (moreGates look y) i) q ∙ w);
+        main = ap some (ap₂ (blockGate signalOf) (sym (add-zero k)) q);
+        lines = λ i x w. ap (getElem? (newGates signalOf a ++ allNewGates signalOf bs)) (zero-add i) ∙ place-left (newGates signalOf a) (allNewGates signalOf bs) i x (ap (λ (y : Block Name). getElem? (newGates signalOf y) i) q ∙ w);
       }
   placed k (a ∷ bs) (suc j) b e =
-      let p : Placed (k + length (moreGates look a)) bs j b = placed (k + length (moreGates look a)) bs j b e in
+      let p : Placed (k + length (newGates signalOf a)) bs j b = placed (k + length (newGates signalOf a)) bs j b e in
       record {
-        d = length (moreGates look a) + p .d;
-        main = p .main ∙ ap (λ (n : ℕ). some (blockGate look n b)) (omega arith);
-        lines = λ i x w. ap (getElem? (moreGates look a ++ extras look bs)) (omega arith) ∙ place-right (moreGates look a) (extras look bs) (p .d + i) ∙ p .lines i x w;
+        d = length (newGates signalOf a) + p .d;
+        main = p .main ∙ ap (λ (n : ℕ). some (blockGate signalOf n b)) (omega arith);
+        lines = λ i x w. ap (getElem? (newGates signalOf a ++ allNewGates signalOf bs)) (omega arith) ∙ place-right (newGates signalOf a) (allNewGates signalOf bs) (p .d + i) ∙ p .lines i x w;
       }
 
-module _ {Name : Type 0} (m : Model Name) (look : Name → Signal) where
+module _ {Name : Type 0} (m : Model Name) (signalOf : Name → Signal) where
   abbrev PlacedIn : ℕ → Block Name → Type 0
-  PlacedIn j b = Placed look (length (m .blocks)) (m .blocks) j b
+  PlacedIn j b = Placed signalOf (length (m .blocks)) (m .blocks) j b
 
   pub at-place : (j : ℕ) (b : Block Name) → getElem? (m .blocks) j ≡ some b → PlacedIn j b
-  at-place j b e = placed look (length (m .blocks)) (m .blocks) j b e
+  at-place j b e = placed signalOf (length (m .blocks)) (m .blocks) j b e
 
-  pub main-is : (j : ℕ) (b : Block Name) (p : PlacedIn j b) → GateIs (build look m) j (blockGate look (length (m .blocks) + p .d) b)
-  main-is j b p = place-left (mains look (length (m .blocks)) (m .blocks)) (extras look (m .blocks)) j (blockGate look (length (m .blocks) + p .d) b) (p .main)
+  pub main-is : (j : ℕ) (b : Block Name) (p : PlacedIn j b) → GateIs (build signalOf m) j (blockGate signalOf (length (m .blocks) + p .d) b)
+  main-is j b p = place-left (blockGates signalOf (length (m .blocks)) (m .blocks)) (allNewGates signalOf (m .blocks)) j (blockGate signalOf (length (m .blocks) + p .d) b) (p .main)
 
-  pub line-is : (j : ℕ) (b : Block Name) (p : PlacedIn j b) (i : ℕ) (x : Gate) → getElem? (moreGates look b) i ≡ some x → GateIs (build look m) (length (m .blocks) + p .d + i) x
+  pub line-is : (j : ℕ) (b : Block Name) (p : PlacedIn j b) (i : ℕ) (x : Gate) → getElem? (newGates signalOf b) i ≡ some x → GateIs (build signalOf m) (length (m .blocks) + p .d + i) x
   line-is j b p i x w =
-      let ms : List Gate = mains look (length (m .blocks)) (m .blocks) in
-      ap (getElem? (ms ++ extras look (m .blocks))) (let e : length ms ≡ length (m .blocks) = mains-length look (length (m .blocks)) (m .blocks) in omega arith)
-      ∙ place-right ms (extras look (m .blocks)) (p .d + i) ∙ p .lines i x w
+      let ms : List Gate = blockGates signalOf (length (m .blocks)) (m .blocks) in
+      ap (getElem? (ms ++ allNewGates signalOf (m .blocks))) (let e : length ms ≡ length (m .blocks) = blockGates-length signalOf (length (m .blocks)) (m .blocks) in omega arith)
+      ∙ place-right ms (allNewGates signalOf (m .blocks)) (p .d + i) ∙ p .lines i x w
 
-module _ {Name : Type 0} (m : Model Name) (look : Name → Signal) (ok : Looks m look) (closed : Closed m)
+module _ {Name : Type 0} (m : Model Name) (signalOf : Name → Signal) (ok : Looks m signalOf) (closed : Closed m)
     (good : (b : Block Name) → List·Memᴰ b (m .blocks) → GoodBlock b) where
   abbrev gateOr : (ℕ → Bool) → Node → Bool
   gateOr f Const = false
   gateOr f (Input i) = false
-  gateOr f (Gated g) = f g
+  gateOr f (Var g) = f g
 
   -- a flip-flop built for a latch and the latch hold the same
   abbrev pub HoldsBack : (ℕ → Bool) → (Name → Bool) → Type 0
-  HoldsBack heldN heldB = Holds m look ok closed good heldB heldN
+  HoldsBack heldN heldB = Holds m signalOf ok closed good heldB heldN
 
-  module _ (heldN nextN : ℕ → Bool) (heldB : Name → Bool) (row out : List Bool) (h : HoldsBack heldN heldB) (c : Clock (build look m) heldN row out nextN) where
+  module _ (heldN nextN : ℕ → Bool) (heldB : Name → Bool) (row out : List Bool) (h : HoldsBack heldN heldB) (c : Clock (build signalOf m) heldN row out nextN) where
     abbrev σ : Signal → Bool
     σ = sigBit row (c .bits)
 
     abbrev env : Name → Bool
-    env x = σ (look x)
+    env x = σ (signalOf x)
 
     abbrev ms : List Gate
-    ms = mains look (length (m .blocks)) (m .blocks)
+    ms = blockGates signalOf (length (m .blocks)) (m .blocks)
 
-    env-map : (xs : List Name) → map σ (map look xs) ≡ map env xs
-    env-map xs = map-map σ look xs
+    env-map : (xs : List Name) → map σ (map signalOf xs) ≡ map env xs
+    env-map xs = map-map σ signalOf xs
 
-    lines-seg : (k : ℕ) (ss : List Signal) (ls : List Line) → ((i : ℕ) (x : Gate) → getElem? (map (lineGate ss) ls) i ≡ some x → GateIs (build look m) (k + i) x) → Seg (c .bits) k (map (lineBit (map σ ss)) ls)
+    lines-seg : (k : ℕ) (ss : List Signal) (ls : List Line) → ((i : ℕ) (x : Gate) → getElem? (map (lineGate ss) ls) i ≡ some x → GateIs (build signalOf m) (k + i) x) → Seg (c .bits) k (map (lineBit (map σ ss)) ls)
     lines-seg k ss [] p = tt
     lines-seg k ss (l ∷ ls) p = (
-      c .fits k (lineGate ss l) (ap (getElem? (build look m .gates)) (sym (add-zero k)) ∙ p 0 (lineGate ss l) refl) ∙ line-bit row (c .bits) (heldN k) ss l,
-      lines-seg (suc k) ss ls (λ i x w. ap (getElem? (build look m .gates)) (omega arith) ∙ p (suc i) x w),
+      c .fits k (lineGate ss l) (ap (getElem? (build signalOf m .gates)) (sym (add-zero k)) ∙ p 0 (lineGate ss l) refl) ∙ line-bit row (c .bits) (heldN k) ss l,
+      lines-seg (suc k) ss ls (λ i x w. ap (getElem? (build signalOf m .gates)) (omega arith) ∙ p (suc i) x w),
     )
 
-    cover-seg : (k : ℕ) (ss : List Signal) (ls : List Line) → ((i : ℕ) (x : Gate) → getElem? (lineGates ss ls) i ≡ some x → GateIs (build look m) (k + i) x) → Seg (c .bits) k (linesBits (map σ ss) ls)
+    cover-seg : (k : ℕ) (ss : List Signal) (ls : List Line) → ((i : ℕ) (x : Gate) → getElem? (lineGates ss ls) i ≡ some x → GateIs (build signalOf m) (k + i) x) → Seg (c .bits) k (linesBits (map σ ss) ls)
     cover-seg k ss [] p = tt
     cover-seg k ss (l ∷ []) p = tt
     cover-seg k ss (l ∷ n ∷ ls) p = lines-seg k ss (l ∷ n ∷ ls) p
 
     block-back : (j : ℕ) (b : Block Name) → getElem? (m .blocks) j ≡ some b → env (target b) ≡ blockBit env (heldB (target b)) b
     block-back j (Latch d q) e =
-        let p : Placed look (length (m .blocks)) (m .blocks) j (Latch d q) = at-place m look j (Latch d q) e in
-        ap σ (ok .blockAt j (Latch d q) e) ∙ c .fits j (blockGate look (length (m .blocks) + p .d) (Latch d q)) (main-is m look j (Latch d q) p) ∙ h j d q e
+        let p : Placed signalOf (length (m .blocks)) (m .blocks) j (Latch d q) = at-place m signalOf j (Latch d q) e in
+        ap σ (ok .blockAt j (Latch d q) e) ∙ c .fits j (blockGate signalOf (length (m .blocks) + p .d) (Latch d q)) (main-is m signalOf j (Latch d q) p) ∙ h j d q e
     block-back j (Cover xs y ls) e =
         let b : Block Name = Cover xs y ls in
-        let p : Placed look (length (m .blocks)) (m .blocks) j b = at-place m look j b e in
+        let p : Placed signalOf (length (m .blocks)) (m .blocks) j b = at-place m signalOf j b e in
         let k : ℕ = length (m .blocks) + p .d in
         let g : GoodBlock b = good b (place-mem (m .blocks) j b e) in
-        ap σ (ok .blockAt j b e) ∙ c .fits j (blockGate look k b) (main-is m look j b p)
-        ∙ cover-bit row (c .bits) (heldN j) k (map look xs) ls (length xs) (g .0) (g .1) (cover-seg k (map look xs) ls (line-is m look j b p)) ∙ ap (coverBit ls) (env-map xs)
+        ap σ (ok .blockAt j b e) ∙ c .fits j (blockGate signalOf k b) (main-is m signalOf j b p)
+        ∙ cover-bit row (c .bits) (heldN j) k (map signalOf xs) ls (length xs) (g .0) (g .1) (cover-seg k (map signalOf xs) ls (line-is m signalOf j b p)) ∙ ap (coverBit ls) (env-map xs)
 
-    opt-same : (o : Option Name) (s : Signal) (v : Bool) → σ s ≡ v → σ (optSig look s o) ≡ optBit env v o
+    opt-same : (o : Option Name) (s : Signal) (v : Bool) → σ s ≡ v → σ (optSig signalOf s o) ≡ optBit env v o
     opt-same none s v e = e
     opt-same (some x) s v e = refl
 
     back-clock : (t : Name → Bool) × BlifClock m heldB row out t × HoldsBack nextN t
     back-clock =
-        let next : Name → Bool = λ y. gateOr nextN (look y .node) in
+        let next : Name → Bool = λ y. gateOr nextN (signalOf y .node) in
         let at : (j : ℕ) (d : Feed Name) (q : Name) → getElem? (m .blocks) j ≡ some (Latch d q) → next q ≡ nextN j = λ j d q e. ap (λ (s : Signal). gateOr nextN (s .node)) (ok .blockAt j (Latch d q) e) in (
           next,
           record {
@@ -124,12 +124,12 @@ module _ {Name : Type 0} (m : Model Name) (look : Name → Signal) (ok : Looks m
             answers = c .answers ∙ env-map (m .outputs);
             steps = λ d q w.
                 let t = mem-place (m .blocks) (Latch d q) w in
-                let p : Placed look (length (m .blocks)) (m .blocks) (t .0) (Latch d q) = at-place m look (t .0) (Latch d q) (t .1) in
-                at (t .0) d q (t .1) ∙ c .steps (t .0) (blockGate look (length (m .blocks) + p .d) (Latch d q)) (main-is m look (t .0) (Latch d q) p)
+                let p : Placed signalOf (length (m .blocks)) (m .blocks) (t .0) (Latch d q) = at-place m signalOf (t .0) (Latch d q) (t .1) in
+                at (t .0) d q (t .1) ∙ c .steps (t .0) (blockGate signalOf (length (m .blocks) + p .d) (Latch d q)) (main-is m signalOf (t .0) (Latch d q) p)
                 ∙ (λ i. cond (opt-same (d .reset) zeroS false refl i) false (cond (opt-same (d .enable) oneS true refl i) (env (d .input)) (h (t .0) d q (t .1) i)));
           },
           λ j d q e. sym (at j d q e),
         )
 
-  pub read-back-simulates : Simulates HoldsBack (Clock (build look m)) (BlifClock m)
+  pub read-back-simulates : Simulates HoldsBack (Clock (build signalOf m)) (BlifClock m)
   read-back-simulates heldN nextN heldB row out h c = back-clock heldN nextN heldB row out h c

@@ -8,24 +8,24 @@ use Rattle.lists.specs.Lists.{Dup, find}
 use Rattle.lists.proofs.Places.{place-mem, map-place}
 use Rattle.lists.proofs.Find.{find-at, find-out}
 use Rattle.lists.proofs.Once.{dup-left, dup-right, dup-both}
-use Rattle.signal.specs.Signal.{Input, Gated, Signal, plain}
+use Rattle.signal.specs.Signal.{Input, Var, Signal, plain}
 use Rattle.blif_meaning.specs.Model.{Block, Model, target}
-use Rattle.blif_reading.specs.Lookup.{signalOf, lookup}
+use Rattle.blif_reading.specs.Lookup.{placeSignal, lookup}
 use Rattle.blif_meaning.specs.WellFormed.{defined}
 
 module _ {Name : Type 0} where
-  -- `look` gives each defined name its signal: what the search finds where no name is defined twice (refusal 10)
-  pub record Looks (m : Model Name) (look : Name → Signal) : Type 0 where
-    pub inputAt : (i : ℕ) (x : Name) → getElem? (m .inputs) i ≡ some x → look x ≡ plain (Input i)
-    pub blockAt : (j : ℕ) (b : Block Name) → getElem? (m .blocks) j ≡ some b → look (target b) ≡ plain (Gated j)
+  -- `signalOf` gives each defined name its signal: what the search finds where no name is defined twice (refusal 10)
+  pub record Looks (m : Model Name) (signalOf : Name → Signal) : Type 0 where
+    pub inputAt : (i : ℕ) (x : Name) → getElem? (m .inputs) i ≡ some x → signalOf x ≡ plain (Input i)
+    pub blockAt : (j : ℕ) (b : Block Name) → getElem? (m .blocks) j ≡ some b → signalOf (target b) ≡ plain (Var j)
 
 module _ {Name : Type 0} (dec : (x y : Name) → Dec (x ≡ y)) where
   module _ (m : Model Name) (once : Dup (defined m) → ⊥) where
     -- no name is defined twice: the search gives each its signal
     pub looks : Looks m (lookup dec m)
     looks = record {
-      inputAt = λ i x e. ap (λ (r : Option ℕ). signalOf r (find dec (map target (m .blocks)) x)) (find-at dec (m .inputs) x i (λ d. once (dup-left (m .inputs) (map target (m .blocks)) d)) e);
+      inputAt = λ i x e. ap (λ (r : Option ℕ). placeSignal r (find dec (map target (m .blocks)) x)) (find-at dec (m .inputs) x i (λ d. once (dup-left (m .inputs) (map target (m .blocks)) d)) e);
       blockAt = λ j b e.
           let w : getElem? (map target (m .blocks)) j ≡ some (target b) = map-place target (m .blocks) j b e in
-          ap₂ (λ (r q : Option ℕ). signalOf r q) (find-out dec (m .inputs) (target b) (λ v. once (dup-both (m .inputs) (map target (m .blocks)) (target b) v (place-mem (map target (m .blocks)) j (target b) w)))) (find-at dec (map target (m .blocks)) (target b) j (λ d. once (dup-right (m .inputs) (map target (m .blocks)) d)) w);
+          ap₂ (λ (r q : Option ℕ). placeSignal r q) (find-out dec (m .inputs) (target b) (λ v. once (dup-both (m .inputs) (map target (m .blocks)) (target b) v (place-mem (map target (m .blocks)) j (target b) w)))) (find-at dec (map target (m .blocks)) (target b) j (λ d. once (dup-right (m .inputs) (map target (m .blocks)) d)) w);
     }

@@ -16,7 +16,7 @@ use Rattle.gates.specs.Gate.{Gate}
 use Rattle.network.specs.Net.{Net}
 use Rattle.network.specs.Clock.{Fits, Clock, sigBit, gateBit}
 use Rattle.blif_meaning.specs.Model.{Line, Feed, Block, Latch, Cover, Model, target, optBit, blockBit, coverBit, BlifClock}
-use Rattle.blif_reading.specs.Build.{lineGate, optSig, blockGate, moreGates, mains, extras, build}
+use Rattle.blif_reading.specs.Build.{lineGate, optSig, blockGate, newGates, blockGates, allNewGates, build}
 use Rattle.blif_meaning.specs.WellFormed.{optName, sources, Defined, Closed, GoodBlock}
 use Rattle.blif_reading.proofs.Lookups.{Looks}
 use Rattle.lists.proofs.Places.{place-mem, place-left, map-on, map-map, map-place}
@@ -49,7 +49,7 @@ module _ (σ : Signal → Bool) (held : ℕ → Bool) where
   match-at k (y ∷ xs) (b ∷ bs) m zero x e = m .0 ∙ cc (add-zero k)
   match-at k (y ∷ xs) (b ∷ bs) m (suc g) x e = match-at (suc k) xs bs (m .1) g x e ∙ ap (λ (j : ℕ). gateBit σ (held j) x) (omega arith)
 
-module _ {Name : Type 0} (look : Name → Signal) (row : List Bool) (env : Name → Bool) (held : ℕ → Bool) where
+module _ {Name : Type 0} (signalOf : Name → Signal) (row : List Bool) (env : Name → Bool) (held : ℕ → Bool) where
   -- the bits of the gates of a block's lines
   abbrev blockBits : Block Name → List Bool
   blockBits (Latch d q) = []
@@ -62,65 +62,65 @@ module _ {Name : Type 0} (look : Name → Signal) (row : List Bool) (env : Name 
   abbrev mainBits : List (Block Name) → List Bool
   mainBits bs = map (λ (b : Block Name). env (target b)) bs
 
-  block-length : (b : Block Name) → length (blockBits b) ≡ length (moreGates look b)
+  block-length : (b : Block Name) → length (blockBits b) ≡ length (newGates signalOf b)
   block-length (Latch d q) = refl
   block-length (Cover xs y []) = refl
   block-length (Cover xs y (l ∷ [])) = refl
-  block-length (Cover xs y (l ∷ m ∷ ls)) = length-map (l ∷ m ∷ ls) (lineBit (map env xs)) ∙ sym (length-map (l ∷ m ∷ ls) (lineGate (map look xs)))
+  block-length (Cover xs y (l ∷ m ∷ ls)) = length-map (l ∷ m ∷ ls) (lineBit (map env xs)) ∙ sym (length-map (l ∷ m ∷ ls) (lineGate (map signalOf xs)))
 
   module _ (β : ℕ → Bool) where
     -- what is known of block j: its sources' signals have the names' values, its lines are good, and it has its value
     record Okay (j : ℕ) (b : Block Name) : Type 0 where
-      known : (x : Name) → List·Memᴰ x (sources b) → sigBit row β (look x) ≡ env x
+      known : (x : Name) → List·Memᴰ x (sources b) → sigBit row β (signalOf x) ≡ env x
       good : GoodBlock b
       fit : env (target b) ≡ blockBit env (held j) b
 
-    known-map : (xs : List Name) → ((x : Name) → List·Memᴰ x xs → sigBit row β (look x) ≡ env x) → map (sigBit row β) (map look xs) ≡ map env xs
-    known-map xs h = map-map (sigBit row β) look xs ∙ map-on (λ (x : Name). sigBit row β (look x)) env xs h
+    known-map : (xs : List Name) → ((x : Name) → List·Memᴰ x xs → sigBit row β (signalOf x) ≡ env x) → map (sigBit row β) (map signalOf xs) ≡ map env xs
+    known-map xs h = map-map (sigBit row β) signalOf xs ∙ map-on (λ (x : Name). sigBit row β (signalOf x)) env xs h
 
-    block-fit : (k j : ℕ) (b : Block Name) → Okay j b → Seg β k (blockBits b) → env (target b) ≡ gateBit (sigBit row β) (held j) (blockGate look k b)
+    block-fit : (k j : ℕ) (b : Block Name) → Okay j b → Seg β k (blockBits b) → env (target b) ≡ gateBit (sigBit row β) (held j) (blockGate signalOf k b)
     block-fit k j (Latch d q) o s = o .fit
     block-fit k j (Cover xs y ls) o s =
-        let e : map (sigBit row β) (map look xs) ≡ map env xs = known-map xs (o .known) in
+        let e : map (sigBit row β) (map signalOf xs) ≡ map env xs = known-map xs (o .known) in
         o .fit ∙ ap (coverBit ls) (sym e)
-        ∙ sym (cover-bit row β (held j) k (map look xs) ls (length xs) (o .good .0) (o .good .1) (subst (λ (v : List Bool). Seg β k (linesBits v ls)) (sym e) s))
+        ∙ sym (cover-bit row β (held j) k (map signalOf xs) ls (length xs) (o .good .0) (o .good .1) (subst (λ (v : List Bool). Seg β k (linesBits v ls)) (sym e) s))
 
-    mains-match : (k j : ℕ) (bs : List (Block Name)) → Each Okay j bs → Seg β k (extraBits bs)
-        → Match (sigBit row β) held j (mains look k bs) (mainBits bs)
-    mains-match k j [] o s = tt
-    mains-match k j (b ∷ bs) o s =
+    blockGates-match : (k j : ℕ) (bs : List (Block Name)) → Each Okay j bs → Seg β k (extraBits bs)
+        → Match (sigBit row β) held j (blockGates signalOf k bs) (mainBits bs)
+    blockGates-match k j [] o s = tt
+    blockGates-match k j (b ∷ bs) o s =
         let r : Seg β k (blockBits b) × Seg β (k + length (blockBits b)) (extraBits bs) = seg-append β k (blockBits b) (extraBits bs) s in
-        (block-fit k j b (o .0) (r .0), mains-match (k + length (moreGates look b)) (suc j) bs (o .1) (subst (λ (n : ℕ). Seg β (k + n) (extraBits bs)) (block-length b) (r .1)))
+        (block-fit k j b (o .0) (r .0), blockGates-match (k + length (newGates signalOf b)) (suc j) bs (o .1) (subst (λ (n : ℕ). Seg β (k + n) (extraBits bs)) (block-length b) (r .1)))
 
     lines-match : (j : ℕ) (ss : List Signal) (ls : List Line) → Match (sigBit row β) held j (map (lineGate ss) ls) (map (lineBit (map (sigBit row β) ss)) ls)
     lines-match j ss [] = tt
     lines-match j ss (l ∷ ls) = (sym (line-bit row β (held j) ss l), lines-match (suc j) ss ls)
 
-    more-match : (j i : ℕ) (b : Block Name) → Okay i b → Match (sigBit row β) held j (moreGates look b) (blockBits b)
+    more-match : (j i : ℕ) (b : Block Name) → Okay i b → Match (sigBit row β) held j (newGates signalOf b) (blockBits b)
     more-match j i (Latch d q) o = tt
     more-match j i (Cover xs y []) o = tt
     more-match j i (Cover xs y (l ∷ [])) o = tt
     more-match j i (Cover xs y (l ∷ m ∷ ls)) o =
-        subst (λ (v : List Bool). Match (sigBit row β) held j (map (lineGate (map look xs)) (l ∷ m ∷ ls)) (map (lineBit v) (l ∷ m ∷ ls)))
-        (known-map xs (o .known)) (lines-match j (map look xs) (l ∷ m ∷ ls))
+        subst (λ (v : List Bool). Match (sigBit row β) held j (map (lineGate (map signalOf xs)) (l ∷ m ∷ ls)) (map (lineBit v) (l ∷ m ∷ ls)))
+        (known-map xs (o .known)) (lines-match j (map signalOf xs) (l ∷ m ∷ ls))
 
-    extras-match : (j i : ℕ) (bs : List (Block Name)) → Each Okay i bs → Match (sigBit row β) held j (extras look bs) (extraBits bs)
-    extras-match j i [] o = tt
-    extras-match j i (b ∷ bs) o =
-        match-append (sigBit row β) held j (moreGates look b) (blockBits b) (extras look bs) (extraBits bs)
-        (more-match j i b (o .0)) (extras-match (j + length (moreGates look b)) (suc i) bs (o .1))
+    newGates-match : (j i : ℕ) (bs : List (Block Name)) → Each Okay i bs → Match (sigBit row β) held j (allNewGates signalOf bs) (extraBits bs)
+    newGates-match j i [] o = tt
+    newGates-match j i (b ∷ bs) o =
+        match-append (sigBit row β) held j (newGates signalOf b) (blockBits b) (allNewGates signalOf bs) (extraBits bs)
+        (more-match j i b (o .0)) (newGates-match (j + length (newGates signalOf b)) (suc i) bs (o .1))
 
-pub mains-length : {Name : Type 0} (look : Name → Signal) (k : ℕ) (bs : List (Block Name)) → length (mains look k bs) ≡ length bs
-mains-length look k [] = refl
-mains-length look k (b ∷ bs) = ap suc (mains-length look (k + length (moreGates look b)) bs)
+pub blockGates-length : {Name : Type 0} (signalOf : Name → Signal) (k : ℕ) (bs : List (Block Name)) → length (blockGates signalOf k bs) ≡ length bs
+blockGates-length signalOf k [] = refl
+blockGates-length signalOf k (b ∷ bs) = ap suc (blockGates-length signalOf (k + length (newGates signalOf b)) bs)
 
-mains-place : {Name : Type 0} (look : Name → Signal) (k : ℕ) (bs : List (Block Name)) (j : ℕ) (b : Block Name) → getElem? bs j ≡ some b
-    → (c : ℕ) × (getElem? (mains look k bs) j ≡ some (blockGate look c b))
-mains-place look k [] j b e = absurd (let z : _≡_ {A = ℕ} 0 1 = cc in omega arith)
-mains-place look k (a ∷ bs) zero b e = (k, let q : a ≡ b = cc in ap (λ (y : Block _). some (blockGate look k y)) q)
-mains-place look k (a ∷ bs) (suc j) b e = mains-place look (k + length (moreGates look a)) bs j b e
+blockGates-place : {Name : Type 0} (signalOf : Name → Signal) (k : ℕ) (bs : List (Block Name)) (j : ℕ) (b : Block Name) → getElem? bs j ≡ some b
+    → (c : ℕ) × (getElem? (blockGates signalOf k bs) j ≡ some (blockGate signalOf c b))
+blockGates-place signalOf k [] j b e = absurd (let z : _≡_ {A = ℕ} 0 1 = cc in omega arith)
+blockGates-place signalOf k (a ∷ bs) zero b e = (k, let q : a ≡ b = cc in ap (λ (y : Block _). some (blockGate signalOf k y)) q)
+blockGates-place signalOf k (a ∷ bs) (suc j) b e = blockGates-place signalOf (k + length (newGates signalOf a)) bs j b e
 
-module _ {Name : Type 0} (m : Model Name) (look : Name → Signal) (ok : Looks m look) (closed : Closed m)
+module _ {Name : Type 0} (m : Model Name) (signalOf : Name → Signal) (ok : Looks m signalOf) (closed : Closed m)
     (good : (b : Block Name) → List·Memᴰ b (m .blocks) → GoodBlock b) where
   -- the flip-flop built for a latch holds what the latch holds
   abbrev pub Holds : (Name → Bool) → (ℕ → Bool) → Type 0
@@ -136,16 +136,16 @@ module _ {Name : Type 0} (m : Model Name) (look : Name → Signal) (ok : Looks m
     env = c .env
 
     abbrev main : List Bool
-    main = mainBits look row env heldN (m .blocks)
+    main = mainBits signalOf row env heldN (m .blocks)
 
     abbrev extra : List Bool
-    extra = extraBits look row env heldN (m .blocks)
+    extra = extraBits signalOf row env heldN (m .blocks)
 
     abbrev β : ℕ → Bool
     β g = getD (main ++ extra) g false
 
     abbrev net : Net
-    net = build look m
+    net = build signalOf m
 
     main-length : length main ≡ length (m .blocks)
     main-length = length-map (m .blocks) (λ (b : Block Name). env (target b))
@@ -153,13 +153,13 @@ module _ {Name : Type 0} (m : Model Name) (look : Name → Signal) (ok : Looks m
     block-value : (j : ℕ) (b : Block Name) → getElem? (m .blocks) j ≡ some b → β j ≡ env (target b)
     block-value j b e = place-front false main extra j (env (target b)) (map-place (λ (x : Block Name). env (target x)) (m .blocks) j b e)
 
-    known-name : (x : Name) → Defined m x → sigBit row β (look x) ≡ env x
+    known-name : (x : Name) → Defined m x → sigBit row β (signalOf x) ≡ env x
     known-name x (inl (i, e)) = ap (sigBit row β) (ok .inputAt i x e) ∙ sym (c .fits .ins i x e)
     known-name x (inr (j, b, e, t)) =
-        ap (λ (y : Name). sigBit row β (look y)) (sym t) ∙ ap (sigBit row β) (ok .blockAt j b e) ∙ block-value j b e ∙ ap env t
+        ap (λ (y : Name). sigBit row β (signalOf y)) (sym t) ∙ ap (sigBit row β) (ok .blockAt j b e) ∙ block-value j b e ∙ ap env t
 
-    okays : Each (Okay look row env heldN β) 0 (m .blocks)
-    okays = each-of (Okay look row env heldN β) 0 (m .blocks) (λ i b e.
+    okays : Each (Okay signalOf row env heldN β) 0 (m .blocks)
+    okays = each-of (Okay signalOf row env heldN β) 0 (m .blocks) (λ i b e.
         let mem : List·Memᴰ b (m .blocks) = place-mem (m .blocks) i b e in
         record {
           known = λ x w. known-name x (closed .sourcesDefined b x mem w);
@@ -172,9 +172,9 @@ module _ {Name : Type 0} (m : Model Name) (look : Name → Signal) (ok : Looks m
 
     all-match : Match (sigBit row β) heldN 0 (net .gates) (main ++ extra)
     all-match =
-        match-append (sigBit row β) heldN 0 (mains look (length (m .blocks)) (m .blocks)) main (extras look (m .blocks)) extra
-        (mains-match look row env heldN β (length (m .blocks)) 0 (m .blocks) okays extra-seg)
-        (extras-match look row env heldN β (0 + length (mains look (length (m .blocks)) (m .blocks))) 0 (m .blocks) okays)
+        match-append (sigBit row β) heldN 0 (blockGates signalOf (length (m .blocks)) (m .blocks)) main (allNewGates signalOf (m .blocks)) extra
+        (blockGates-match signalOf row env heldN β (length (m .blocks)) 0 (m .blocks) okays extra-seg)
+        (newGates-match signalOf row env heldN β (0 + length (blockGates signalOf (length (m .blocks)) (m .blocks))) 0 (m .blocks) okays)
 
     read-fits : Fits net row heldN β
     read-fits g x e = match-at (sigBit row β) heldN 0 (net .gates) (main ++ extra) all-match g x e ∙ ap (λ (n : ℕ). gateBit (sigBit row β) (heldN n) x) (zero-add g)
@@ -182,7 +182,7 @@ module _ {Name : Type 0} (m : Model Name) (look : Name → Signal) (ok : Looks m
     next : ℕ → Bool
     next = nextOf net (sigBit row β) heldN
 
-    opt-known : (o : Option Name) (s : Signal) (v : Bool) → sigBit row β s ≡ v → ((x : Name) → List·Memᴰ x (optName o) → Defined m x) → sigBit row β (optSig look s o) ≡ optBit env v o
+    opt-known : (o : Option Name) (s : Signal) (v : Bool) → sigBit row β s ≡ v → ((x : Name) → List·Memᴰ x (optName o) → Defined m x) → sigBit row β (optSig signalOf s o) ≡ optBit env v o
     opt-known none s v e h = e
     opt-known (some x) s v e h = known-name x (h x (List·Memᴰ·head refl))
 
@@ -190,9 +190,9 @@ module _ {Name : Type 0} (m : Model Name) (look : Name → Signal) (ok : Looks m
     unfolding next
     next-holds j d q e =
         let b : Block Name = Latch d q in
-        let p : (k : ℕ) × (getElem? (mains look (length (m .blocks)) (m .blocks)) j ≡ some (blockGate look k b)) = mains-place look (length (m .blocks)) (m .blocks) j b e in
+        let p : (k : ℕ) × (getElem? (blockGates signalOf (length (m .blocks)) (m .blocks)) j ≡ some (blockGate signalOf k b)) = blockGates-place signalOf (length (m .blocks)) (m .blocks) j b e in
         let w : List·Memᴰ b (m .blocks) = place-mem (m .blocks) j b e in
-        nextOf-is net (sigBit row β) heldN j (blockGate look (p .0) b) (place-left (mains look (length (m .blocks)) (m .blocks)) (extras look (m .blocks)) j (blockGate look (p .0) b) (p .1))
+        nextOf-is net (sigBit row β) heldN j (blockGate signalOf (p .0) b) (place-left (blockGates signalOf (length (m .blocks)) (m .blocks)) (allNewGates signalOf (m .blocks)) j (blockGate signalOf (p .0) b) (p .1))
         ∙ (λ i. cond (opt-known (d .reset) zeroS false refl (λ x v. closed .sourcesDefined b x w (List·Memᴰ·tail (Memᴰ·append-right (optName (d .enable)) v))) i) false
         (cond (opt-known (d .enable) oneS true refl (λ x v. closed .sourcesDefined b x w (List·Memᴰ·tail (Memᴰ·append-left (optName (d .reset)) v))) i) (known-name (d .input) (closed .sourcesDefined b (d .input) w (List·Memᴰ·head refl)) i) (h j d q e i)))
         ∙ sym (c .steps d q w)
@@ -204,12 +204,12 @@ module _ {Name : Type 0} (m : Model Name) (look : Name → Signal) (ok : Looks m
       record {
         bits = β;
         fits = read-fits;
-        answers = c .answers ∙ sym (map-map (sigBit row β) look (m .outputs) ∙ map-on (λ (x : Name). sigBit row β (look x)) env (m .outputs) (λ x w. known-name x (closed .outputsDefined x w)));
+        answers = c .answers ∙ sym (map-map (sigBit row β) signalOf (m .outputs) ∙ map-on (λ (x : Name). sigBit row β (signalOf x)) env (m .outputs) (λ x w. known-name x (closed .outputsDefined x w)));
         steps = λ g x e. nextOf-is net (sigBit row β) heldN g x e;
       },
       next-holds,
     )
 
   -- every clock of the model is one of the network built for it
-  pub read-simulates : Simulates Holds (BlifClock m) (Clock (build look m))
+  pub read-simulates : Simulates Holds (BlifClock m) (Clock (build signalOf m))
   read-simulates heldB nextB heldN row out h c = read-clock heldB nextB heldN row out h c

@@ -15,17 +15,17 @@ use Rattle.lists.proofs.Places.{mem-place, map-place}
 use Rattle.lists.proofs.Range.{all-mem, any-none}
 use Rattle.lists.proofs.Known.{known-mem, unknown-out}
 use Rattle.lists.proofs.Once.{once-nil, dup-left, dup-right, dup-both, dup-append}
-use Rattle.refusals.specs.Order.{_then_, when}
+use Rattle.refusals.specs.Order.{_orElse_, refuseIf}
 use Rattle.refusals.specs.declared.Refusal.the-variants as refusal
 use Rattle.refusals.specs.declared.Checked.the-variants.{Fine}
-use Rattle.refusals.proofs.Order.{refused-ne-fine, then-left, then-right, fine-when}
+use Rattle.refusals.proofs.Order.{refused-ne-fine, orElse-left, orElse-right, fine-refuseIf}
 use Rattle.network.specs.Net.{Valid}
 use Rattle.blif_text.specs.Decls.{Def, latch, cover, Decl, model, end, inputs, outputs, gate, insOf, defsOf, ins, outs, defs, coverOut, coverIns, defines, usedNames, columns, output, isOne}
 use Rattle.blif_meaning.specs.Model.{Model, target}
 use Rattle.blif_reading.specs.Lookup.{byte-names}
 use Rattle.blif_meaning.specs.WellFormed.{defined, sources, Defined, Closed, GoodLines, GoodBlock}
 use Rattle.blif_reading.specs.TextModel.{colOfByte, lineOf, blockOf, modelOf}
-use Rattle.blif_reading.specs.Read.{tooLarge, twice, naming, undefined, goodLine, coverFault, coverFaults, declFault, look, builtFrom}
+use Rattle.blif_reading.specs.Read.{tooLarge, definedTwice, naming, undefined, goodLine, coverFault, coverFaults, declFault, signalOf, builtFrom}
 use Rattle.blif_reading.proofs.Lookups.{looks}
 use Rattle.blif_reading.proofs.BuiltValid.{built-valid}
 
@@ -64,29 +64,29 @@ fresh-one l x e = record {
     one (here m) = List·Memᴰ·not-nil m
     one (there d) = once-nil d
 
-fresh-twice : (ns l : List Bytes) → twice l ns ≡ false → Fresh l ns
-unfolding twice
+fresh-twice : (ns l : List Bytes) → definedTwice l ns ≡ false → Fresh l ns
+unfolding definedTwice
 fresh-twice [] l e = fresh-nil l
 fresh-twice (n ∷ ns) l e =
-    fresh-append l (n ∷ []) ns (fresh-one l n (or-left (known n l) (twice (l ++ (n ∷ [])) ns) e)) (fresh-twice ns (l ++ (n ∷ [])) (or-right (known n l) (twice (l ++ (n ∷ [])) ns) e))
+    fresh-append l (n ∷ []) ns (fresh-one l n (or-left (known n l) (definedTwice (l ++ (n ∷ [])) ns) e)) (fresh-twice ns (l ++ (n ∷ [])) (or-right (known n l) (definedTwice (l ++ (n ∷ [])) ns) e))
 
 fresh-named : (ds : List Decl) (seen : Bool) (l : List Bytes) → naming seen l ds ≡ Fine → Fresh l (declared ds)
 unfolding naming defines
 fresh-named [] seen l e = fresh-nil l
-fresh-named (model ∷ ds) seen l e = fresh-named ds true l (then-right (when seen refusal.SecondModel) (naming true l ds) e)
-fresh-named (end ∷ ds) seen l e = fresh-named ds seen l (then-right (when (not seen) refusal.EndBeforeModel) (naming seen l ds) e)
+fresh-named (model ∷ ds) seen l e = fresh-named ds true l (orElse-right (refuseIf seen refusal.SecondModel) (naming true l ds) e)
+fresh-named (end ∷ ds) seen l e = fresh-named ds seen l (orElse-right (refuseIf (not seen) refusal.EndBeforeModel) (naming seen l ds) e)
 fresh-named (inputs ns ∷ ds) seen l e =
-    fresh-append l ns (declared ds) (fresh-twice ns l (fine-when (twice l ns) refusal.DefinedTwice (then-left (when (twice l ns) refusal.DefinedTwice) (naming seen (l ++ ns) ds) e)))
-    (fresh-named ds seen (l ++ ns) (then-right (when (twice l ns) refusal.DefinedTwice) (naming seen (l ++ ns) ds) e))
+    fresh-append l ns (declared ds) (fresh-twice ns l (fine-refuseIf (definedTwice l ns) refusal.DefinedTwice (orElse-left (refuseIf (definedTwice l ns) refusal.DefinedTwice) (naming seen (l ++ ns) ds) e)))
+    (fresh-named ds seen (l ++ ns) (orElse-right (refuseIf (definedTwice l ns) refusal.DefinedTwice) (naming seen (l ++ ns) ds) e))
 fresh-named (outputs ns ∷ ds) seen l e = fresh-named ds seen l e
 fresh-named (gate (latch d q) ∷ ds) seen l e =
-    fresh-append l (q ∷ []) (declared ds) (fresh-one l q (fine-when (known q l) refusal.DefinedTwice (then-left (when (known q l) refusal.DefinedTwice) (naming seen (l ++ (q ∷ [])) ds) e)))
-    (fresh-named ds seen (l ++ (q ∷ [])) (then-right (when (known q l) refusal.DefinedTwice) (naming seen (l ++ (q ∷ [])) ds) e))
+    fresh-append l (q ∷ []) (declared ds) (fresh-one l q (fine-refuseIf (known q l) refusal.DefinedTwice (orElse-left (refuseIf (known q l) refusal.DefinedTwice) (naming seen (l ++ (q ∷ [])) ds) e)))
+    (fresh-named ds seen (l ++ (q ∷ [])) (orElse-right (refuseIf (known q l) refusal.DefinedTwice) (naming seen (l ++ (q ∷ [])) ds) e))
 fresh-named (gate (cover [] ls) ∷ ds) seen l e = absurd (refused-ne-fine e)
 fresh-named (gate (cover (n ∷ ns) ls) ∷ ds) seen l e =
     let q : Bytes = coverOut (n ∷ ns) in
-    fresh-append l (q ∷ []) (declared ds) (fresh-one l q (fine-when (known q l) refusal.DefinedTwice (then-left (when (known q l) refusal.DefinedTwice) (naming seen (l ++ (q ∷ [])) ds) e)))
-    (fresh-named ds seen (l ++ (q ∷ [])) (then-right (when (known q l) refusal.DefinedTwice) (naming seen (l ++ (q ∷ [])) ds) e))
+    fresh-append l (q ∷ []) (declared ds) (fresh-one l q (fine-refuseIf (known q l) refusal.DefinedTwice (orElse-left (refuseIf (known q l) refusal.DefinedTwice) (naming seen (l ++ (q ∷ [])) ds) e)))
+    (fresh-named ds seen (l ++ (q ∷ [])) (orElse-right (refuseIf (known q l) refusal.DefinedTwice) (naming seen (l ++ (q ∷ [])) ds) e))
 
 abbrev inNames : List Decl → List Bytes
 inNames ds = flatMap insOf ds
@@ -216,14 +216,14 @@ good-of (latch d q) e = tt
 good-of (cover ns ls) e =
     let a : Bool = not (all (goodLine (length ns - 1)) ls) in
     let b : Bool = any isOne ls && not (all isOne ls) in
-    let h : all (goodLine (length ns - 1)) ls ≡ true = not-false (all (goodLine (length ns - 1)) ls) (fine-when a refusal.WrongCubeLine (then-left (when a refusal.WrongCubeLine) (when b refusal.OutputsDiffer) e)) in
-    let k : b ≡ false = fine-when b refusal.OutputsDiffer (then-right (when a refusal.WrongCubeLine) (when b refusal.OutputsDiffer) e) in
+    let h : all (goodLine (length ns - 1)) ls ≡ true = not-false (all (goodLine (length ns - 1)) ls) (fine-refuseIf a refusal.WrongCubeLine (orElse-left (refuseIf a refusal.WrongCubeLine) (refuseIf b refusal.OutputsDiffer) e)) in
+    let k : b ≡ false = fine-refuseIf b refusal.OutputsDiffer (orElse-right (refuseIf a refusal.WrongCubeLine) (refuseIf b refusal.OutputsDiffer) e) in
     (any isOne ls, lines-of (length (coverIns ns)) (any isOne ls) ls (λ ts m. (good-length (length ns - 1) ts (all-mem (goodLine (length ns - 1)) ls h ts m) ∙ sym (ins-length ns), one-output ls k ts m)))
 
 pub goods-of : (gs : List Def) → coverFaults gs ≡ Fine → (g : Def) → List·Memᴰ g gs → coverFault g ≡ Fine
 unfolding coverFaults
-goods-of _ e g (List·Memᴰ·head {x = h} {xs = gs} q) = ap coverFault q ∙ then-left (coverFault h) (coverFaults gs) e
-goods-of _ e g (List·Memᴰ·tail {x = h} {xs = gs} m) = goods-of gs (then-right (coverFault h) (coverFaults gs) e) g m
+goods-of _ e g (List·Memᴰ·head {x = h} {xs = gs} q) = ap coverFault q ∙ orElse-left (coverFault h) (coverFaults gs) e
+goods-of _ e g (List·Memᴰ·tail {x = h} {xs = gs} m) = goods-of gs (orElse-right (coverFault h) (coverFaults gs) e) g m
 
 -- ---- 6 to 13
 
@@ -237,16 +237,16 @@ pub record Passed (ds : List Decl) : Type 0 where
 pub passed : (ds : List Decl) → declFault ds ≡ Fine → Passed ds
 unfolding declFault
 passed ds e =
-    let f = then-right (when (tooLarge ds) refusal.SizePassed) (naming false [] ds then when (undefined ds) refusal.Undefined then coverFaults (defs ds)) e in
-    let g = then-right (naming false [] ds) (when (undefined ds) refusal.Undefined then coverFaults (defs ds)) f in
+    let f = orElse-right (refuseIf (tooLarge ds) refusal.SizePassed) (naming false [] ds orElse refuseIf (undefined ds) refusal.Undefined orElse coverFaults (defs ds)) e in
+    let g = orElse-right (naming false [] ds) (refuseIf (undefined ds) refusal.Undefined orElse coverFaults (defs ds)) f in
     record {
-      within = fine-when (tooLarge ds) refusal.SizePassed (then-left (when (tooLarge ds) refusal.SizePassed) (naming false [] ds then when (undefined ds) refusal.Undefined then coverFaults (defs ds)) e);
-      named = then-left (naming false [] ds) (when (undefined ds) refusal.Undefined then coverFaults (defs ds)) f;
-      used = fine-when (undefined ds) refusal.Undefined (then-left (when (undefined ds) refusal.Undefined) (coverFaults (defs ds)) g);
-      covered = then-right (when (undefined ds) refusal.Undefined) (coverFaults (defs ds)) g;
+      within = fine-refuseIf (tooLarge ds) refusal.SizePassed (orElse-left (refuseIf (tooLarge ds) refusal.SizePassed) (naming false [] ds orElse refuseIf (undefined ds) refusal.Undefined orElse coverFaults (defs ds)) e);
+      named = orElse-left (naming false [] ds) (refuseIf (undefined ds) refusal.Undefined orElse coverFaults (defs ds)) f;
+      used = fine-refuseIf (undefined ds) refusal.Undefined (orElse-left (refuseIf (undefined ds) refusal.Undefined) (coverFaults (defs ds)) g);
+      covered = orElse-right (refuseIf (undefined ds) refusal.Undefined) (coverFaults (defs ds)) g;
     }
 
 -- the gates built for them have valid signals
 pub passed-valid : (ds : List Decl) → Passed ds → Valid (builtFrom ds)
 unfolding builtFrom
-passed-valid ds p = built-valid (modelOf ds) (look ds) (looks byte-names (modelOf ds) (once-of ds (p .named))) (closed-of ds (p .used))
+passed-valid ds p = built-valid (modelOf ds) (signalOf ds) (looks byte-names (modelOf ds) (once-of ds (p .named))) (closed-of ds (p .used))

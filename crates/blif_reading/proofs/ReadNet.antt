@@ -8,12 +8,12 @@ use lib.ListN.{length, getElem?, length-map}
 use Rattle.lists.specs.Lists.{Bytes, sumOf}
 use Rattle.lists.proofs.Every.{every-place}
 use Rattle.gates.specs.Gate.{Gate}
-use Rattle.network.specs.Net.{Net, Valid, Formed, Feeds, Way, last, more, Loop}
+use Rattle.network.specs.Net.{Net, Valid, Formed, Feeds, Path, last, more, Loop}
 use Rattle.network.specs.Cells.{WithinSizes, pinCells}
 use Rattle.sort_order.specs.Sorted.{sorted}
 use Rattle.sort_order.proofs.Summary.{sorted-keeps, inputs-lower}
 use Rattle.blif_text.specs.Decls.{Decl, ins, outs, defs, declsOf}
-use Rattle.blif_reading.specs.Read.{read, look, builtFrom, readText}
+use Rattle.blif_reading.specs.Read.{read, signalOf, builtFrom, readText}
 use Rattle.blif_reading.proofs.BuiltCounts.{built-gates, built-pins, built-formed}
 use Rattle.blif_reading.proofs.BuiltNet.{gates-are}
 use Rattle.blif_reading.proofs.SizeLimits.{sizes-within}
@@ -29,20 +29,20 @@ pub record NetRead (net : Net) : Type 0 where
 
 module _ (net new : Net) (valid : Valid net) (e : sorted net ≡ some new) where
   -- a way goes upwards in a sorted network
-  way-rises : {a b : ℕ} → Way new a b → a < b
-  way-rises (last f) = inputs-lower net new valid e _ _ (f .formB) (f .pinsB) (f .by) (f .isB) (f .among) (f .points)
-  way-rises (more f w) =
+  path-rises : {a b : ℕ} → Path new a b → a < b
+  path-rises (last f) = inputs-lower net new valid e _ _ (f .formB) (f .pinsB) (f .by) (f .isB) (f .among) (f .points)
+  path-rises (more f w) =
       let h = inputs-lower net new valid e _ _ (f .formB) (f .pinsB) (f .by) (f .isB) (f .among) (f .points) in
-      let k = way-rises w in
+      let k = path-rises w in
       omega (arith, h, k)
 
   -- so none comes back
   sorted-no-loop : Loop new → ⊥
-  sorted-no-loop l = let h = way-rises (l .1) in absurd (omega (arith, h))
+  sorted-no-loop l = let h = path-rises (l .1) in absurd (omega (arith, h))
 
 -- the gates as built have pin counts that their forms can have
 formed-built : (ds : List Decl) → Formed (builtFrom ds)
-formed-built ds g x e = every-place (built-formed (look ds) (defs ds)) g x (ap (λ (l : List Gate). getElem? l g) (gates-are ds) ∙ e)
+formed-built ds g x e = every-place (built-formed (signalOf ds) (defs ds)) g x (ap (λ (l : List Gate). getElem? l g) (gates-are ds) ∙ e)
 
 pub read-net : (s : Bytes) (new : Net) → readText s ≡ read new → NetRead new
 unfolding builtFrom
@@ -61,8 +61,8 @@ read-net s new e =
       sizes =
           record {
             inputs = omega (arith, k .inputs, w .inputs);
-            outputs = omega (arith, k .outputs, length-map (outs ds) (look ds), w .outputs);
-            gates = omega (arith, k .gates, g, built-gates (look ds) (defs ds), w .gates);
-            pins = omega (arith, k .pins, p, built-pins (look ds) (defs ds), w .pins);
+            outputs = omega (arith, k .outputs, length-map (outs ds) (signalOf ds), w .outputs);
+            gates = omega (arith, k .gates, g, built-gates (signalOf ds) (defs ds), w .gates);
+            pins = omega (arith, k .pins, p, built-pins (signalOf ds) (defs ds), w .pins);
           };
     }

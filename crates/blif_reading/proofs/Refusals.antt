@@ -9,7 +9,7 @@ use lib.Dec.{leb}
 use borrow.Author.Tests.{leb-true}
 use Rattle.lists.specs.Lists.{Bytes}
 use Rattle.refusals.specs.Numbers.{numberOf, InReading}
-use Rattle.refusals.specs.Order.{_then_, when}
+use Rattle.refusals.specs.Order.{_orElse_, refuseIf}
 use Rattle.refusals.specs.declared.Refusal.{Refusal}
 use Rattle.refusals.specs.declared.Refusal.the-variants as refusal
 use Rattle.refusals.specs.declared.Checked.{Checked}
@@ -36,15 +36,15 @@ own {k} t r e = let q : r ≡ k = cc in rw q (record { low = number-pos k; high 
 fine : Reads Fine
 fine r e = absurd (let z : _≡_ {A = ℕ} 0 1 = cc in omega arith)
 
-when-reads : (c : Bool) (k : Refusal) → leb (numberOf k) 14 ≡ true → Reads (when c k)
-unfolding when
-when-reads true k t = own t
-when-reads false k t = fine
+refuseIf-reads : (c : Bool) (k : Refusal) → leb (numberOf k) 14 ≡ true → Reads (refuseIf c k)
+unfolding refuseIf
+refuseIf-reads true k t = own t
+refuseIf-reads false k t = fine
 
-then-reads : (a b : Checked) → Reads a → Reads b → Reads (a then b)
-unfolding _then_
-then-reads Fine b p q = q
-then-reads (Refused k) b p q = p
+orElse-reads : (a b : Checked) → Reads a → Reads b → Reads (a orElse b)
+unfolding _orElse_
+orElse-reads Fine b p q = q
+orElse-reads (Refused k) b p q = p
 
 -- ---- 4 and 5
 
@@ -67,7 +67,7 @@ rows-read : (rows : List (List Bytes)) → Reads (firstBad (flatMap parsedLine r
 unfolding flatMap parsedLine firstBad stmtOf
 rows-read [] = fine
 rows-read ([] ∷ rows) = rows-read rows
-rows-read ((k ∷ ts) ∷ rows) = then-reads _ _ (keyword-reads (keywordOf k) k ts) (rows-read rows)
+rows-read ((k ∷ ts) ∷ rows) = orElse-reads _ _ (keyword-reads (keywordOf k) k ts) (rows-read rows)
 
 bad-reads : (s : Bytes) → Reads (firstBad (parsed s))
 unfolding parsed
@@ -78,38 +78,38 @@ bad-reads s = rows-read (map tokens (joined (lines s)))
 naming-reads : (seen : Bool) (earlier : List Bytes) (ds : List Decl) → Reads (naming seen earlier ds)
 unfolding naming
 naming-reads seen earlier [] = fine
-naming-reads seen earlier (model ∷ ds) = then-reads _ _ (when-reads seen _ refl) (naming-reads true earlier ds)
-naming-reads seen earlier (end ∷ ds) = then-reads _ _ (when-reads (not seen) _ refl) (naming-reads seen earlier ds)
-naming-reads seen earlier (inputs ns ∷ ds) = then-reads _ _ (when-reads _ _ refl) (naming-reads seen _ ds)
+naming-reads seen earlier (model ∷ ds) = orElse-reads _ _ (refuseIf-reads seen _ refl) (naming-reads true earlier ds)
+naming-reads seen earlier (end ∷ ds) = orElse-reads _ _ (refuseIf-reads (not seen) _ refl) (naming-reads seen earlier ds)
+naming-reads seen earlier (inputs ns ∷ ds) = orElse-reads _ _ (refuseIf-reads _ _ refl) (naming-reads seen _ ds)
 naming-reads seen earlier (outputs ns ∷ ds) = naming-reads seen earlier ds
-naming-reads seen earlier (gate (latch d q) ∷ ds) = then-reads _ _ (when-reads _ _ refl) (naming-reads seen _ ds)
+naming-reads seen earlier (gate (latch d q) ∷ ds) = orElse-reads _ _ (refuseIf-reads _ _ refl) (naming-reads seen _ ds)
 naming-reads seen earlier (gate (cover [] ls) ∷ ds) = own refl
-naming-reads seen earlier (gate (cover (n ∷ ns) ls) ∷ ds) = then-reads _ _ (when-reads _ _ refl) (naming-reads seen _ ds)
+naming-reads seen earlier (gate (cover (n ∷ ns) ls) ∷ ds) = orElse-reads _ _ (refuseIf-reads _ _ refl) (naming-reads seen _ ds)
 
 cover-reads : (d : Def) → Reads (coverFault d)
 unfolding coverFault
 cover-reads (latch d q) = fine
 cover-reads (cover ns ls) =
-    then-reads _ _ (when-reads _ _ refl) (when-reads _ _ refl)
+    orElse-reads _ _ (refuseIf-reads _ _ refl) (refuseIf-reads _ _ refl)
 
 covers-read : (ds : List Def) → Reads (coverFaults ds)
 unfolding coverFaults
 covers-read [] = fine
-covers-read (d ∷ ds) = then-reads _ _ (cover-reads d) (covers-read ds)
+covers-read (d ∷ ds) = orElse-reads _ _ (cover-reads d) (covers-read ds)
 
 decls-read : (ds : List Decl) → Reads (declFault ds)
 unfolding declFault
 decls-read ds =
-    then-reads _ _ (when-reads _ _ refl)
-    (then-reads _ _ (naming-reads false [] ds) (then-reads _ _ (when-reads _ _ refl) (covers-read _)))
+    orElse-reads _ _ (refuseIf-reads _ _ refl)
+    (orElse-reads _ _ (naming-reads false [] ds) (orElse-reads _ _ (refuseIf-reads _ _ refl) (covers-read _)))
 
 -- ---- all
 
 fault-reads : (s : Bytes) → Reads (readFault s)
 unfolding readFault
 fault-reads s =
-    then-reads _ _ (when-reads _ _ refl)
-    (then-reads _ _ (when-reads _ _ refl) (then-reads _ _ (bad-reads s) (decls-read (declsOf s))))
+    orElse-reads _ _ (refuseIf-reads _ _ refl)
+    (orElse-reads _ _ (refuseIf-reads _ _ refl) (orElse-reads _ _ (bad-reads s) (decls-read (declsOf s))))
 
 answer-reads : (c : Checked) (o : Option Net) → Reads c → (r : Refusal) → answer c o ≡ refused r → InReading r
 unfolding answer

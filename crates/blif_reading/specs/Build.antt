@@ -1,11 +1,11 @@
--- The gates built for a model's latches and covers, before the sort (document 01, src/io/blif.rs). `look` is the signal of a name.
+-- The gates built for a model's latches and covers, before the sort (document 01, src/io/blif.rs). `signalOf` is the signal of a name.
 -- Assumes nothing: these are definitions.
 use mathlib.Core.Bool.{Bool, true, false, cond}
 use mathlib.Core.List.{List, [], _∷_, _++_, map}
 use mathlib.Core.Option.{Option, none, some}
 use Prim.Native.Nat.{ℕ, zero, suc, _+_}
 use lib.ListN.{length}
-use Rattle.signal.specs.Signal.{Gated, Signal, plain, zeroS, oneS, turned}
+use Rattle.signal.specs.Signal.{Var, Signal, plain, zeroS, oneS, invert}
 use Rattle.gates.specs.Gate.{OrN, AndN, NandN, Buf, Gate, Comb, Dff}
 use Rattle.network.specs.Net.{Net}
 use Rattle.blif_meaning.specs.Model.{Col, C0, C1, Dash, Line, Block, Latch, Cover, Model}
@@ -14,7 +14,7 @@ use Rattle.blif_meaning.specs.Model.{Col, C0, C1, Dash, Line, Block, Latch, Cov
 abbrev pub literals : List Col → List Signal → List Signal
 literals [] ss = []
 literals (c ∷ cs) [] = []
-literals (C0 ∷ cs) (s ∷ ss) = turned s ∷ literals cs ss
+literals (C0 ∷ cs) (s ∷ ss) = invert s ∷ literals cs ss
 literals (C1 ∷ cs) (s ∷ ss) = s ∷ literals cs ss
 literals (Dash ∷ cs) (s ∷ ss) = literals cs ss
 
@@ -25,7 +25,7 @@ literalGate true [] = Comb Buf (oneS ∷ [])
 literalGate true (l ∷ []) = Comb Buf (l ∷ [])
 literalGate true (l ∷ k ∷ ls) = Comb AndN (l ∷ k ∷ ls)
 literalGate false [] = Comb Buf (zeroS ∷ [])
-literalGate false (l ∷ []) = Comb Buf (turned l ∷ [])
+literalGate false (l ∷ []) = Comb Buf (invert l ∷ [])
 literalGate false (l ∷ k ∷ ls) = Comb NandN (l ∷ k ∷ ls)
 
 -- the gate of a row over these inputs
@@ -35,7 +35,7 @@ lineGate ss l = literalGate (l .out) (literals (l .cols) ss)
 -- gates k, k + 1, .. as signals, n of them
 abbrev pub gateRun : ℕ → ℕ → List Signal
 gateRun k zero = []
-gateRun k (suc n) = plain (Gated k) ∷ gateRun (suc k) n
+gateRun k (suc n) = plain (Var k) ∷ gateRun (suc k) n
 
 -- the cover's own gate: "A cover without lines is Buf(zero)"; of two or more, whose gates start at number k, "the cover's gate joins
 -- them: Or for 1"; "Two or more lines with output 0 are joined by And"
@@ -53,34 +53,34 @@ lineGates ss (l ∷ m ∷ ls) = map (lineGate ss) (l ∷ m ∷ ls)
 module _ {Name : Type 0} where
   -- the signal of a name that may be left out
   abbrev pub optSig : (Name → Signal) → Signal → Option Name → Signal
-  optSig look s none = s
-  optSig look s (some x) = look x
+  optSig signalOf s none = s
+  optSig signalOf s (some x) = signalOf x
 
-  module _ (look : Name → Signal) where
+  module _ (signalOf : Name → Signal) where
     -- the gate of a block: "A latch is Dff(input, one, zero)"; k is the number of the next gate of a line
     abbrev pub blockGate : ℕ → Block Name → Gate
     blockGate k (Latch f q) =
-        Dff (record { dataIn = look (f .input); enable = optSig look oneS (f .enable); reset = optSig look zeroS (f .reset) })
-    blockGate k (Cover xs y ls) = coverGate k (map look xs) ls
+        Dff (record { dataIn = signalOf (f .input); enable = optSig signalOf oneS (f .enable); reset = optSig signalOf zeroS (f .reset) })
+    blockGate k (Cover xs y ls) = coverGate k (map signalOf xs) ls
 
     -- the new gates of a block
-    abbrev pub moreGates : Block Name → List Gate
-    moreGates (Latch f q) = []
-    moreGates (Cover xs y ls) = lineGates (map look xs) ls
+    abbrev pub newGates : Block Name → List Gate
+    newGates (Latch f q) = []
+    newGates (Cover xs y ls) = lineGates (map signalOf xs) ls
 
     -- "Each `.latch` and `.names` is a gate in text order"
-    abbrev pub mains : ℕ → List (Block Name) → List Gate
-    mains k [] = []
-    mains k (b ∷ bs) = blockGate k b ∷ mains (k + length (moreGates b)) bs
+    abbrev pub blockGates : ℕ → List (Block Name) → List Gate
+    blockGates k [] = []
+    blockGates k (b ∷ bs) = blockGate k b ∷ blockGates (k + length (newGates b)) bs
 
     -- the new gates "at the end of the list, cover by cover"
-    abbrev pub extras : List (Block Name) → List Gate
-    extras [] = []
-    extras (b ∷ bs) = moreGates b ++ extras bs
+    abbrev pub allNewGates : List (Block Name) → List Gate
+    allNewGates [] = []
+    allNewGates (b ∷ bs) = newGates b ++ allNewGates bs
 
     -- the gates as built
     abbrev pub gatesFor : List (Block Name) → List Gate
-    gatesFor bs = mains (length bs) bs ++ extras bs
+    gatesFor bs = blockGates (length bs) bs ++ allNewGates bs
 
     -- the network as built
     abbrev pub build : Model Name → Net
@@ -88,5 +88,5 @@ module _ {Name : Type 0} where
         record {
           inputs = length (m .inputs);
           gates = gatesFor (m .blocks);
-          outputs = map look (m .outputs);
+          outputs = map signalOf (m .outputs);
         }

@@ -6,19 +6,19 @@ use mathlib.Core.Option.{Option, none, some}
 use Prim.Native.Nat.{ℕ}
 use native.Mathlib.Decide.{ℕ-discrete}
 use Rattle.lists.specs.Lists.{Bytes, find}
-use Rattle.signal.specs.Signal.{Input, Gated, Signal, plain, zeroS}
+use Rattle.signal.specs.Signal.{Input, Var, Signal, plain, zeroS}
 use Rattle.blif_meaning.specs.Model.{Model, target}
 
 -- an input's place, else a block's; a name that is not defined, which reading refuses, would be zero
-abbrev pub signalOf : Option ℕ → Option ℕ → Signal
-signalOf (some i) r = plain (Input i)
-signalOf none (some j) = plain (Gated j)
-signalOf none none = zeroS
+abbrev pub placeSignal : Option ℕ → Option ℕ → Signal
+placeSignal (some i) r = plain (Input i)
+placeSignal none (some j) = plain (Var j)
+placeSignal none none = zeroS
 
 module _ {Name : Type 0} where
   -- the signal of a name: the inputs count from 0, and so do the latches and covers in text order
   abbrev pub lookup : ((x y : Name) → Dec (x ≡ y)) → Model Name → Name → Signal
-  lookup dec m x = signalOf (find dec (m .inputs) x) (find dec (map target (m .blocks)) x)
+  lookup dec m x = placeSignal (find dec (m .inputs) x) (find dec (map target (m .blocks)) x)
 
 -- ---- names that are bytes
 

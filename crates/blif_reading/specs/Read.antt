@@ -7,7 +7,7 @@ use Prim.Native.Nat.{ℕ, _+_, _-_, _*_}
 use lib.Dec.{eqb, leb, ltb}
 use lib.ListN.{length}
 use Rattle.lists.specs.Lists.{if_then_else_, Bytes, all, any, sumOf, elem, known}
-use Rattle.refusals.specs.Order.{_then_, when}
+use Rattle.refusals.specs.Order.{_orElse_, refuseIf}
 use Rattle.refusals.specs.declared.Refusal.{Refusal}
 use Rattle.refusals.specs.declared.Refusal.the-variants as refusal
 use Rattle.refusals.specs.declared.Checked.{Checked}
@@ -50,22 +50,22 @@ tooLarge ds = overSizes (length (ins ds)) (length (outs ds)) (sumOf gateCount (d
 -- ---- 7 to 10: naming
 
 -- a name of these stands earlier among them, or in `earlier`
-unfoldable pub twice : List Bytes → List Bytes → Bool
-twice earlier [] = false
-twice earlier (n ∷ ns) = known n earlier || twice (earlier ++ (n ∷ [])) ns
+unfoldable pub definedTwice : List Bytes → List Bytes → Bool
+definedTwice earlier [] = false
+definedTwice earlier (n ∷ ns) = known n earlier || definedTwice (earlier ++ (n ∷ [])) ns
 
 -- "7 at a second `.model`; 8 at `.end` before any `.model`; 9 when `.names` is empty; 10 when a name is defined twice by inputs,
 -- latch outputs or covers"; `seen` says that there was a `.model`, `earlier` lists the names defined so far
 unfoldable pub naming : Bool → List Bytes → List Decl → Checked
 naming seen earlier [] = Fine
-naming seen earlier (model ∷ ds) = when seen refusal.SecondModel then naming true earlier ds
-naming seen earlier (end ∷ ds) = when (not seen) refusal.EndBeforeModel then naming seen earlier ds
-naming seen earlier (inputs ns ∷ ds) = when (twice earlier ns) refusal.DefinedTwice then naming seen (earlier ++ ns) ds
+naming seen earlier (model ∷ ds) = refuseIf seen refusal.SecondModel orElse naming true earlier ds
+naming seen earlier (end ∷ ds) = refuseIf (not seen) refusal.EndBeforeModel orElse naming seen earlier ds
+naming seen earlier (inputs ns ∷ ds) = refuseIf (definedTwice earlier ns) refusal.DefinedTwice orElse naming seen (earlier ++ ns) ds
 naming seen earlier (outputs ns ∷ ds) = naming seen earlier ds
-naming seen earlier (gate (latch d q) ∷ ds) = when (known q earlier) refusal.DefinedTwice then naming seen (earlier ++ (q ∷ [])) ds
+naming seen earlier (gate (latch d q) ∷ ds) = refuseIf (known q earlier) refusal.DefinedTwice orElse naming seen (earlier ++ (q ∷ [])) ds
 naming seen earlier (gate (cover [] ls) ∷ ds) = Refused refusal.NamesEmpty
 naming seen earlier (gate (cover (n ∷ ns) ls) ∷ ds) =
-    when (known (coverOut (n ∷ ns)) earlier) refusal.DefinedTwice then naming seen (earlier ++ (coverOut (n ∷ ns) ∷ [])) ds
+    refuseIf (known (coverOut (n ∷ ns)) earlier) refusal.DefinedTwice orElse naming seen (earlier ++ (coverOut (n ∷ ns) ∷ [])) ds
 
 -- ---- 11: uses
 
@@ -90,31 +90,31 @@ goodLine n ts =
 unfoldable pub coverFault : Def → Checked
 coverFault (latch d q) = Fine
 coverFault (cover ns ls) =
-    when (not (all (goodLine (length ns - 1)) ls)) refusal.WrongCubeLine
-    then when (any isOne ls && not (all isOne ls)) refusal.OutputsDiffer
+    refuseIf (not (all (goodLine (length ns - 1)) ls)) refusal.WrongCubeLine
+    orElse refuseIf (any isOne ls && not (all isOne ls)) refusal.OutputsDiffer
 
 -- "Then cover by cover": "The first wrong column of the first wrong cube line ends the whole pass"
 unfoldable pub coverFaults : List Def → Checked
 coverFaults [] = Fine
-coverFaults (g ∷ gs) = coverFault g then coverFaults gs
+coverFaults (g ∷ gs) = coverFault g orElse coverFaults gs
 
 -- ---- reading
 
 -- 6 to 13
 unfoldable pub declFault : List Decl → Checked
 declFault ds =
-    when (tooLarge ds) refusal.SizePassed
-    then naming false [] ds
-    then when (undefined ds) refusal.Undefined
-    then coverFaults (defs ds)
+    refuseIf (tooLarge ds) refusal.SizePassed
+    orElse naming false [] ds
+    orElse refuseIf (undefined ds) refusal.Undefined
+    orElse coverFaults (defs ds)
 
 -- "2 when the text is over 32,768 bytes. 3 when it has a byte of 128 or more", then 4 and 5, then 6 to 13
 unfoldable pub readFault : Bytes → Checked
 readFault s =
-    when (ltb maxText (length s)) refusal.TextTooLong
-    then when (any (leb 128) s) refusal.HighByte
-    then firstBad (parsed s)
-    then declFault (declsOf s)
+    refuseIf (ltb maxText (length s)) refusal.TextTooLong
+    orElse refuseIf (any (leb 128) s) refusal.HighByte
+    orElse firstBad (parsed s)
+    orElse declFault (declsOf s)
 
 -- a network, or a refusal
 pub data Result : Type 0 where
@@ -128,12 +128,12 @@ answer Fine (some n) = read n
 answer (Refused r) n = refused r
 
 -- the signal of a name that these declarations define
-abbrev pub look : List Decl → Bytes → Signal
-look ds = lookup byte-names (modelOf ds)
+abbrev pub signalOf : List Decl → Bytes → Signal
+signalOf ds = lookup byte-names (modelOf ds)
 
 -- the gates as built
 unfoldable pub builtFrom : List Decl → Net
-builtFrom ds = build (look ds) (modelOf ds)
+builtFrom ds = build (signalOf ds) (modelOf ds)
 
 -- what reading gives, where the cells suffice: a refusal, or the gates as built, and "Then the network is sorted"
 unfoldable pub readText : Bytes → Result

@@ -32,8 +32,8 @@ GatesIn gates pinsIn used xs = (h : ℕ) (x : Gate) → getElem? xs h ≡ some x
 
 -- the gate first placed for a definition: a latch's Dff, and for a cover an And of its inputs
 abbrev pub placed : (Bytes → Signal) → Def → Gate
-placed look (latch d q) = Dff (record { dataIn = look d; enable = oneS; reset = zeroS })
-placed look (cover ns ls) = Comb AndN (map look (coverIns ns))
+placed signalOf (latch d q) = Dff (record { dataIn = signalOf d; enable = oneS; reset = zeroS })
+placed signalOf (cover ns ls) = Comb AndN (map signalOf (coverIns ns))
 
 -- how many pins it has
 abbrev pub placedCount : Def → ℕ
@@ -42,7 +42,7 @@ placedCount (cover ns ls) = length ns - 1
 
 -- the gates as built for definitions
 abbrev pub builtGates : (Bytes → Signal) → List Def → List Gate
-builtGates look ds = gatesFor look (map blockOf ds)
+builtGates signalOf ds = gatesFor signalOf (map blockOf ds)
 
 -- the working cells have room for what is counted of the definitions (refusal 6), and for the gates placed first
 pub record WorkRoom (gates pinsIn : List ℕ) : Type 0 where

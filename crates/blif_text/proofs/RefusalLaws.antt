@@ -5,15 +5,15 @@ use Prim.Native.Nat.{ℕ, _≤_, _<_}
 use native.Mathlib.Omega.{arith}
 use lib.ListN.{length}
 use Rattle.lists.specs.Lists.{Bytes}
-use Rattle.refusals.specs.Order.{_then_}
+use Rattle.refusals.specs.Order.{_orElse_}
 use Rattle.refusals.specs.declared.Refusal.{Refusal}
 use Rattle.refusals.specs.declared.Checked.{Checked}
 use Rattle.refusals.specs.declared.Checked.the-variants.{Fine, Refused}
-use Rattle.refusals.proofs.Order.{then-left, then-right, then-stop, then-go}
+use Rattle.refusals.proofs.Order.{orElse-left, orElse-right, orElse-stop, orElse-go}
 use Rattle.blif_text.specs.Statements.{Parsed, parsed, firstBad, stmts, refusalOf}
 use Rattle.blif_text.specs.Rows.{rowStmt}
 use Rattle.blif_text.specs.Places.{TokensMarked}
-use Rattle.blif_text.specs.PlacedStatements.{said, RowTo, statementAt, refusalIn}
+use Rattle.blif_text.specs.PlacedStatements.{parsedFrom, RowTo, statementAt, refusalIn}
 use Rattle.blif_text.specs.Walk.{rowsFrom, stmtsFrom, RowsAt, StmtsAt}
 use Rattle.blif_text.specs.declared.Statement.{Statement}
 use Rattle.blif_text.specs.declared.Statement.the-variants as place
@@ -24,16 +24,16 @@ use Rattle.blif_text.proofs.StatementLaws.{statement-says}
 -- ---- the row's statement
 
 -- whether a statement is a refusal, its text does not tell
-refusal-said : (text cells : List ℕ) (s : Statement) → refusalOf (said text cells s) ≡ refusalIn s
-refusal-said text cells place.Model = refl
-refusal-said text cells place.End = refl
-refusal-said text cells place.Exdc = refl
-refusal-said text cells (place.Inputs run) = refl
-refusal-said text cells (place.Outputs run) = refl
-refusal-said text cells (place.Names run) = refl
-refusal-said text cells (place.Latch first) = refl
-refusal-said text cells (place.Cube run) = refl
-refusal-said text cells (place.Refused r) = refl
+refusal-parsedFrom : (text cells : List ℕ) (s : Statement) → refusalOf (parsedFrom text cells s) ≡ refusalIn s
+refusal-parsedFrom text cells place.Model = refl
+refusal-parsedFrom text cells place.End = refl
+refusal-parsedFrom text cells place.Exdc = refl
+refusal-parsedFrom text cells (place.Inputs run) = refl
+refusal-parsedFrom text cells (place.Outputs run) = refl
+refusal-parsedFrom text cells (place.Names run) = refl
+refusal-parsedFrom text cells (place.Latch first) = refl
+refusal-parsedFrom text cells (place.Cube run) = refl
+refusal-parsedFrom text cells (place.Refused r) = refl
 
 -- no statement, no refusal
 bad-none : firstBad [] ≡ Fine
@@ -41,9 +41,9 @@ unfolding firstBad
 bad-none = refl
 
 -- the first statement's refusal, then those of the others
-bad-cons : (text cells : List ℕ) (s : Statement) (ps : List Parsed) → firstBad (said text cells s ∷ ps) ≡ (refusalIn s then firstBad ps)
+bad-cons : (text cells : List ℕ) (s : Statement) (ps : List Parsed) → firstBad (parsedFrom text cells s ∷ ps) ≡ (refusalIn s orElse firstBad ps)
 unfolding firstBad
-bad-cons text cells s ps = ap (λ (c : Checked). c then firstBad ps) (refusal-said text cells s)
+bad-cons text cells s ps = ap (λ (c : Checked). c orElse firstBad ps) (refusal-parsedFrom text cells s)
 
 module _ {text cells : List ℕ} {n at r : ℕ} (c : RowsAt text cells n at) (h : at < n) (w : RowTo cells at n r) where
   -- the statement of the row
@@ -51,14 +51,14 @@ module _ {text cells : List ℕ} {n at r : ℕ} (c : RowsAt text cells n at) (h 
   now = statementAt text cells at r
 
   -- what is made of the row's statement and the others is made of the rows
-  row-said : {A : Type 0} (f : List Parsed → A) → f (said text cells now ∷ map rowStmt (rowsFrom text cells n r)) ≡ f (map rowStmt (rowsFrom text cells n at))
-  row-said f =
+  row-parsedFrom : {A : Type 0} (f : List Parsed → A) → f (parsedFrom text cells now ∷ map rowStmt (rowsFrom text cells n r)) ≡ f (map rowStmt (rowsFrom text cells n at))
+  row-parsedFrom f =
       ap (λ (p : Parsed). f (p ∷ map rowStmt (rowsFrom text cells n r))) (statement-says text cells (w .low) (omega (arith, w .high, c .places .room)))
       ∙ sym (ap (λ (x : List (List Bytes)). f (map rowStmt x)) (rows-are c h w))
 
   -- the refusals from the row on: its own, then those of the others
-  bad-row : (refusalIn now then firstBad (map rowStmt (rowsFrom text cells n r))) ≡ firstBad (map rowStmt (rowsFrom text cells n at))
-  bad-row = sym (bad-cons text cells now (map rowStmt (rowsFrom text cells n r))) ∙ row-said firstBad
+  bad-row : (refusalIn now orElse firstBad (map rowStmt (rowsFrom text cells n r))) ≡ firstBad (map rowStmt (rowsFrom text cells n at))
+  bad-row = sym (bad-cons text cells now (map rowStmt (rowsFrom text cells n r))) ∙ row-parsedFrom firstBad
 
 -- ---- the walk to the first refusal
 
@@ -79,11 +79,11 @@ module _ {text cells : List ℕ} {n at : ℕ} (c : Passing text cells n at) wher
   module _ {r : ℕ} (h : at < n) (w : RowTo cells at n r) where
     -- the row's statement is a refusal
     pub passing-stop : {k : Refusal} → refusalIn (statementAt text cells at r) ≡ Refused k → Refused k ≡ firstBad (parsed text)
-    passing-stop e = sym (then-stop (firstBad (map rowStmt (rowsFrom text cells n r))) e) ∙ bad-row (c .rows) h w ∙ c .left
+    passing-stop e = sym (orElse-stop (firstBad (map rowStmt (rowsFrom text cells n r))) e) ∙ bad-row (c .rows) h w ∙ c .left
 
     -- it is none
     pub passing-next : refusalIn (statementAt text cells at r) ≡ Fine → Passing text cells n r
-    passing-next e = record { rows = rows-next (c .rows) h w; left = sym (then-go e) ∙ bad-row (c .rows) h w ∙ c .left }
+    passing-next e = record { rows = rows-next (c .rows) h w; left = sym (orElse-go e) ∙ bad-row (c .rows) h w ∙ c .left }
 
 -- ---- the walk over statements that none refuses
 
@@ -103,13 +103,13 @@ module _ {text cells : List ℕ} {n at : ℕ} (c : StmtsAt text cells n at) wher
 
   module _ {r : ℕ} (h : at < n) (w : RowTo cells at n r) where
     -- the row's statement, then the others
-    pub stmts-are : stmtsFrom text cells n at ≡ stmts (said text cells (statementAt text cells at r) ∷ map rowStmt (rowsFrom text cells n r))
-    stmts-are = sym (row-said (c .rows) h w stmts)
+    pub stmts-are : stmtsFrom text cells n at ≡ stmts (parsedFrom text cells (statementAt text cells at r) ∷ map rowStmt (rowsFrom text cells n r))
+    stmts-are = sym (row-parsedFrom (c .rows) h w stmts)
 
     -- the row's statement is no refusal
-    pub stmts-said : refusalIn (statementAt text cells at r) ≡ Fine
-    stmts-said = then-left _ (firstBad (map rowStmt (rowsFrom text cells n r))) (bad-row (c .rows) h w ∙ c .good)
+    pub stmts-parsedFrom : refusalIn (statementAt text cells at r) ≡ Fine
+    stmts-parsedFrom = orElse-left _ (firstBad (map rowStmt (rowsFrom text cells n r))) (bad-row (c .rows) h w ∙ c .good)
 
     -- the others
     pub stmts-next : StmtsAt text cells n r
-    stmts-next = record { rows = rows-next (c .rows) h w; good = then-right (refusalIn (statementAt text cells at r)) _ (bad-row (c .rows) h w ∙ c .good) }
+    stmts-next = record { rows = rows-next (c .rows) h w; good = orElse-right (refusalIn (statementAt text cells at r)) _ (bad-row (c .rows) h w ∙ c .good) }

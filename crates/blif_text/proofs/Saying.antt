@@ -10,7 +10,7 @@ use borrow.Author.Tests.{eqb-false, leb-true, lt-leb, ne-eqb, ltb-true, not-true
 use Rattle.lists.specs.Lists.{Bytes, bytes, same, all, any}
 use Rattle.lists.proofs.Tests.{and-left, and-right, and-false}
 use Rattle.lists.proofs.Every.{Every, every-nil, every-cons, every-append, every-of, every-test, every-no, any-append}
-use Rattle.refusals.specs.Order.{_then_}
+use Rattle.refusals.specs.Order.{_orElse_}
 use Rattle.refusals.specs.declared.Checked.the-variants.{Fine}
 use Rattle.blif_text.specs.Lines.{cut, continues, joined, isBlank, nonEmpty, tokens}
 use Rattle.blif_text.specs.Keywords.{keywordOf}
@@ -159,6 +159,6 @@ stmts-ok [] = refl
 stmts-ok (s ∷ ss) = ap (λ (l : List Stmt). s ∷ l) (stmts-ok ss)
 
 pub none-bad : (ss : List Stmt) → firstBad (map ok ss) ≡ Fine
-unfolding firstBad _then_
+unfolding firstBad _orElse_
 none-bad [] = refl
 none-bad (s ∷ ss) = none-bad ss

@@ -7,9 +7,9 @@ use native.Mathlib.Numerals.{add-one}
 use native.Mathlib.Omega.{arith}
 use lib.ListN.{length, getD, take, set, length-set}
 use borrow.Author.Tests.{ne-eqb}
-use Rattle.lists.specs.Lists.{over, overAt}
-use Rattle.lists.proofs.Over.{length-over, take-over}
-use Rattle.lists.proofs.OverAt.{overAt-nil, over-first}
+use Rattle.lists.specs.Lists.{overwrite, overwriteAt}
+use Rattle.lists.proofs.Over.{length-overwrite, take-overwrite}
+use Rattle.lists.proofs.OverAt.{overwriteAt-nil, overwrite-first}
 use Rattle.lists.proofs.Tests.{by-order}
 use Rattle.blif_text.specs.Places.{tokenCell, tokenCells, TokensMarked}
 use Rattle.blif_text.specs.Scan.{endsWord, NoneTo, FirstTo, SpacesTo, LineAfter, StopTo, at-lf, cellsFrom, ScanAt, Scanned, WordPut}
@@ -28,7 +28,7 @@ scan-then a b = record { ready = b .ready; same-count = b .same-count ∙ a .sam
 module _ {text cells : List ℕ} {i count : ℕ} {fresh : Bool} where
   -- nothing is marked
   scan-on : {next : ℕ} {first : Bool} → ScanAt text cells next count → cellsFrom text i fresh ≡ cellsFrom text next first → Scanned text cells i count fresh cells next count first
-  scan-on s e = record { ready = s; same-count = ap (λ (l : List ℕ). count + length l) (sym e); same-cells = ap (λ (l : List ℕ). overAt count l cells) (sym e) }
+  scan-on s e = record { ready = s; same-count = ap (λ (l : List ℕ). count + length l) (sym e); same-cells = ap (λ (l : List ℕ). overwriteAt count l cells) (sym e) }
 
   -- a word is marked
   pub scan-put : {end next : ℕ} {cells′ : List ℕ} {at′ count′ : ℕ} {fresh′ : Bool} → WordPut cells i count fresh end next cells′ at′ count′ fresh′
@@ -40,7 +40,7 @@ module _ {text cells : List ℕ} {i count : ℕ} {fresh : Bool} where
       record {
         ready = record { small = s .small; room = omega (arith, length-set cells count x, s .room); high = s .high; few = s .few; fewer = s .fewer };
         same-count = omega (arith, ap length e);
-        same-cells = rw (e, add-one count) (sym (over-first count x (cellsFrom text next false) cells));
+        same-cells = rw (e, add-one count) (sym (overwrite-first count x (cellsFrom text next false) cells));
       }
 
 module _ {text cells : List ℕ} {i count : ℕ} (c : ScanAt text cells i count) (h : i < length text) where
@@ -122,9 +122,9 @@ module _ {text cells cells′ : List ℕ} {i count : ℕ} {fresh : Bool} (c : Sc
   all-counted = omega (arith, ap length none-left, c .same-count)
 
   -- every cell
-  pub scan-cells : cells′ ≡ over (tokenCells text) cells
+  pub scan-cells : cells′ ≡ overwrite (tokenCells text) cells
   unfolding tokenCells cellsFrom
-  scan-cells = sym (ap (λ (l : List ℕ). overAt count l cells′) none-left ∙ overAt-nil count cells′) ∙ c .same-cells
+  scan-cells = sym (ap (λ (l : List ℕ). overwriteAt count l cells′) none-left ∙ overwriteAt-nil count cells′) ∙ c .same-cells
 
   few : count ≤ 16384
   few = omega (arith, c .ready .few, c .ready .high, c .ready .small)
@@ -132,7 +132,7 @@ module _ {text cells cells′ : List ℕ} {i count : ℕ} {fresh : Bool} (c : Sc
   front : take count cells′ ≡ tokenCells text
   front =
       ap₂ take all-counted scan-cells
-      ∙ take-over (tokenCells text) cells (omega (arith, all-counted, few, c .ready .room, ap length scan-cells, length-over (tokenCells text) cells))
+      ∙ take-overwrite (tokenCells text) cells (omega (arith, all-counted, few, c .ready .room, ap length scan-cells, length-overwrite (tokenCells text) cells))
 
   pub scan-done : TokensMarked text cells′ count
   scan-done = tokens-marked text (c .ready .small) all-counted front few

@@ -14,7 +14,7 @@ use Rattle.blif_text.specs.Statements as stmt
 use Rattle.blif_text.specs.Rows.{rowStmt}
 use Rattle.blif_text.specs.Places.{tokenOf, tokensOf}
 use Rattle.blif_text.specs.Keywords.{keywordOf}
-use Rattle.blif_text.specs.PlacedStatements.{said, statementOf, statementAt}
+use Rattle.blif_text.specs.PlacedStatements.{parsedFrom, statementOf, statementAt}
 use Rattle.blif_text.specs.declared.Keyword.{Keyword}
 use Rattle.blif_text.specs.declared.Keyword.the-variants as key
 use Rattle.blif_text.specs.declared.Statement.the-variants as place
@@ -113,7 +113,7 @@ module _ (text cells : List ℕ) {at end : ℕ} (h : at < end) (r : end ≤ leng
       ap (tokensOf text) (ap (λ (k : ℕ). take k (drop (at + 1) cells)) q ∙ sym (drop-take (at + 1) end cells))
 
   -- `.model` with a name, and without one
-  says-model : said text cells (statementOf key.Model at end) ≡ modelStmt names
+  says-model : parsedFrom text cells (statementOf key.Model at end) ≡ modelStmt names
   says-model =
       by-order 1 (end - at - 1)
       (λ m.
@@ -142,7 +142,7 @@ module _ (text cells : List ℕ) {at end : ℕ} (h : at < end) (r : end ≤ leng
       ∙ latch-one (tokenOf text (getD cells (at + 1) 0))))
 
   -- by the keyword
-  says : (k : Keyword) → said text cells (statementOf k at end) ≡ byKeyword k first names
+  says : (k : Keyword) → parsedFrom text cells (statementOf k at end) ≡ byKeyword k first names
   says key.Model = says-model
   says key.Inputs = ap (λ (ts : List Bytes). ok (stmt.Stmt.inputs ts)) names-run
   says key.Outputs = ap (λ (ts : List Bytes). ok (stmt.Stmt.outputs ts)) names-run
@@ -156,5 +156,5 @@ module _ (text cells : List ℕ) {at end : ℕ} (h : at < end) (r : end ≤ leng
       ap (λ (ts : List Bytes). ok (stmt.Stmt.cube ts)) (ap (tokensOf text) (sym (drop-take at end cells)) ∙ tokens-cons text cells at end h r)
 
   -- the statement of the row is the row's
-  pub statement-says : said text cells (statementAt text cells at end) ≡ rowStmt (tokensOf text (slice at end cells))
+  pub statement-says : parsedFrom text cells (statementAt text cells at end) ≡ rowStmt (tokensOf text (slice at end cells))
   statement-says = says (keywordOf first) ∙ sym (row-by-keyword text cells at end h r)

@@ -24,16 +24,16 @@ abbrev pub runTokens : Bytes → List ℕ → Run → List Bytes
 runTokens text cells run = tokensOf text (take (run .count) (drop (run .first) cells))
 
 -- what a statement of places says
-abbrev pub said : Bytes → List ℕ → Statement → Parsed
-said text cells place.Model = ok stmt.Stmt.model
-said text cells place.End = ok stmt.Stmt.end
-said text cells place.Exdc = ok stmt.Stmt.exdc
-said text cells (place.Inputs run) = ok (stmt.Stmt.inputs (runTokens text cells run))
-said text cells (place.Outputs run) = ok (stmt.Stmt.outputs (runTokens text cells run))
-said text cells (place.Names run) = ok (stmt.Stmt.names (runTokens text cells run))
-said text cells (place.Latch first) = ok (stmt.Stmt.latch (tokenOf text (getD cells first 0)) (tokenOf text (getD cells (first + 1) 0)))
-said text cells (place.Cube run) = ok (stmt.Stmt.cube (runTokens text cells run))
-said text cells (place.Refused r) = bad r
+abbrev pub parsedFrom : Bytes → List ℕ → Statement → Parsed
+parsedFrom text cells place.Model = ok stmt.Stmt.model
+parsedFrom text cells place.End = ok stmt.Stmt.end
+parsedFrom text cells place.Exdc = ok stmt.Stmt.exdc
+parsedFrom text cells (place.Inputs run) = ok (stmt.Stmt.inputs (runTokens text cells run))
+parsedFrom text cells (place.Outputs run) = ok (stmt.Stmt.outputs (runTokens text cells run))
+parsedFrom text cells (place.Names run) = ok (stmt.Stmt.names (runTokens text cells run))
+parsedFrom text cells (place.Latch first) = ok (stmt.Stmt.latch (tokenOf text (getD cells first 0)) (tokenOf text (getD cells (first + 1) 0)))
+parsedFrom text cells (place.Cube run) = ok (stmt.Stmt.cube (runTokens text cells run))
+parsedFrom text cells (place.Refused r) = bad r
 
 -- a row goes from at to r: of the cells up to n, the one at r is the next that starts a row
 pub record RowTo (cells : List ℕ) (at n r : ℕ) : Type 0 where
@@ -69,4 +69,4 @@ statementAt text cells at end = statementOf (keywordOf (tokenOf text (getD cells
 
 -- the refusal that a statement of places is, if it is one
 abbrev pub refusalIn : Statement → Checked
-refusalIn s = refusalOf (said [] [] s)
+refusalIn s = refusalOf (parsedFrom [] [] s)

@@ -6,7 +6,7 @@ use mathlib.Core.Logic.{_⊎_}
 use Prim.Native.Nat.{ℕ, _+_, _-_, _*_, _≤_, _<_}
 use lib.Dec.{eqb}
 use lib.ListN.{length, getD, set}
-use Rattle.lists.specs.Lists.{Bytes, overAt}
+use Rattle.lists.specs.Lists.{Bytes, overwriteAt}
 use Rattle.blif_text.specs.Lines.{isBlank}
 use Rattle.blif_text.specs.PlaceRows.{placeLines, placeRows}
 use Rattle.blif_text.specs.Places.{maxText, maxTokens, tokenCell, isFirst, rowsCells}
@@ -99,7 +99,7 @@ pub record Scanned (text cells : List ℕ) (i count : ℕ) (fresh : Bool) (cells
   -- as many tokens
   pub same-count : count′ + length (cellsFrom text i′ fresh′) ≡ count + length (cellsFrom text i fresh)
   -- the same cells
-  pub same-cells : overAt count′ (cellsFrom text i′ fresh′) cells′ ≡ overAt count (cellsFrom text i fresh) cells
+  pub same-cells : overwriteAt count′ (cellsFrom text i′ fresh′) cells′ ≡ overwriteAt count (cellsFrom text i fresh) cells
 
 -- a word is put: its cell stands behind the others, and the scan goes on at next
 pub record WordPut (cells : List ℕ) (at count : ℕ) (fresh : Bool) (end next : ℕ) (cells′ : List ℕ) (at′ count′ : ℕ) (fresh′ : Bool) : Type 0 where

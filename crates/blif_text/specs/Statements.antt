@@ -1,7 +1,7 @@
 -- Statements of a text, and refusals 4 and 5 (document 01, src/io/blif.rs). Assumes nothing: these are definitions.
 use mathlib.Core.List.{List, [], _∷_, map, flatMap}
 use Rattle.lists.specs.Lists.{Bytes}
-use Rattle.refusals.specs.Order.{_then_}
+use Rattle.refusals.specs.Order.{_orElse_}
 use Rattle.refusals.specs.declared.Refusal.{Refusal}
 use Rattle.refusals.specs.declared.Refusal.the-variants as refusal
 use Rattle.refusals.specs.declared.Checked.{Checked}
@@ -67,7 +67,7 @@ refusalOf (bad r) = Refused r
 -- "Then by statement in text order: 4 .. 5": the first refusal
 unfoldable pub firstBad : List Parsed → Checked
 firstBad [] = Fine
-firstBad (p ∷ ps) = refusalOf p then firstBad ps
+firstBad (p ∷ ps) = refusalOf p orElse firstBad ps
 
 -- the good ones
 unfoldable pub stmts : List Parsed → List Stmt

@@ -9,7 +9,7 @@ ghost use mathlib.Core.List.{[], _∷_};
 ghost use Prim.Native.Nat.{_+_, _*_, _≤_, _<_};
 ghost use lib.ListN.{length, getD};
 ghost use lib.Seq.{slice};
-ghost use Rattle.lists.specs.Lists.{any, over, overAt};
+ghost use Rattle.lists.specs.Lists.{any, overwrite, overwriteAt};
 ghost use Rattle.blif_text.specs.Lines.{isBlank};
 ghost use Rattle.blif_text.specs.Places.{maxText, maxTokens, tokenCell, isFirst, tokenStart, tokenLength, InText, tokenOf, tokensOf, tokenCells, TokensMarked};
 ghost use Rattle.blif_text.specs.Keywords.{keywordOf};
@@ -325,7 +325,7 @@ fn mark_step(text: &[u8], cells: &mut [u32], w: Marks) -> Marks
 pub fn mark_tokens(text: &[u8], cells: &mut [u32]) -> usize
     requires { ⌜ (length (now text) ≤ maxText) × (maxTokens ≤ length (now cells)) ⌝ }
     ensures { λ r. ⌜ TokensMarked (now (text .entry)) (now (cells .exit)) r ⌝ }
-    ensures { λ r. ⌜ now (cells .exit) ≡ over (tokenCells (now (text .entry))) (now (cells .entry)) ⌝ }
+    ensures { λ r. ⌜ now (cells .exit) ≡ overwrite (tokenCells (now (text .entry))) (now (cells .entry)) ⌝ }
 {
     let mut w = Marks {
         at: 0,
@@ -499,7 +499,7 @@ pub fn block_at(blocks: &[u32], j: usize) -> Block
 // Writes block j's record.
 pub fn put_block(blocks: &mut [u32], j: usize, block: Block)
     requires { ⌜ (j * blockWidth + 2 < length (now blocks)) × (block .first ≤ maxTokens) × (block .names ≤ maxTokens) × (block .lines ≤ maxTokens) ⌝ }
-    ensures { λ r. ⌜ now (blocks .exit) ≡ overAt (j * blockWidth) (block .first ∷ block .names ∷ block .lines ∷ []) (now (blocks .entry)) ⌝ }
+    ensures { λ r. ⌜ now (blocks .exit) ≡ overwriteAt (j * blockWidth) (block .first ∷ block .names ∷ block .lines ∷ []) (now (blocks .entry)) ⌝ }
 {
     blocks[j * BLOCK_CELLS] = block.first as u32;
     blocks[j * BLOCK_CELLS + 1] = block.names as u32;

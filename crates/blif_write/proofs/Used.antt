@@ -12,7 +12,7 @@ use borrow.Author.Tests.{eqb-true, eqb-false}
 use Rattle.lists.specs.Lists.{Bytes, if_then_else_, filter, range}
 use Rattle.lists.proofs.Places.{flatMap-append}
 use Rattle.lists.proofs.Tests.{by-test, and-true, and-false}
-use Rattle.signal.specs.Signal.{Node, Const, Input, Gated, Signal}
+use Rattle.signal.specs.Signal.{Node, Const, Input, Var, Signal}
 use Rattle.gates.specs.Gate.{Gate}
 use Rattle.network.specs.Net.{Net}
 use Rattle.blif_writing.specs.Names.{nameBytes}
@@ -69,15 +69,15 @@ module _ (pick : Node → Option ℕ) (make : ℕ → Node) (same : (n : Node) (
       all-marks ss (replicate k 0) g (omega (arith, length-replicate {A = ℕ} k 0))
       ∙ ap (λ (x : ℕ). eqb x 0 && not (usedAmong (make g) ss)) (getD-replicate k g 0 0 h)
 
-gate-same : (n : Node) (g : ℕ) → hits (gateOf n) g ≡ sameNode n (Gated g)
+gate-same : (n : Node) (g : ℕ) → hits (gateOf n) g ≡ sameNode n (Var g)
 gate-same Const g = refl
 gate-same (Input i) g = refl
-gate-same (Gated h) g = refl
+gate-same (Var h) g = refl
 
 input-same : (n : Node) (i : ℕ) → hits (inputOf n) i ≡ sameNode n (Input i)
 input-same Const i = refl
 input-same (Input j) i = refl
-input-same (Gated g) i = refl
+input-same (Var g) i = refl
 
 used-append : (n : Node) (a b : List Signal) → usedAmong n (a ++ b) ≡ (usedAmong n a || usedAmong n b)
 used-append n [] b = refl
@@ -124,11 +124,11 @@ mark-passes f mark n e = ap (λ (b : Bool). cond b [] (blockText (inverterBlock 
     go true = refl
     go false = refl
 
-gates-pass : (f : Node → Bool) (marks : List ℕ) (g k : ℕ) → ((i : ℕ) → g ≤ i → i < g + k → eqb (getD marks i 0) 0 ≡ not (f (Gated i)))
-    → gateInverters marks g k ≡ passing f (map Gated (range g k))
+gates-pass : (f : Node → Bool) (marks : List ℕ) (g k : ℕ) → ((i : ℕ) → g ≤ i → i < g + k → eqb (getD marks i 0) 0 ≡ not (f (Var i)))
+    → gateInverters marks g k ≡ passing f (map Var (range g k))
 gates-pass f marks g zero h = refl
 gates-pass f marks g (suc k) h =
-    ap₂ (λ (a b : Bytes). a ++ b) (mark-passes f (getD marks g 0) (Gated g) (h g (omega arith) (omega arith)))
+    ap₂ (λ (a b : Bytes). a ++ b) (mark-passes f (getD marks g 0) (Var g) (h g (omega arith) (omega arith)))
     (gates-pass f marks (suc g) k (λ i l m. h i (omega arith) (omega arith)))
 
 inputs-pass : (f : Node → Bool) (marks : List ℕ) (n : ℕ) → ((i : ℕ) → i < n → eqb (getD marks i 0) 0 ≡ not (f (Input i)))
@@ -150,12 +150,12 @@ inverters-written net {gs} {is} {n} k a b p q =
     ∙ gates-pass f gs 0 (length (net .gates))
     (λ i l m.
     ap (λ (x : List ℕ). eqb (getD x i 0) 0) p
-    ∙ fresh-marks gateOf Gated gate-same ss 1024 i (omega arith)
-    ∙ ap not (inverted-is net (Gated i))))
+    ∙ fresh-marks gateOf Var gate-same ss 1024 i (omega arith)
+    ∙ ap not (inverted-is net (Var i))))
     (inputs-pass f is (net .inputs)
     (λ i l.
     ap (λ (x : List ℕ). eqb (getD x i 0) 0) q
     ∙ fresh-marks inputOf Input input-same ss 256 i (omega arith)
     ∙ ap not (inverted-is net (Input i))))
-    ∙ sym (passing-append f (map Gated (range 0 (length (net .gates)))) (map Input (downTo (net .inputs))))
-    ∙ passing-is f (map Gated (range 0 (length (net .gates))) ++ map Input (downTo (net .inputs)))
+    ∙ sym (passing-append f (map Var (range 0 (length (net .gates)))) (map Input (downTo (net .inputs))))
+    ∙ passing-is f (map Var (range 0 (length (net .gates))) ++ map Input (downTo (net .inputs)))

@@ -9,9 +9,9 @@ use lib.Dec.{ltb}
 use lib.ListN.{length, getD, take, drop, length-append, length-drop, length-replicate}
 use lib.Seq.{take-append-le, length-take-le}
 use borrow.Author.Tests.{lt-ltb, le-ltb}
-use Rattle.lists.specs.Lists.{if_then_else_, Bytes, bytes, zeros, any, over}
+use Rattle.lists.specs.Lists.{if_then_else_, Bytes, bytes, zeros, any, overwrite}
 use Rattle.lists.proofs.Places.{flatMap-append}
-use Rattle.lists.proofs.Over.{length-over, over-is, take-over}
+use Rattle.lists.proofs.Over.{length-overwrite, overwrite-is, take-overwrite}
 use Rattle.lists.proofs.OverAt.{part-is, part-back}
 use Rattle.lists.proofs.Tests.{by-order}
 use Rattle.refusals.specs.declared.Refusal.the-variants as refusal
@@ -101,7 +101,7 @@ module _ (t o q : Bytes) (room end : ℕ) (r : room ≡ min (length o) maxText) 
   room-length = length-take-le room o (omega arith)
 
   left-length : length q ≡ room
-  left-length = ap length (w .out) ∙ length-over t (take room o) ∙ room-length
+  left-length = ap length (w .out) ∙ length-overwrite t (take room o) ∙ room-length
 
   after-length : length (q ++ drop room o) ≡ length o
   after-length = omega (arith, length-append q (drop room o), length-drop room o, left-length)
@@ -121,18 +121,18 @@ module _ (t o q : Bytes) (room end : ℕ) (r : room ≡ min (length o) maxText) 
         ap (λ (k : ℕ). take k (q ++ drop room o)) end-is
         ∙ take-append-le (length t) q (drop room o) (omega (arith, end-is, left-length))
         ∙ ap (take (length t)) (w .out)
-        ∙ take-over t (take room o) (omega (arith, end-is, room-length))
+        ∙ take-overwrite t (take room o) (omega (arith, end-is, room-length))
 
     -- zeros in all of what is left behind the text
     zeros-behind : {z : Bytes} → z ≡ zeros (length (take (length (q ++ drop room o) - end) (drop end (q ++ drop room o))))
-        → take end (q ++ drop room o) ++ (z ++ drop (length (q ++ drop room o) - end) (drop end (q ++ drop room o))) ≡ over t (zeros (length o))
+        → take end (q ++ drop room o) ++ (z ++ drop (length (q ++ drop room o) - end) (drop end (q ++ drop room o))) ≡ overwrite t (zeros (length o))
     zeros-behind {z} e =
         let p : Bytes = q ++ drop room o in
         let k : length (take (length p - end) (drop end p)) ≡ length o - length t =
         ap length (part-is end p) ∙ length-drop end p ∙ omega (arith, after-length, end-is) in
         part-back end p z
         ∙ ap₂ (λ (a b : Bytes). a ++ b) text-kept (e ∙ ap zeros k ∙ sym (drop-zeros (length t) (length o)))
-        ∙ sym (over-is t (zeros (length o)) (omega (arith, end-is, r, length-replicate {A = ℕ} (length o) 0)))
+        ∙ sym (overwrite-is t (zeros (length o)) (omega (arith, end-is, r, length-replicate {A = ℕ} (length o) 0)))
 
 -- the same, where the text is the network's
 module _ (l : Lent) (o : Bytes) {q : Bytes} {room end : ℕ} (w : Writable l) (r : room ≡ min (length o) maxText)

@@ -4,7 +4,7 @@ use mathlib.Core.Bool.{Bool, not, _||_}
 use Prim.Native.Nat.{ℕ}
 use lib.Dec.{ltb}
 use lib.ListN.{length}
-use Rattle.lists.specs.Lists.{if_then_else_, Bytes, zeros, any, over}
+use Rattle.lists.specs.Lists.{if_then_else_, Bytes, zeros, any, overwrite}
 use Rattle.refusals.specs.declared.Refusal.{Refusal}
 use Rattle.refusals.specs.declared.Refusal.the-variants as refusal
 use Rattle.network.specs.Cells.{Lent, netOf, isNetwork}
@@ -31,7 +31,7 @@ refusedText r n = writeOutcome (Refused r) (zeros n)
 
 -- "Success gives the length and zero bytes after it"
 abbrev pub writtenText : Bytes → ℕ → WriteOutcome
-writtenText t n = writeOutcome (Written (length t)) (over t (zeros n))
+writtenText t n = writeOutcome (Written (length t)) (overwrite t (zeros n))
 
 -- "22 when the text is longer than the output slice or than 32,768 bytes"
 abbrev pub tooLong : Bytes → ℕ → Bool

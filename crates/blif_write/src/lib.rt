@@ -55,7 +55,7 @@ fn write_latch(out: &mut [u8], gate: Gate, g: usize) -> usize
 }
 
 // Writes the latch of gate g, and nothing for a combinational gate.
-fn latch_at(out: &mut [u8], gates: &[u32], pins: &[u32], g: usize) -> usize
+fn write_latch_at(out: &mut [u8], gates: &[u32], pins: &[u32], g: usize) -> usize
     requires { ⌜ HeldAt (now gates) (now pins) g ⌝ }
     ensures { λ r. ⌜ Wrote (latchText g (orBuf (gateAt (now (gates .entry)) (now (pins .entry)) g))) (now (out .entry)) (now (out .exit)) r ⌝ }
 {
@@ -87,7 +87,7 @@ fn write_cover(out: &mut [u8], gate: Gate, pins: &[u32], g: usize) -> usize
 }
 
 // Writes the cover of gate g, and nothing for a flip-flop.
-fn cover_at(out: &mut [u8], gates: &[u32], pins: &[u32], g: usize) -> usize
+fn write_cover_at(out: &mut [u8], gates: &[u32], pins: &[u32], g: usize) -> usize
     requires { ⌜ HeldAt (now gates) (now pins) g × (wide (orBuf (gateAt (now gates) (now pins) g)) ≡ false) ⌝ }
     ensures { λ r. ⌜ Wrote (coverText g (orBuf (gateAt (now (gates .entry)) (now (pins .entry)) g))) (now (out .entry)) (now (out .exit)) r ⌝ }
 {
@@ -114,7 +114,7 @@ fn append_latches(out: &mut [u8], at: usize, gates: &[u32], pins: &[u32], n: usi
         if end > out.len() {
             return end;
         }
-        end += latch_at(&mut out[end..], gates, pins, g);
+        end += write_latch_at(&mut out[end..], gates, pins, g);
         g += 1;
     }
     end
@@ -134,7 +134,7 @@ fn append_covers(out: &mut [u8], at: usize, gates: &[u32], pins: &[u32], n: usiz
         if end > out.len() {
             return end;
         }
-        end += cover_at(&mut out[end..], gates, pins, g);
+        end += write_cover_at(&mut out[end..], gates, pins, g);
         g += 1;
     }
     end

@@ -134,7 +134,7 @@ masks-range (suc n) =
     ap doubled (masks-range n) ∙ doubled-range n 0 (2 ^ n) ∙ ap (λ (k : ℕ). map (maskBits (suc n)) (range 0 k)) (sym (pow-succ' 2 n))
 
 -- the parity of a sum
-odd-sum : (b o : ℕ) → b < 2 → (x : Bool) → x ≡ eqb (o % 2) 1 → Rattle.signal.specs.Signal.flip (eqb b 1) x ≡ eqb ((b + o) % 2) 1
+odd-sum : (b o : ℕ) → b < 2 → (x : Bool) → x ≡ eqb (o % 2) 1 → Rattle.signal.specs.Signal.invertIf (eqb b 1) x ≡ eqb ((b + o) % 2) 1
 odd-sum zero o h x e = e ∙ ap (λ (k : ℕ). eqb k 1) (let q : o % 2 ≡ (0 + o) % 2 = omega arith in q)
 odd-sum (suc zero) o h x e =
     by-order 1 (o % 2)

@@ -9,7 +9,7 @@ use lib.ListN.{length, getD, drop, length-map, drop-of-length-le}
 use lib.Seq.{drop-cons}
 use Rattle.lists.specs.Lists.{Bytes, bytes}
 use Rattle.lists.proofs.Places.{flatMap-append}
-use Rattle.signal.specs.Signal.{Gated, Input, Signal, plain, constNode}
+use Rattle.signal.specs.Signal.{Var, Input, Signal, plain, constNode}
 use Rattle.signal.specs.Cell.{sigCell, nodeOf, sigOf, gateCell, inputCell}
 use Rattle.signal.proofs.Cells.{signal-again, small-node, gate-cell, input-cell}
 use Rattle.gates.specs.declared.NaryType.{NaryType}
@@ -25,8 +25,8 @@ use Rattle.blif_write_gates.specs.Blocks.{blockText, fieldText, flopText
 -- ---- signals that the code makes
 
 -- the signal of gate g, or of input i
-pub gate-signal : (c g : ℕ) → g < 1024 → c ≡ gateCell g → sigOf c ≡ plain (Gated g)
-gate-signal c g h e = ap sigOf (e ∙ gate-cell g (omega arith)) ∙ signal-again (plain (Gated g)) (omega arith)
+pub gate-signal : (c g : ℕ) → g < 1024 → c ≡ gateCell g → sigOf c ≡ plain (Var g)
+gate-signal c g h e = ap sigOf (e ∙ gate-cell g (omega arith)) ∙ signal-again (plain (Var g)) (omega arith)
 
 pub input-signal : (c i : ℕ) → i < 256 → c ≡ inputCell i → sigOf c ≡ plain (Input i)
 input-signal c i h e = ap sigOf (e ∙ input-cell i (omega arith)) ∙ signal-again (plain (Input i)) (omega arith)

@@ -7,7 +7,7 @@ use native.Mathlib.Omega.{arith}
 use lib.ListN.{length, getD, take, drop}
 use borrow.Author.Tests.{eq-eqb, ne-eqb}
 use Rattle.lists.specs.Lists.{Bytes, bytes}
-use Rattle.signal.specs.Signal.{Node, Input, Gated, Signal, plain, turned}
+use Rattle.signal.specs.Signal.{Node, Input, Var, Signal, plain, invert}
 use Rattle.signal.specs.Cell.{sigCell, sigOf}
 use Rattle.signal.proofs.Cells.{signal-again, small-node}
 use Rattle.blif_writing.specs.Names.{nameBytes}
@@ -15,22 +15,22 @@ use Rattle.blif_writing.specs.WrittenModel.{inverterBlock}
 use Rattle.blif_writing.specs.Text.{spaced, line}
 use Rattle.blif_write_names.specs.Text.{Wrote, Appended}
 use Rattle.blif_write_names.proofs.Laws.{as-wrote}
-use Rattle.blif_write_names.proofs.Parts.{Going, going-start, going-part, going-done, Parts}
+use Rattle.blif_write_names.proofs.Parts.{NamingSoFar, going-start, going-part, going-done, Parts}
 use Rattle.blif_write_gates.specs.Blocks.{blockText}
 use Rattle.blif_write_inverters.specs.Marks.{inverterAt, gateInverters, inputInverters}
 use Rattle.blif_write_gates.proofs.Texts.{two-names}
 
 -- ---- one inverter
 
-inverter-text : (n : Node) → ((bytes ".names" ++ (32 ∷ nameBytes (plain n))) ++ (32 ∷ nameBytes (turned (plain n)))) ++ bytes "\n0 1\n"
+inverter-text : (n : Node) → ((bytes ".names" ++ (32 ∷ nameBytes (plain n))) ++ (32 ∷ nameBytes (invert (plain n)))) ++ bytes "\n0 1\n"
     ≡ blockText (inverterBlock nameBytes n)
 unfolding line spaced flatMap
 inverter-text n =
-    ap (λ (t : Bytes). t ++ bytes "\n0 1\n") (two-names (nameBytes (plain n)) (nameBytes (turned (plain n))))
-    ∙ sym (append-assoc (bytes ".names" ++ spaced (nameBytes (plain n) ∷ nameBytes (turned (plain n)) ∷ [])) (bytes "\n") (bytes "0 1\n"))
+    ap (λ (t : Bytes). t ++ bytes "\n0 1\n") (two-names (nameBytes (plain n)) (nameBytes (invert (plain n))))
+    ∙ sym (append-assoc (bytes ".names" ++ spaced (nameBytes (plain n) ∷ nameBytes (invert (plain n)) ∷ [])) (bytes "\n") (bytes "0 1\n"))
 
-turned-signal : (b c : ℕ) → c < 2 ^ 32 → b ≡ sigCell (turned (sigOf c)) → sigOf b ≡ turned (sigOf c)
-turned-signal b c h e = ap sigOf e ∙ signal-again (turned (sigOf c)) (small-node c h)
+invert-signal : (b c : ℕ) → c < 2 ^ 32 → b ≡ sigCell (invert (sigOf c)) → sigOf b ≡ invert (sigOf c)
+invert-signal b c h e = ap sigOf e ∙ signal-again (invert (sigOf c)) (small-node c h)
 
 plain-is : (s : Signal) → s .inv ≡ false → s ≡ plain (s .node)
 plain-is s h = λ i. record { node = s .node; inv = h i }
@@ -39,12 +39,12 @@ pub inverter-none : (mark : ℕ) (n : Node) → mark ≡ 0 → [] ≡ inverterAt
 unfolding inverterAt
 inverter-none mark n h = sym (ap (λ (b : Bool). cond b [] (blockText (inverterBlock nameBytes n))) (eq-eqb mark 0 h))
 
-pub inverter-some : (mark b c : ℕ) → (mark ≡ 0 → ⊥) → c < 2 ^ 32 → sigOf c .inv ≡ false → b ≡ sigCell (turned (sigOf c))
+pub inverter-some : (mark b c : ℕ) → (mark ≡ 0 → ⊥) → c < 2 ^ 32 → sigOf c .inv ≡ false → b ≡ sigCell (invert (sigOf c))
     → ((bytes ".names" ++ (32 ∷ nameBytes (sigOf c))) ++ (32 ∷ nameBytes (sigOf b))) ++ bytes "\n0 1\n" ≡ inverterAt mark (sigOf c .node)
 unfolding inverterAt
 inverter-some mark b c h l k e =
     let p : sigOf c ≡ plain (sigOf c .node) = plain-is (sigOf c) k in
-    let q : sigOf b ≡ turned (plain (sigOf c .node)) = turned-signal b c l e ∙ ap turned p in
+    let q : sigOf b ≡ invert (plain (sigOf c .node)) = invert-signal b c l e ∙ ap invert p in
     ap₂ (λ (x y : Signal). ((bytes ".names" ++ (32 ∷ nameBytes x)) ++ (32 ∷ nameBytes y)) ++ bytes "\n0 1\n") p q
     ∙ inverter-text (sigOf c .node)
     ∙ sym (ap (λ (z : Bool). cond z [] (blockText (inverterBlock nameBytes (sigOf c .node)))) (ne-eqb mark 0 h))
@@ -52,7 +52,7 @@ inverter-some mark b c h l k e =
 -- ---- one after the other
 
 -- a gate's inverter is a part of the text of all
-pub gate-parts : (marks : List ℕ) (n : ℕ) → Parts n (gateInverters marks) (λ (g : ℕ). inverterAt (getD marks g 0) (Gated g))
+pub gate-parts : (marks : List ℕ) (n : ℕ) → Parts n (gateInverters marks) (λ (g : ℕ). inverterAt (getD marks g 0) (Var g))
 gate-parts marks n = record { more = λ g k h. refl; none = λ g h. refl }
 
 -- the signal that the code makes of a node
@@ -66,7 +66,7 @@ module _ {s : Signal} {n : Node} (e : s ≡ plain n) where
 -- the inverters of the inputs from i on are written, downwards
 pub record InputsTurned (marks : List ℕ) (n : ℕ) (o : Bytes) (a : ℕ) (p : Bytes) (at i : ℕ) : Type 0 where
   pub within : i ≤ n
-  pub going : Going (inputInverters marks n) (inputInverters marks i) o a p at
+  pub going : NamingSoFar (inputInverters marks n) (inputInverters marks i) o a p at
 
 pub inputs-start : {marks : List ℕ} {n : ℕ} {o : Bytes} {a : ℕ} → a ≤ length o → InputsTurned marks n o a o a n
 inputs-start h = record { within = omega arith; going = going-start refl h }

@@ -6,7 +6,7 @@ use mathlib.Core.Option.{Option, none, some}
 use Prim.Native.Nat.{ℕ}
 use lib.ListN.{length, set, length-set}
 use Rattle.lists.proofs.Laying.{Front, front-start, front-more}
-use Rattle.signal.specs.Signal.{Node, Const, Input, Gated, Signal, inputNode, constNode}
+use Rattle.signal.specs.Signal.{Node, Const, Input, Var, Signal, inputNode, constNode}
 use Rattle.signal.specs.Cell.{nodeOf, sigOf, inputNumber, gateNumber}
 use Rattle.signal.proofs.Cells.{input-number, gate-number}
 use Rattle.blif_write_inverters.specs.Marks.{gateOf, inputOf, marked, markAll, SignalsMarked}
@@ -37,7 +37,7 @@ module _ (c : ℕ) {gs is : List ℕ} {b : Bool} (w : b ≡ sigOf c .inv) where
   pub mark-gated : {i k : Bool} {n : ℕ} {gs' : List ℕ} → b ≡ true → i ≡ inputNode (nodeOf c) → i ≡ false → k ≡ constNode (nodeOf c) → k ≡ false
       → n ≡ gateNumber c → gs' ≡ set gs n 1 → SignalsMarked (sigOf c ∷ []) gs is gs' is
   mark-gated t d e f g h k =
-      marked-as true (Gated (gateNumber c)) (k ∙ ap (λ (n : ℕ). set gs n 1) h) refl (sigOf c) (sym w ∙ t)
+      marked-as true (Var (gateNumber c)) (k ∙ ap (λ (n : ℕ). set gs n 1) h) refl (sigOf c) (sym w ∙ t)
       (gate-number c (gate-left (nodeOf c) (sym f ∙ g) (sym d ∙ e)))
 
 -- ---- signals one after the other

@@ -8,7 +8,7 @@ use Prim.Native.Nat.{ℕ, zero, suc}
 use lib.Dec.{eqb}
 use lib.ListN.{getD, set}
 use Rattle.lists.specs.Lists.{Bytes}
-use Rattle.signal.specs.Signal.{Node, Const, Input, Gated, Signal}
+use Rattle.signal.specs.Signal.{Node, Const, Input, Var, Signal}
 use Rattle.gates.specs.Gate.{Gate}
 use Rattle.blif_writing.specs.Names.{nameBytes}
 use Rattle.blif_writing.specs.WrittenModel.{named, inverterBlock}
@@ -18,13 +18,13 @@ use Rattle.blif_write_gates.specs.Blocks.{blockText}
 abbrev pub gateOf : Node → Option ℕ
 gateOf Const = none
 gateOf (Input i) = none
-gateOf (Gated g) = some g
+gateOf (Var g) = some g
 
 -- the number of an input
 abbrev pub inputOf : Node → Option ℕ
 inputOf Const = none
 inputOf (Input i) = some i
-inputOf (Gated g) = none
+inputOf (Var g) = none
 
 -- the marks after a signal: one more is set where the signal is inverted and has a number
 abbrev pub marked : Bool → Option ℕ → List ℕ → List ℕ
@@ -56,7 +56,7 @@ inverterAt mark n = cond (eqb mark 0) [] (blockText (inverterBlock nameBytes n))
 -- the inverters of k gates from gate g on: "gates upwards"
 abbrev pub gateInverters : List ℕ → ℕ → ℕ → Bytes
 gateInverters marks g zero = []
-gateInverters marks g (suc k) = inverterAt (getD marks g 0) (Gated g) ++ gateInverters marks (suc g) k
+gateInverters marks g (suc k) = inverterAt (getD marks g 0) (Var g) ++ gateInverters marks (suc g) k
 
 -- the inverters of n inputs: "then inputs downwards"
 abbrev pub inputInverters : List ℕ → ℕ → Bytes

@@ -7,7 +7,7 @@ use native.Mathlib.Omega.{arith}
 use borrow.Author.Tests.{lt-ltb, le-ltb}
 use Rattle.lists.specs.Lists.{Bytes, bytes}
 use Rattle.lists.proofs.Tests.{by-order}
-use Rattle.signal.specs.Signal.{Node, Const, Input, Gated, inputNode, constNode, gateNode}
+use Rattle.signal.specs.Signal.{Node, Const, Input, Var, inputNode, constNode, gateNode}
 use Rattle.signal.specs.Cell.{nodeOf, sigOf, inputNumber, gateNumber}
 use Rattle.signal.proofs.Cells.{input-number, gate-number}
 use Rattle.blif_writing.specs.Names.{decimalBefore, decimal, suffix, nodeBytes, nameBytes}
@@ -123,8 +123,8 @@ zero-digit n e = ap (λ (k : ℕ). decimal k []) (sym e)
 -- ---- names
 
 -- a letter and a number, with `_n` behind them if inverted
-pub turned-name : (l n : ℕ) (v : Bool) → v ≡ true → (l ∷ decimal n []) ++ bytes "_n" ≡ l ∷ decimal n (suffix v)
-turned-name l n v e = ap (λ (s : Bytes). l ∷ s) (decimal-then n (bytes "_n") ∙ ap (λ (b : Bool). decimal n (suffix b)) (sym e))
+pub invert-name : (l n : ℕ) (v : Bool) → v ≡ true → (l ∷ decimal n []) ++ bytes "_n" ≡ l ∷ decimal n (suffix v)
+invert-name l n v e = ap (λ (s : Bytes). l ∷ s) (decimal-then n (bytes "_n") ∙ ap (λ (b : Bool). decimal n (suffix b)) (sym e))
 
 pub plain-name : (l n : ℕ) (v : Bool) → v ≡ false → l ∷ decimal n [] ≡ l ∷ decimal n (suffix v)
 plain-name l n v e = ap (λ (b : Bool). l ∷ decimal n (suffix b)) (sym e)
@@ -132,12 +132,12 @@ plain-name l n v e = ap (λ (b : Bool). l ∷ decimal n (suffix b)) (sym e)
 pub const-is : (n : Node) → constNode n ≡ true → n ≡ Const
 const-is Const e = refl
 const-is (Input i) e = absurd (false≢true e)
-const-is (Gated g) e = absurd (false≢true e)
+const-is (Var g) e = absurd (false≢true e)
 
 pub gate-left : (n : Node) → constNode n ≡ false → inputNode n ≡ false → gateNode n ≡ true
 gate-left Const d e = absurd (true≢false d)
 gate-left (Input i) d e = absurd (true≢false e)
-gate-left (Gated g) d e = refl
+gate-left (Var g) d e = refl
 
 -- the name of a cell's signal, by what the cell is
 module _ (c : ℕ) {v : Bool} (w : v ≡ sigOf c .inv) where
@@ -153,6 +153,6 @@ module _ (c : ℕ) {v : Bool} (w : v ≡ sigOf c .inv) where
   pub gate-name : {a b : Bool} {g : ℕ} → a ≡ constNode (nodeOf c) → a ≡ false → b ≡ inputNode (nodeOf c) → b ≡ false → g ≡ gateNumber c
       → 120 ∷ decimal g (suffix v) ≡ nameBytes (sigOf c)
   gate-name k f d t e =
-      ap (λ (g : ℕ). nodeBytes (Gated g) v) e
+      ap (λ (g : ℕ). nodeBytes (Var g) v) e
       ∙ ap (λ (n : Node). nodeBytes n v) (sym (gate-number c (gate-left (nodeOf c) (sym k ∙ f) (sym d ∙ t))))
       ∙ ap (nodeBytes (nodeOf c)) w

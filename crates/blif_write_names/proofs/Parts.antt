@@ -7,7 +7,7 @@ use native.Mathlib.Numerals.{add-one}
 use native.Mathlib.Omega.{arith}
 use lib.ListN.{length, take, drop, set, length-take, length-drop}
 use Rattle.lists.specs.Lists.{Bytes}
-use Rattle.lists.proofs.Laying.{over-end, Laying, laying-start, laying-next, laying-done, laying-full, Front, front-start, front-more, front-all}
+use Rattle.lists.proofs.Laying.{overwrite-end, Laying, laying-start, laying-next, laying-done, laying-full, Front, front-start, front-more, front-all}
 use Rattle.blif_write_names.specs.Text.{Wrote, Appended}
 use Rattle.blif_write_names.proofs.Laws.{append-none, append-room, append-kept, and-append, as-text}
 
@@ -42,21 +42,21 @@ module _ {s o left p : Bytes} {i : ℕ} (c : Putting s o left p i) where
 -- ---- part after part
 
 -- of the text w, all but `left` is written from place a of o on, which is p now; `at` is the place after it
-abbrev pub Going : Bytes → Bytes → Bytes → ℕ → Bytes → ℕ → Type 0
-Going w left o a p at = Front (λ (t : Bytes). Appended t o a p at) left w
+abbrev pub NamingSoFar : Bytes → Bytes → Bytes → ℕ → Bytes → ℕ → Type 0
+NamingSoFar w left o a p at = Front (λ (t : Bytes). Appended t o a p at) left w
 
-pub going-start : {w left o : Bytes} {a : ℕ} → left ≡ w → a ≤ length o → Going w left o a o a
+pub going-start : {w left o : Bytes} {a : ℕ} → left ≡ w → a ≤ length o → NamingSoFar w left o a o a
 going-start e h = front-start (append-none h) e
 
-module _ {w left o p : Bytes} {a at : ℕ} (g : Going w left o a p at) where
+module _ {w left o p : Bytes} {a at : ℕ} (g : NamingSoFar w left o a p at) where
   pub going-kept : length p ≡ length o
   going-kept = append-kept (g .has)
 
-  pub going-append : {s rest q : Bytes} {r : ℕ} → left ≡ s ++ rest → Appended s p at q r → Going w rest o a q r
+  pub going-append : {s rest q : Bytes} {r : ℕ} → left ≡ s ++ rest → Appended s p at q r → NamingSoFar w rest o a q r
   going-append {s} e v = front-more s e (λ t u. and-append u v) g
 
   pub going-part : {s rest q : Bytes} {r : ℕ} → left ≡ s ++ rest → at ≤ length p → Wrote s (take (length p - at) (drop at p)) q r
-      → Going w rest o a (take at p ++ (q ++ drop (length p - at) (drop at p))) (at + r)
+      → NamingSoFar w rest o a (take at p ++ (q ++ drop (length p - at) (drop at p))) (at + r)
   going-part e h v = going-append e (append-room h v)
 
   -- the place after a part is at most one past the end
@@ -67,7 +67,7 @@ module _ {w left o p : Bytes} {a at : ℕ} (g : Going w left o a p at) where
   pub going-full : length p < at → Appended w o a p at
   going-full h =
       let k : length p ≡ length o = going-kept in
-      let v : Appended left p at p at = record { out = sym (over-end at left p (omega arith)); len = omega (arith, g .has .len) } in
+      let v : Appended left p at p at = record { out = sym (overwrite-end at left p (omega arith)); len = omega (arith, g .has .len) } in
       as-text (g .whole) (and-append (g .has) v)
 
   -- nothing is left
@@ -84,7 +84,7 @@ pub record Parts (n : ℕ) (f : ℕ → ℕ → Bytes) (part : ℕ → Bytes) : 
 -- the parts before part i are written
 pub record Before (f : ℕ → ℕ → Bytes) (n : ℕ) (o : Bytes) (a : ℕ) (p : Bytes) (at i : ℕ) : Type 0 where
   pub within : i ≤ n
-  pub going : Going (f 0 n) (f i (n - i)) o a p at
+  pub going : NamingSoFar (f 0 n) (f i (n - i)) o a p at
 
 pub before-start : {f : ℕ → ℕ → Bytes} {n : ℕ} {o : Bytes} {a : ℕ} → a ≤ length o → Before f n o a o a 0
 before-start {f} {n} h = record { within = omega arith; going = going-start (ap (f 0) (sub-zero n)) h }

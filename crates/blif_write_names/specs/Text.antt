@@ -4,20 +4,20 @@ use mathlib.Core.Path.{_≡_}
 use mathlib.Core.List.{[], _∷_, _++_}
 use Prim.Native.Nat.{ℕ, zero, suc, _+_, _/_, _%_, min}
 use lib.ListN.{length}
-use Rattle.lists.specs.Lists.{Bytes, over, overAt}
+use Rattle.lists.specs.Lists.{Bytes, overwrite, overwriteAt}
 use Rattle.blif_writing.specs.Names.{decimal}
 
 -- a writer of the text t was lent the slice o, left p in it and gave back r
 pub record Wrote (t o p : Bytes) (r : ℕ) : Type 0 where
   -- the text is laid over the front of the slice, cut where the slice ends
-  pub out : p ≡ over t o
+  pub out : p ≡ overwrite t o
   -- "give back the length": the text's, or one more than the slice's where the text is longer
   pub len : r ≡ min (length t) (length o + 1)
 
 -- a writer of the text t at place a of the slice o left p in it and gave back the place r after the text
 pub record Appended (t o : Bytes) (a : ℕ) (p : Bytes) (r : ℕ) : Type 0 where
   -- the text is laid over what is left of the slice
-  pub out : p ≡ overAt a t o
+  pub out : p ≡ overwriteAt a t o
   -- the place after it, or one past the slice's end where the text goes further
   pub len : r ≡ min (a + length t) (length o + 1)
 

@@ -5,7 +5,7 @@ ghost use mathlib.Core.Path.{_≡_};
 ghost use mathlib.Core.List.{[], _∷_, _++_};
 ghost use Prim.Native.Nat.{_/_, _≤_};
 ghost use lib.ListN.{length};
-ghost use Rattle.lists.specs.Lists.{over};
+ghost use Rattle.lists.specs.Lists.{overwrite};
 ghost use Rattle.signal.specs.Signal.{Const};
 ghost use Rattle.signal.specs.Cell.{sigOf};
 ghost use Rattle.blif_writing.specs.Names.{decimal, suffix, nodeBytes, nameBytes};
@@ -14,7 +14,7 @@ ghost use Rattle.blif_write_names.specs.Text.{Wrote, lastDigit, fourOf, 
 // Copies s to the front of out, which is as long or longer.
 fn copy(out: &mut [u8], s: &[u8])
     requires { ⌜ length (now s) ≤ length (now out) ⌝ }
-    ensures { λ _. ⌜ now (out .exit) ≡ over (now (s .entry)) (now (out .entry)) ⌝ }
+    ensures { λ _. ⌜ now (out .exit) ≡ overwrite (now (s .entry)) (now (out .entry)) ⌝ }
 {
     let mut i = 0;
     while i < s.len() {

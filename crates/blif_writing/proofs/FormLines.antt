@@ -9,7 +9,7 @@ use borrow.Author.Tests.{eqb-true}
 use Rattle.lists.specs.Lists.{all}
 use Rattle.lists.proofs.Places.{place-mem}
 use Rattle.lists.proofs.Range.{all-mem}
-use Rattle.signal.specs.Signal.{flip}
+use Rattle.signal.specs.Signal.{invertIf}
 use Rattle.gates.specs.Gate.{allOf, anyOf, odd, formBit, Form, And2, Xor2, And3, Xor3, Maj3, Mux3, AndN, OrN, NandN, NorN, XorN, XnorN, Buf}
 use Rattle.gates.specs.Forms.{canHave}
 use Rattle.blif_meaning.specs.Model.{C0, C1, Line, cubeBit, cubesBit, coverBit}
@@ -85,7 +85,7 @@ mask-mem [] = List·Memᴰ·head refl
 mask-mem (b ∷ bs) = doubled-mem b bs (masks (length bs)) (mask-mem bs)
 
 abbrev bitSame : Bool → Bool → Bool
-bitSame a b = not (flip a b)
+bitSame a b = not (invertIf a b)
 
 same-bit : (a b : Bool) → bitSame a b ≡ true → a ≡ b
 same-bit true true e = refl

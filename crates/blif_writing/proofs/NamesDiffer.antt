@@ -6,7 +6,7 @@ use Prim.Native.Nat.{ℕ, zero, suc, _+_, _-_, _*_, _/_, _%_, _≤_, _<_}
 use native.Mathlib.Omega.{arith}
 use lib.Dec.{leb, ltb}
 use borrow.Author.Tests.{le-leb, ltb-true, ltb-false}
-use Rattle.signal.specs.Signal.{Node, Const, Input, Gated, Signal, plain}
+use Rattle.signal.specs.Signal.{Node, Const, Input, Var, Signal, plain}
 use Rattle.blif_writing.specs.Names.{decimalBefore, suffix, nodeBytes, nameBytes}
 
 -- the number that the digits at the front are, after v, and whether anything follows
@@ -56,7 +56,7 @@ unname (c ∷ cs) =
       | true ↦ plain Const
       | false ↦ elim (leb c 105) [
         | true ↦ signalAt Input (readNum 0 cs)
-        | false ↦ elim (leb c 118) [ true ↦ record { node = Const; inv = true } | false ↦ signalAt Gated (readNum 0 cs) ]
+        | false ↦ elim (leb c 118) [ true ↦ record { node = Const; inv = true } | false ↦ signalAt Var (readNum 0 cs) ]
       ]
     ]
 
@@ -68,4 +68,4 @@ unname-name s = go (s .node) (s .inv)
     go Const true = refl
     go Const false = refl
     go (Input i) v = ap (signalAt Input) (read-decimal (suc i) i (suffix v) (omega arith) ∙ read-suffix i v)
-    go (Gated g) v = ap (signalAt Gated) (read-decimal (suc g) g (suffix v) (omega arith) ∙ read-suffix g v)
+    go (Var g) v = ap (signalAt Var) (read-decimal (suc g) g (suffix v) (omega arith) ∙ read-suffix g v)

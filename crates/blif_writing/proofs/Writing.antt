@@ -8,7 +8,7 @@ use native.Mathlib.Omega.{arith}
 use native.Mathlib.Nat.{zero-add}
 use lib.ListN.{length, getD, getElem?, length-map}
 use borrow.Author.Tests.{eqb-true}
-use Rattle.signal.specs.Signal.{Node, Const, Input, Gated, Signal, flip, plain, turned, oneS, zeroS, constNode}
+use Rattle.signal.specs.Signal.{Node, Const, Input, Var, Signal, invertIf, plain, invert, oneS, zeroS, constNode}
 use Rattle.gates.specs.Gate.{Form, Buf, FlipFlop, Comb, Dff, formBit}
 use Rattle.gates.specs.Forms.{canHave}
 use Rattle.network.specs.Net.{Net, GateIs, Valid, Formed, Loop}
@@ -20,7 +20,7 @@ use Rattle.lists.specs.Lists.{range}
 use Rattle.lists.proofs.Places.{map-on, map-map, map-at}
 use Rattle.blif_writing.proofs.Blocks.{range-at, comb-cases, no-latch, Source, ofDff, ofComb, ofInverter, ofOne, ofZero, source}
 use Rattle.blif_writing.proofs.FormLines.{lines-mean}
-use Rattle.network.proofs.SignalBits.{turned-bit}
+use Rattle.network.proofs.SignalBits.{invert-bit}
 use Rattle.network.proofs.Runs.{Simulates, runs-along}
 use Rattle.network.proofs.OneChoice.{ranked, run-is}
 
@@ -41,11 +41,11 @@ module _ {Name : Type 0} (name : Signal → Name) where
 
     form-bit : (h : Bool) (g : ℕ) (f : Form) (ps : List Signal) → canHave f (length ps) ≡ true → bits g ≡ formBit f (map σ ps) → envOf (gateName name g) ≡ blockBit envOf h (formBlock name g f ps)
     form-bit h g f ps a e =
-        env-name (plain (Gated g)) ∙ e
+        env-name (plain (Var g)) ∙ e
         ∙ sym (lines-mean f (map σ ps) (ap (canHave f) (length-map ps σ) ∙ a))
         ∙ ap₂ (λ (n : ℕ) (bs : List Bool). coverBit (linesOf f n) bs) (length-map ps σ) (sym (env-names ps))
 
-    literal : (i b : Bool) → flip i b ≡ (cubeBit (colOf (not i) ∷ []) (b ∷ []) || false)
+    literal : (i b : Bool) → invertIf i b ≡ (cubeBit (colOf (not i) ∷ []) (b ∷ []) || false)
     literal false false = refl
     literal false true = refl
     literal true false = refl
@@ -54,7 +54,7 @@ module _ {Name : Type 0} (name : Signal → Name) where
     buf-bit : (h : Bool) (g : ℕ) (ps : List Signal) → length ps ≡ 1 → bits g ≡ formBit Buf (map σ ps) → envOf (gateName name g) ≡ blockBit envOf h (bufBlock name g ps)
     buf-bit h g [] a e = absurd (omega arith)
     buf-bit h g (s ∷ []) a e =
-        env-name (plain (Gated g)) ∙ e ∙ literal (s .inv) (nodeBit row bits (s .node))
+        env-name (plain (Var g)) ∙ e ∙ literal (s .inv) (nodeBit row bits (s .node))
         ∙ ap (λ (b : Bool). cubeBit (colOf (not (s .inv)) ∷ []) (b ∷ []) || false) (sym (env-name (bare s)))
     buf-bit h g (s ∷ t ∷ ps) a e = absurd (omega arith)
 
@@ -66,7 +66,7 @@ module _ {Name : Type 0} (name : Signal → Name) where
 
     inverter-bit : (h : Bool) (n : Node) → envOf (target (inverterBlock name n)) ≡ blockBit envOf h (inverterBlock name n)
     inverter-bit h n =
-        env-name (turned (plain n)) ∙ turned-bit row bits (plain n)
+        env-name (invert (plain n)) ∙ invert-bit row bits (plain n)
         ∙ sym (or-false (not (envOf (name (plain n))) && true) ∙ and-true (not (envOf (name (plain n)))) ∙ ap not (env-name (plain n)))
 
   module _ (net : Net) where
@@ -78,7 +78,7 @@ module _ {Name : Type 0} (name : Signal → Name) where
       abbrev gateOr : (ℕ → Bool) → Node → Bool
       gateOr f Const = false
       gateOr f (Input i) = false
-      gateOr f (Gated g) = f g
+      gateOr f (Var g) = f g
 
       module _ (heldN nextN : ℕ → Bool) (heldB : Name → Bool) (row out : List Bool) (h : HoldsName heldN heldB) (c : Clock net heldN row out nextN) where
         abbrev ε : Name → Bool
@@ -89,7 +89,7 @@ module _ {Name : Type 0} (name : Signal → Name) where
 
         block-fits : (b : Block Name) → Source name net b → FitsBlock b
         block-fits b (ofDff g s p q) =
-            subst FitsBlock (sym q) (env-name unname back row (c .bits) (plain (Gated g)) ∙ c .fits g (Dff s) p ∙ sym (h g s p))
+            subst FitsBlock (sym q) (env-name unname back row (c .bits) (plain (Var g)) ∙ c .fits g (Dff s) p ∙ sym (h g s p))
         block-fits b (ofComb g f ps p q) =
             subst FitsBlock (sym q) (comb-bit unname back row (c .bits) (heldB (target (combBlock name g f ps))) g f ps (formed g (Comb f ps) p) (c .fits g (Comb f ps) p))
         block-fits b (ofInverter n m q) = subst FitsBlock (sym q) (inverter-bit unname back row (c .bits) (heldB (target (inverterBlock name n))) n)
@@ -107,18 +107,18 @@ module _ {Name : Type 0} (name : Signal → Name) where
 
         next-gate : (g : ℕ) → next (gateName name g) ≡ nextN g
         unfolding next
-        next-gate g = ap (λ (s : Signal). gateOr nextN (s .node)) (back (plain (Gated g)))
+        next-gate g = ap (λ (s : Signal). gateOr nextN (s .node)) (back (plain (Var g)))
 
         const-value : (v : Bool) (s : Signal) → isConst v s ≡ true → sigBit row (c .bits) s ≡ v
         const-value v s p = go (s .node) refl (s .inv) refl v p
           where
             go : (n : Node) → s .node ≡ n → (i : Bool) → s .inv ≡ i → (u : Bool) → (constNode n && cond u i (not i)) ≡ true → sigBit row (c .bits) s ≡ u
-            go Const e true f true p = λ k. flip (f k) (nodeBit row (c .bits) (e k))
-            go Const e false f false p = λ k. flip (f k) (nodeBit row (c .bits) (e k))
+            go Const e true f true p = λ k. invertIf (f k) (nodeBit row (c .bits) (e k))
+            go Const e false f false p = λ k. invertIf (f k) (nodeBit row (c .bits) (e k))
             go Const e true f false p = absurd (mathlib.Core.Bool.false≢true p)
             go Const e false f true p = absurd (mathlib.Core.Bool.false≢true p)
             go (Input j) e i f u p = absurd (mathlib.Core.Bool.false≢true p)
-            go (Gated j) e i f u p = absurd (mathlib.Core.Bool.false≢true p)
+            go (Var j) e i f u p = absurd (mathlib.Core.Bool.false≢true p)
 
         unless-bit : (v : Bool) (s : Signal) → optBit ε v (unless name v s) ≡ sigBit row (c .bits) s
         unless-bit v s = go (isConst v s) refl

@@ -11,7 +11,7 @@ use lib.ListN.{length, getElem?, length-map, length-replicate}
 use borrow.Author.Tests.{eqb-true, eq-eqb}
 use Rattle.lists.proofs.Range.{range-place}
 use Rattle.gates.specs.Forms.{canHave}
-use Rattle.signal.specs.Signal.{Node, Const, Input, Gated, Signal, plain, turned, oneS, zeroS}
+use Rattle.signal.specs.Signal.{Node, Const, Input, Var, Signal, plain, invert, oneS, zeroS}
 use Rattle.gates.specs.Gate.{Form, And2, Xor2, And3, Xor3, Maj3, Mux3, AndN, OrN, NandN, NorN, XorN, XnorN, Buf, Gate, Comb, Dff, pins, odd}
 use Rattle.network.specs.Net.{Net, GateIs, Formed, Valid, ValidNode}
 use Rattle.blif_meaning.specs.Model.{C0, C1, Block, Latch, Cover, Model, target}
@@ -85,7 +85,7 @@ module _ {Name : Type 0} (name : Signal → Name) where
 same-node : (n : Node) → sameNode n n ≡ true
 same-node Const = refl
 same-node (Input i) = eq-eqb i i refl
-same-node (Gated i) = eq-eqb i i refl
+same-node (Var i) = eq-eqb i i refl
 
 or-left : (a b : Bool) → a ≡ true → (a || b) ≡ true
 or-left a b e = ap (λ (x : Bool). x || b) e
@@ -131,24 +131,24 @@ module _ {Name : Type 0} (name : Signal → Name) where
     node-defined : (n : Node) → ValidNode net n → Defined m (name (plain n))
     node-defined Const v = block-defines (Cover [] (name zeroS) []) (name zeroS) refl (in-const (Cover [] (name zeroS) []) (List·Memᴰ·tail (List·Memᴰ·head refl)))
     node-defined (Input i) v = inl (i, map-place (λ (j : ℕ). name (plain (Input j))) (range 0 (net .inputs)) i i (range-place 0 (net .inputs) i v ∙ ap some (zero-add i)))
-    node-defined (Gated g) v = go (lt-place (net .gates) g v .0) (lt-place (net .gates) g v .1)
+    node-defined (Var g) v = go (lt-place (net .gates) g v .0) (lt-place (net .gates) g v .1)
       where
-        go : (x : Gate) → GateIs net g x → Defined m (name (plain (Gated g)))
+        go : (x : Gate) → GateIs net g x → Defined m (name (plain (Var g)))
         go (Comb f ps) p = block-defines (combBlock name g f ps) (gateName name g) (comb-target name g f ps)
             (Memᴰ·append-right ls (Memᴰ·append-left (is ++ constBlocks name) (Memᴰ·cast (ap (λ (n : ℕ). combBlock name n f ps) (sym (zero-add g))) (comb-in name 0 (net .gates) g f ps p))))
         go (Dff s) p = block-defines (Latch (feedOf name s) (gateName name g)) (gateName name g) refl
             (Memᴰ·append-left (cs ++ (is ++ constBlocks name)) (Memᴰ·cast (ap (λ (n : ℕ). Latch (feedOf name s) (gateName name n)) (sym (zero-add g))) (latch-in name 0 (net .gates) g s p)))
 
-    node-listed : (n : Node) → ValidNode net n → (n ≡ Const → ⊥) → List·Memᴰ n (map Gated (range 0 (length (net .gates))) ++ map Input (downTo (net .inputs)))
+    node-listed : (n : Node) → ValidNode net n → (n ≡ Const → ⊥) → List·Memᴰ n (map Var (range 0 (length (net .gates))) ++ map Input (downTo (net .inputs)))
     node-listed Const v h = absurd (h refl)
-    node-listed (Input i) v h = Memᴰ·append-right (map Gated (range 0 (length (net .gates)))) (Memᴰ·map Input (downTo-mem (net .inputs) i v))
-    node-listed (Gated g) v h = Memᴰ·append-left (map Input (downTo (net .inputs)))
-        (Memᴰ·map Gated (place-mem (range 0 (length (net .gates))) g g (range-place 0 (length (net .gates)) g v ∙ ap some (zero-add g))))
+    node-listed (Input i) v h = Memᴰ·append-right (map Var (range 0 (length (net .gates)))) (Memᴰ·map Input (downTo-mem (net .inputs) i v))
+    node-listed (Var g) v h = Memᴰ·append-left (map Input (downTo (net .inputs)))
+        (Memᴰ·map Var (place-mem (range 0 (length (net .gates))) g g (range-place 0 (length (net .gates)) g v ∙ ap some (zero-add g))))
 
-    inverter-defined : (n : Node) → ValidNode net n → (n ≡ Const → ⊥) → inverted net n ≡ true → Defined m (name (turned (plain n)))
+    inverter-defined : (n : Node) → ValidNode net n → (n ≡ Const → ⊥) → inverted net n ≡ true → Defined m (name (invert (plain n)))
     inverter-defined n v h e =
-        block-defines (inverterBlock name n) (name (turned (plain n))) refl
-        (in-inverters (inverterBlock name n) (Memᴰ·map (inverterBlock name) (filter-mem (inverted net) (map Gated (range 0 (length (net .gates))) ++ map Input (downTo (net .inputs))) n (node-listed n v h) e)))
+        block-defines (inverterBlock name n) (name (invert (plain n))) refl
+        (in-inverters (inverterBlock name n) (Memᴰ·map (inverterBlock name) (filter-mem (inverted net) (map Var (range 0 (length (net .gates))) ++ map Input (downTo (net .inputs))) n (node-listed n v h) e)))
 
     signal-defined : (s : Signal) → ValidNode net (s .node) → (s .inv ≡ true → inverted net (s .node) ≡ true) → Defined m (name s)
     signal-defined s v u = go (s .inv) refl (s .node) refl
@@ -159,7 +159,7 @@ module _ {Name : Type 0} (name : Signal → Name) where
             (block-defines (Cover [] (name oneS) (coverRow true [] ∷ [])) (name oneS) refl (in-const (Cover [] (name oneS) (coverRow true [] ∷ [])) (List·Memᴰ·head refl)))
         go true e (Input k) q = subst (λ (t : Signal). Defined m (name t)) (λ i. record { node = s .node; inv = sym e i })
             (inverter-defined (s .node) v (λ w. let z : _≡_ {A = ℕ} 0 1 = cc in omega arith) (u e))
-        go true e (Gated k) q = subst (λ (t : Signal). Defined m (name t)) (λ i. record { node = s .node; inv = sym e i })
+        go true e (Var k) q = subst (λ (t : Signal). Defined m (name t)) (λ i. record { node = s .node; inv = sym e i })
             (inverter-defined (s .node) v (λ w. let z : _≡_ {A = ℕ} 0 1 = cc in omega arith) (u e))
 
     pin-defined : (g : ℕ) (x : Gate) (s : Signal) → GateIs net g x → List·Memᴰ s (pins x) → List·Memᴰ s (named x) → Defined m (name s)
@@ -176,11 +176,11 @@ module _ {Name : Type 0} (name : Signal → Name) where
         (λ f ps e p x w. let t = Memᴰ·of-map name ps w in
         subst (Defined m) (t .2) (pin-defined g (Comb f ps) (t .0) p (t .1) (subst (List·Memᴰ (t .0)) (sym e) (t .1))))
 
-    listed-valid : (n : Node) → List·Memᴰ n (map Gated (range 0 (length (net .gates))) ++ map Input (downTo (net .inputs))) → ValidNode net n
-    listed-valid n w = ⊎-elim gates inputs (List·Memᴰ·append-cases (map Gated (range 0 (length (net .gates)))) w)
+    listed-valid : (n : Node) → List·Memᴰ n (map Var (range 0 (length (net .gates))) ++ map Input (downTo (net .inputs))) → ValidNode net n
+    listed-valid n w = ⊎-elim gates inputs (List·Memᴰ·append-cases (map Var (range 0 (length (net .gates)))) w)
       where
-        gates : List·Memᴰ n (map Gated (range 0 (length (net .gates)))) → ValidNode net n
-        gates v = let t = Memᴰ·of-map Gated (range 0 (length (net .gates))) v in subst (ValidNode net) (t .2) (let z = range-mem 0 (length (net .gates)) (t .0) (t .1) in omega (arith, z .1, z .2))
+        gates : List·Memᴰ n (map Var (range 0 (length (net .gates)))) → ValidNode net n
+        gates v = let t = Memᴰ·of-map Var (range 0 (length (net .gates))) v in subst (ValidNode net) (t .2) (let z = range-mem 0 (length (net .gates)) (t .0) (t .1) in omega (arith, z .1, z .2))
 
         inputs : List·Memᴰ n (map Input (downTo (net .inputs))) → ValidNode net n
         inputs v = let t = Memᴰ·of-map Input (downTo (net .inputs)) v in subst (ValidNode net) (t .2) (downTo-lt (net .inputs) (t .0) (t .1))
@@ -200,7 +200,7 @@ module _ {Name : Type 0} (name : Signal → Name) where
         (List·Memᴰ·append-cases (optName (unless name true (s .enable))) v)) (List·Memᴰ·cases-cons w))
     block-sources b (ofComb g f ps p q) = subst SourcesOk (sym q) (comb-sources g f ps p)
     block-sources b (ofInverter n w q) = subst SourcesOk (sym q)
-        (λ x v. subst (Defined m) (sym (List·Memᴰ·eq-of-singleton v)) (node-defined n (listed-valid n (mem-filter (inverted net) (map Gated (range 0 (length (net .gates))) ++ map Input (downTo (net .inputs))) n w))))
+        (λ x v. subst (Defined m) (sym (List·Memᴰ·eq-of-singleton v)) (node-defined n (listed-valid n (mem-filter (inverted net) (map Var (range 0 (length (net .gates))) ++ map Input (downTo (net .inputs))) n w))))
     block-sources b (ofOne q) = subst SourcesOk (sym q) (λ x v. absurd (List·Memᴰ·not-nil v))
     block-sources b (ofZero q) = subst SourcesOk (sym q) (λ x v. absurd (List·Memᴰ·not-nil v))
 

@@ -7,7 +7,7 @@ use mathlib.Core.Logic.{_⊎_, inl, inr, ⊎-elim}
 use Prim.Native.Nat.{ℕ, zero, suc, _+_, _<_}
 use native.Mathlib.Omega.{arith}
 use lib.ListN.{length, getElem?}
-use Rattle.signal.specs.Signal.{Node, Const, Input, Gated, Signal, plain, turned, oneS, zeroS}
+use Rattle.signal.specs.Signal.{Node, Const, Input, Var, Signal, plain, invert, oneS, zeroS}
 use Rattle.gates.specs.Gate.{Gate, Comb, Dff, isComb}
 use Rattle.network.specs.Net.{Net}
 use Rattle.blif_meaning.specs.Model.{target}
@@ -62,25 +62,25 @@ kind s = nodeKind (s .node) (s .inv)
     nodeKind : Node → Bool → ℕ
     nodeKind Const i = 0
     nodeKind (Input n) false = 1
-    nodeKind (Gated n) false = 2
+    nodeKind (Var n) false = 2
     nodeKind (Input n) true = 3
-    nodeKind (Gated n) true = 3
+    nodeKind (Var n) true = 3
 
 abbrev inpS : ℕ → Signal
 inpS i = plain (Input i)
 
 abbrev gateS : ℕ → Signal
-gateS g = plain (Gated g)
+gateS g = plain (Var g)
 
 abbrev invS : Node → Signal
-invS n = turned (plain n)
+invS n = invert (plain n)
 
 kind-of : {A : Type 0} (f : A → Signal) (k : ℕ) → ((a : A) → kind (f a) ≡ k) → (l : List A) (s : Signal) → List·Memᴰ s (map f l) → kind s ≡ k
 kind-of f k h l s m = let t = Memᴰ·of-map f l m in ap kind (sym (t .2)) ∙ h (t .0)
 
 module _ (net : Net) where
   abbrev nodes : List Node
-  nodes = map Gated (range 0 (length (net .gates))) ++ map Input (downTo (net .inputs))
+  nodes = map Var (range 0 (length (net .gates))) ++ map Input (downTo (net .inputs))
 
   abbrev dffS : List Signal
   dffS = map gateS (nums isDff 0 (net .gates))
@@ -99,8 +99,8 @@ module _ (net : Net) where
   defs = map inpS (range 0 (net .inputs)) ++ (dffS ++ (combS ++ (invsS ++ constS)))
 
   listed-kind : (n : Node) → List·Memᴰ n nodes → kind (invS n) ≡ 3
-  listed-kind n m = ⊎-elim (λ w. let t = Memᴰ·of-map Gated (range 0 (length (net .gates))) w in ap (λ (x : Node). kind (invS x)) (sym (t .2)))
-      (λ w. let t = Memᴰ·of-map Input (downTo (net .inputs)) w in ap (λ (x : Node). kind (invS x)) (sym (t .2))) (List·Memᴰ·append-cases (map Gated (range 0 (length (net .gates)))) m)
+  listed-kind n m = ⊎-elim (λ w. let t = Memᴰ·of-map Var (range 0 (length (net .gates))) w in ap (λ (x : Node). kind (invS x)) (sym (t .2)))
+      (λ w. let t = Memᴰ·of-map Input (downTo (net .inputs)) w in ap (λ (x : Node). kind (invS x)) (sym (t .2))) (List·Memᴰ·append-cases (map Var (range 0 (length (net .gates)))) m)
 
   kind-inv : (s : Signal) → List·Memᴰ s invsS → kind s ≡ 3
   kind-inv s m = let t = Memᴰ·of-map invS (inverters net) m in ap kind (sym (t .2)) ∙ listed-kind (t .0) (mem-filter (inverted net) nodes (t .0) (t .1))
@@ -112,17 +112,17 @@ module _ (net : Net) where
   once-const = once-cons (λ w. let e : oneS ≡ zeroS = List·Memᴰ·eq-of-singleton w in let b : true ≡ false = ap (λ (s : Signal). s .inv) e in mathlib.Core.Bool.true≢false b) (once-cons (λ w. List·Memᴰ·not-nil w) once-nil)
 
   once-nodes : Dup nodes → ⊥
-  once-nodes = once-append (map Gated (range 0 (length (net .gates)))) (map Input (downTo (net .inputs)))
-      (once-map Gated (λ x y e. cc) (range 0 (length (net .gates))) (once-range 0 (length (net .gates))))
+  once-nodes = once-append (map Var (range 0 (length (net .gates)))) (map Input (downTo (net .inputs)))
+      (once-map Var (λ x y e. cc) (range 0 (length (net .gates))) (once-range 0 (length (net .gates))))
       (once-map Input (λ x y e. cc) (downTo (net .inputs)) (once-downTo (net .inputs)))
-      (λ n v w. let t = Memᴰ·of-map Gated (range 0 (length (net .gates))) v in let u = Memᴰ·of-map Input (downTo (net .inputs)) w in
-      let z : Gated (t .0) ≡ Input (u .0) = t .2 ∙ sym (u .2) in let y : _≡_ {A = ℕ} 0 1 = cc in omega arith)
+      (λ n v w. let t = Memᴰ·of-map Var (range 0 (length (net .gates))) v in let u = Memᴰ·of-map Input (downTo (net .inputs)) w in
+      let z : Var (t .0) ≡ Input (u .0) = t .2 ∙ sym (u .2) in let y : _≡_ {A = ℕ} 0 1 = cc in omega arith)
 
   tails : (s : Signal) → List·Memᴰ s (invsS ++ constS) → (kind s ≡ 3) ⊎ (kind s ≡ 0)
   tails s m = ⊎-elim (λ w. inl (kind-inv s w)) (λ w. inr (kind-const s w)) (List·Memᴰ·append-cases invsS m)
 
   node-of : (x y : ℕ) → gateS x ≡ gateS y → x ≡ y
-  node-of x y e = let q : Gated x ≡ Gated y = ap (λ (s : Signal). s .node) e in cc
+  node-of x y e = let q : Var x ≡ Var y = ap (λ (s : Signal). s .node) e in cc
 
   comb-dff : (x : Gate) → isDff x ≡ true → isComb x ≡ true → ⊥
   comb-dff (Comb f ps) p q = mathlib.Core.Bool.false≢true p

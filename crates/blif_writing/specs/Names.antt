@@ -4,7 +4,7 @@ use mathlib.Core.List.{[], _∷_}
 use Prim.Native.Nat.{ℕ, zero, suc, _+_, _/_, _%_}
 use lib.Dec.{ltb}
 use Rattle.lists.specs.Lists.{Bytes, bytes}
-use Rattle.signal.specs.Signal.{Node, Const, Input, Gated, Signal}
+use Rattle.signal.specs.Signal.{Node, Const, Input, Var, Signal}
 
 -- n in decimal before s; f is at least the number of its digits
 abbrev pub decimalBefore : ℕ → ℕ → Bytes → Bytes
@@ -25,7 +25,7 @@ abbrev pub nodeBytes : Node → Bool → Bytes
 nodeBytes Const true = bytes "vdd"
 nodeBytes Const false = bytes "gnd"
 nodeBytes (Input i) v = 105 ∷ decimal i (suffix v)
-nodeBytes (Gated g) v = 120 ∷ decimal g (suffix v)
+nodeBytes (Var g) v = 120 ∷ decimal g (suffix v)
 
 -- the name of a signal
 abbrev pub nameBytes : Signal → Bytes

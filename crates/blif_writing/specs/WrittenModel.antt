@@ -7,7 +7,7 @@ use Prim.Native.Nat.{ℕ, zero, suc}
 use lib.Dec.{eqb, ltb}
 use lib.ListN.{length, replicate}
 use Rattle.lists.specs.Lists.{range, filter, elem}
-use Rattle.signal.specs.Signal.{Node, Const, Input, Gated, Signal, plain, zeroS, oneS, turned, constNode}
+use Rattle.signal.specs.Signal.{Node, Const, Input, Var, Signal, plain, zeroS, oneS, invert, constNode}
 use Rattle.gates.specs.Gate.{odd, Form, And2, Xor2, And3, Xor3, Maj3, Mux3, AndN, OrN, NandN, NorN, XorN, XnorN, Buf, FlipFlop, Gate, Comb, Dff, pins}
 use Rattle.gates.specs.Forms.{formNumber, formCell}
 use Rattle.network.specs.Net.{Net}
@@ -67,13 +67,13 @@ linesOf Buf n = coverRow true (C1 ∷ []) ∷ []
 abbrev pub sameNode : Node → Node → Bool
 sameNode Const Const = true
 sameNode Const (Input j) = false
-sameNode Const (Gated j) = false
+sameNode Const (Var j) = false
 sameNode (Input i) Const = false
 sameNode (Input i) (Input j) = eqb i j
-sameNode (Input i) (Gated j) = false
-sameNode (Gated i) Const = false
-sameNode (Gated i) (Input j) = false
-sameNode (Gated i) (Gated j) = eqb i j
+sameNode (Input i) (Var j) = false
+sameNode (Var i) Const = false
+sameNode (Var i) (Input j) = false
+sameNode (Var i) (Var j) = eqb i j
 
 -- the node is used inverted among these signals
 abbrev pub usedAmong : Node → List Signal → Bool
@@ -101,7 +101,7 @@ downTo (suc n) = n ∷ downTo n
 -- "Inverted non-constant signals at outputs and at inputs of every gate but Buf get one inverter each, in rising signal number: gates
 -- upwards, then inputs downwards"
 abbrev pub inverters : Net → List Node
-inverters net = filter (inverted net) (map Gated (range 0 (length (net .gates))) ++ map Input (downTo (net .inputs)))
+inverters net = filter (inverted net) (map Var (range 0 (length (net .gates))) ++ map Input (downTo (net .inputs)))
 
 -- the signal is the constant one, or the constant zero
 abbrev pub isConst : Bool → Signal → Bool
@@ -116,7 +116,7 @@ bare s = plain (s .node)
 module _ {Name : Type 0} (name : Signal → Name) where
   -- the name of gate g
   abbrev pub gateName : ℕ → Name
-  gateName g = name (plain (Gated g))
+  gateName g = name (plain (Var g))
 
   -- "Buf names its signal without inversion (one becomes `gnd`), then `1 1` or `0 1`"
   abbrev pub bufBlock : ℕ → List Signal → Block Name
@@ -152,7 +152,7 @@ module _ {Name : Type 0} (name : Signal → Name) where
 
   -- "an inverter is `.names s s_n` and `0 1`"
   abbrev pub inverterBlock : Node → Block Name
-  inverterBlock n = Cover (name (plain n) ∷ []) (name (turned (plain n))) (coverRow true (C0 ∷ []) ∷ [])
+  inverterBlock n = Cover (name (plain n) ∷ []) (name (invert (plain n))) (coverRow true (C0 ∷ []) ∷ [])
 
   -- "`vdd`, `gnd`"
   abbrev pub constBlocks : List (Block Name)

@@ -5,8 +5,8 @@ use mathlib.Core.List.{List, [], _∷_, _++_, append-assoc}
 use Prim.Native.Nat.{ℕ}
 use native.Mathlib.Omega.{arith}
 use lib.ListN.{length, length-replicate}
-use Rattle.lists.specs.Lists.{if_then_else_, Bytes, bytes, zeros, any, over}
-use Rattle.lists.proofs.Over.{take-over}
+use Rattle.lists.specs.Lists.{if_then_else_, Bytes, bytes, zeros, any, overwrite}
+use Rattle.lists.proofs.Over.{take-overwrite}
 use Rattle.lists.proofs.Tests.{by-test}
 use Rattle.network.specs.Cells.{Lent, lent, isNetwork, netOf}
 use Rattle.network.specs.declared.Counts.{Counts}
@@ -62,7 +62,7 @@ network-text l n e w =
     let r = length-replicate {A = ℕ} n 0 in
     by-test (tooLong t n)
     (λ q. ap printed (p ∙ ap end q) ∙ ap line (sym q))
-    (λ q. let h = in-slice t n q in ap printed (p ∙ ap end q) ∙ take-over t (zeros n) (omega (arith, h, r)) ∙ ap line (sym q))
+    (λ q. let h = in-slice t n q in ap printed (p ∙ ap end q) ∙ take-overwrite t (zeros n) (omega (arith, h, r)) ∙ ap line (sym q))
 
 from-ways : (a : ReadAnswer) (o : ReadOutcome) (n : ℕ) → Ways n (writtenFrom a o n)
 from-ways (read.Refused k) o n = refuses k refl
@@ -84,10 +84,10 @@ unfolding isText textLength
 text-laid n m x b (refuses k e) h = absurd (true≢false (ap (λ (o : WriteOutcome). isText (o .answer)) (h ∙ e)))
 text-laid n m x b (writes t l short e) h =
     let r = length-replicate {A = ℕ} n 0 in
-    let p : printed x ≡ t = ap printed e ∙ take-over t (zeros n) (omega (arith, r)) in
-    let eb : b ≡ over t (zeros n) = ap (λ (o : WriteOutcome). o .out) (h ∙ e) in
+    let p : printed x ≡ t = ap printed e ∙ take-overwrite t (zeros n) (omega (arith, r)) in
+    let eb : b ≡ overwrite t (zeros n) = ap (λ (o : WriteOutcome). o .out) (h ∙ e) in
     let em : m ≡ length t = ap (λ (o : WriteOutcome). textLength (o .answer)) (h ∙ e) in
-    record { out = eb ∙ ap (λ (s : Bytes). over s (zeros n)) (sym p); len = omega (arith, em, ap length p, r) }
+    record { out = eb ∙ ap (λ (s : Bytes). overwrite s (zeros n)) (sym p); len = omega (arith, em, ap length p, r) }
 
 -- and after a refusal the slice is zero, so that its line alone is
 line-laid : (n : ℕ) (k : Refusal) (x : WriteOutcome) (b p : Bytes) (r : ℕ) → Ways n x → writeOutcome (Refused k) b ≡ x → Wrote (refusedLine k) b p r

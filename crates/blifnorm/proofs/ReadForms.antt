@@ -15,10 +15,10 @@ use Rattle.network.specs.Renumber.{remapGate, placeOf, gateOr, permuted}
 use Rattle.sort_order.proofs.Sorting.{sorted-order}
 use Rattle.blif_text.specs.Decls.{Decl, defs, declsOf}
 use Rattle.blif_meaning.specs.Model.{Line, Block, Latch, Cover}
-use Rattle.blif_reading.specs.Build.{literals, literalGate, lineGate, coverGate, lineGates, blockGate, moreGates, mains, extras}
+use Rattle.blif_reading.specs.Build.{literals, literalGate, lineGate, coverGate, lineGates, blockGate, newGates, blockGates, allNewGates}
 use Rattle.blif_reading.specs.TextModel.{blockOf}
 use Rattle.blif_writing.specs.WrittenModel.{exclusive, maxExclusive, wide}
-use Rattle.blif_reading.specs.Read.{read, look, builtFrom, readText}
+use Rattle.blif_reading.specs.Read.{read, signalOf, builtFrom, readText}
 use Rattle.blif_reading.proofs.Passed.{passed-valid}
 use Rattle.blif_reading.proofs.Accepted.{passed-read}
 
@@ -62,23 +62,23 @@ module _ (find : Bytes → Signal) where
   block-other k (Latch f q) = refl
   block-other k (Cover xs y ls) = cover-other k (map find xs) ls
 
-  more-other : (b : Block Bytes) → NoExclusive (moreGates find b)
+  more-other : (b : Block Bytes) → NoExclusive (newGates find b)
   more-other (Latch f q) = every-nil
   more-other (Cover xs y ls) = lines-other (map find xs) ls
 
-  mains-other : (k : ℕ) (bs : List (Block Bytes)) → NoExclusive (mains find k bs)
-  mains-other k [] = every-nil
-  mains-other k (b ∷ bs) = every-cons (block-other k b) (mains-other (k + length (moreGates find b)) bs)
+  blockGates-other : (k : ℕ) (bs : List (Block Bytes)) → NoExclusive (blockGates find k bs)
+  blockGates-other k [] = every-nil
+  blockGates-other k (b ∷ bs) = every-cons (block-other k b) (blockGates-other (k + length (newGates find b)) bs)
 
-  extras-other : (bs : List (Block Bytes)) → NoExclusive (extras find bs)
-  extras-other [] = every-nil
-  extras-other (b ∷ bs) = every-append (more-other b) (extras-other bs)
+  newGates-other : (bs : List (Block Bytes)) → NoExclusive (allNewGates find bs)
+  newGates-other [] = every-nil
+  newGates-other (b ∷ bs) = every-append (more-other b) (newGates-other bs)
 
 built-other : (ds : List Decl) → NoExclusive (builtFrom ds .gates)
 unfolding builtFrom
 built-other ds =
     let bs : List (Block Bytes) = map blockOf (defs ds) in
-    every-append (mains-other (look ds) (length bs) bs) (extras-other (look ds) bs)
+    every-append (blockGates-other (signalOf ds) (length bs) bs) (newGates-other (signalOf ds) bs)
 
 -- ---- the gates sorted
 

@@ -3,7 +3,7 @@ use mathlib.Core.Path.{_≡_, sym, ap, _∙_}
 use mathlib.Core.Bool.{Bool, true, false}
 use mathlib.Core.List.{map}
 use Prim.Native.Nat.{ℕ}
-use Rattle.lists.specs.Lists.{if_then_else_, Bytes, zeros, any, over}
+use Rattle.lists.specs.Lists.{if_then_else_, Bytes, zeros, any, overwrite}
 use Rattle.signal.specs.Cell.{sigCell}
 use Rattle.refusals.specs.declared.Refusal.{Refusal}
 use Rattle.refusals.specs.declared.Refusal.the-variants as refusal
@@ -34,8 +34,8 @@ module _ (text : Bytes) (ls : Lengths) (n : ℕ) (e : enough ls ≡ true) where
       → printed (normInto text ls n)
       ≡ printed
       (writeInto
-      (lent (countsOf net) (over (gateCells 0 (net .gates)) (zeros (ls .gates))) (over (pinCells (net .gates)) (zeros (ls .pins)))
-      (over (map sigCell (net .outputs)) (zeros (ls .outputs))))
+      (lent (countsOf net) (overwrite (gateCells 0 (net .gates)) (zeros (ls .gates))) (overwrite (pinCells (net .gates)) (zeros (ls .pins)))
+      (overwrite (map sigCell (net .outputs)) (zeros (ls .outputs))))
       n)
   network-printed net q = ap (λ (o : ReadOutcome). printed (writtenFrom (o .answer) o n)) (left q)
 

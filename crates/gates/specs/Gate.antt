@@ -3,7 +3,7 @@ use mathlib.Core.Bool.{Bool, true, false, not, _&&_, _||_, cond}
 use mathlib.Core.List.{List, [], _∷_}
 use Prim.Native.Nat.{ℕ, suc}
 use lib.ListN.{getD}
-use Rattle.signal.specs.Signal.{Signal, flip}
+use Rattle.signal.specs.Signal.{Signal, invertIf}
 
 -- the combinational forms with their types, in document 01's order: "Binary (And, Xor), Ternary (And, Xor, Maj, Mux),
 -- Nary (And, Or, Nand, Nor, Xor, Xnor), Buf"
@@ -55,13 +55,13 @@ anyOf (b ∷ bs) = b || anyOf bs
 -- "Xor an odd number" of ones
 abbrev pub odd : List Bool → Bool
 odd [] = false
-odd (b ∷ bs) = flip b (odd bs)
+odd (b ∷ bs) = invertIf b (odd bs)
 
 -- "Maj wants two ones or more"
-abbrev pub two : List Bool → Bool
-two [] = false
-two (true ∷ bs) = anyOf bs
-two (false ∷ bs) = two bs
+abbrev pub atLeastTwo : List Bool → Bool
+atLeastTwo [] = false
+atLeastTwo (true ∷ bs) = anyOf bs
+atLeastTwo (false ∷ bs) = atLeastTwo bs
 
 -- "Mux is first ? second : third"
 abbrev pub mux : List Bool → Bool
@@ -74,7 +74,7 @@ formBit And2 bs = allOf bs
 formBit Xor2 bs = odd bs
 formBit And3 bs = allOf bs
 formBit Xor3 bs = odd bs
-formBit Maj3 bs = two bs
+formBit Maj3 bs = atLeastTwo bs
 formBit Mux3 bs = mux bs
 formBit AndN bs = allOf bs
 formBit OrN bs = anyOf bs

@@ -4,39 +4,39 @@ use mathlib.Core.List.{List, [], _∷_, _++_, append-assoc, append-nil}
 use Prim.Native.Nat.{ℕ, zero, suc, _+_, _≤_, _<_}
 use native.Mathlib.Omega.{arith}
 use lib.ListN.{length, getD, drop, set, length-set}
-use Rattle.lists.specs.Lists.{overAt}
-use Rattle.lists.proofs.OverAt.{length-overAt, overAt-nil, over-first, over-append}
+use Rattle.lists.specs.Lists.{overwriteAt}
+use Rattle.lists.proofs.OverAt.{length-overwriteAt, overwriteAt-nil, overwrite-first, overwrite-append}
 use Rattle.lists.proofs.Places.{drop-next}
 
 -- one store lays one cell
-pub one-store : (k x : ℕ) (o : List ℕ) → set o k x ≡ overAt k (x ∷ []) o
-one-store k x o = sym (over-first k x [] o ∙ overAt-nil (suc k) (set o k x))
+pub one-store : (k x : ℕ) (o : List ℕ) → set o k x ≡ overwriteAt k (x ∷ []) o
+one-store k x o = sym (overwrite-first k x [] o ∙ overwriteAt-nil (suc k) (set o k x))
 
 -- behind the end nothing is laid
-pub over-end : (k : ℕ) (t o : List ℕ) → length o ≤ k → overAt k t o ≡ o
-over-end zero [] [] h = refl
-over-end zero (x ∷ t) [] h = refl
-over-end zero t (y ∷ o) h = absurd (omega arith)
-over-end (suc k) t [] h = refl
-over-end (suc k) t (y ∷ o) h = ap (λ (l : List ℕ). y ∷ l) (over-end k t o (omega arith))
+pub overwrite-end : (k : ℕ) (t o : List ℕ) → length o ≤ k → overwriteAt k t o ≡ o
+overwrite-end zero [] [] h = refl
+overwrite-end zero (x ∷ t) [] h = refl
+overwrite-end zero t (y ∷ o) h = absurd (omega arith)
+overwrite-end (suc k) t [] h = refl
+overwrite-end (suc k) t (y ∷ o) h = ap (λ (l : List ℕ). y ∷ l) (overwrite-end k t o (omega arith))
 
 -- ---- a loop that lays cells
 
 -- of the cells `all`, which go over o from place a on, those left are still to be laid, from place k on; o is p now
 pub record Laying (all o : List ℕ) (a : ℕ) (left p : List ℕ) (k : ℕ) : Type 0 where
   pub kept : length p ≡ length o
-  pub rest : overAt k left p ≡ overAt a all o
+  pub rest : overwriteAt k left p ≡ overwriteAt a all o
 
 pub laying-start : {all left o : List ℕ} {a k : ℕ} → left ≡ all → k ≡ a → Laying all o a left o k
 laying-start e f = record { kept = refl; rest = rw (e, f) }
 
 module _ {all o : List ℕ} {a : ℕ} {left p : List ℕ} {k : ℕ} (c : Laying all o a left p k) where
   -- some of those left are laid
-  pub laying-more : (xs : List ℕ) {more q : List ℕ} {j : ℕ} → left ≡ xs ++ more → q ≡ overAt k xs p → j ≡ k + length xs → Laying all o a more q j
+  pub laying-more : (xs : List ℕ) {more q : List ℕ} {j : ℕ} → left ≡ xs ++ more → q ≡ overwriteAt k xs p → j ≡ k + length xs → Laying all o a more q j
   laying-more xs {more} e f g =
       record {
-        kept = ap length f ∙ length-overAt k xs p ∙ c .kept;
-        rest = rw (f, g) (sym (over-append k xs more p) ∙ ap (λ (l : List ℕ). overAt k l p) (sym e) ∙ c .rest);
+        kept = ap length f ∙ length-overwriteAt k xs p ∙ c .kept;
+        rest = rw (f, g) (sym (overwrite-append k xs more p) ∙ ap (λ (l : List ℕ). overwriteAt k l p) (sym e) ∙ c .rest);
       }
 
   -- the first of those left is stored
@@ -44,12 +44,12 @@ module _ {all o : List ℕ} {a : ℕ} {left p : List ℕ} {k : ℕ} (c : Laying 
   laying-next {x} e g = laying-more (x ∷ []) e (one-store k x p) g
 
   -- none is left
-  pub laying-done : left ≡ [] → p ≡ overAt a all o
-  laying-done e = sym (overAt-nil k p) ∙ ap (λ (l : List ℕ). overAt k l p) (sym e) ∙ c .rest
+  pub laying-done : left ≡ [] → p ≡ overwriteAt a all o
+  laying-done e = sym (overwriteAt-nil k p) ∙ ap (λ (l : List ℕ). overwriteAt k l p) (sym e) ∙ c .rest
 
   -- there is no room for those left
-  pub laying-full : length p ≤ k → p ≡ overAt a all o
-  laying-full h = sym (over-end k left p h) ∙ c .rest
+  pub laying-full : length p ≤ k → p ≡ overwriteAt a all o
+  laying-full h = sym (overwrite-end k left p h) ∙ c .rest
 
 -- ---- a list passed from its front on
 

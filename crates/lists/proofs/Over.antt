@@ -5,19 +5,19 @@ use Prim.Native.Nat.{ℕ, suc, _≤_}
 use native.Mathlib.Omega.{arith}
 use lib.ListN.{length, take, drop}
 use lib.Seq.{take-append-seam}
-use Rattle.lists.specs.Lists.{over}
+use Rattle.lists.specs.Lists.{overwrite}
 
-pub length-over : (t o : List ℕ) → length (over t o) ≡ length o
-length-over [] o = refl
-length-over (x ∷ t) [] = refl
-length-over (x ∷ t) (y ∷ o) = ap suc (length-over t o)
+pub length-overwrite : (t o : List ℕ) → length (overwrite t o) ≡ length o
+length-overwrite [] o = refl
+length-overwrite (x ∷ t) [] = refl
+length-overwrite (x ∷ t) (y ∷ o) = ap suc (length-overwrite t o)
 
 -- where there is room, what was there before goes on behind it
-pub over-is : (t o : List ℕ) → length t ≤ length o → over t o ≡ t ++ drop (length t) o
-over-is [] o h = refl
-over-is (x ∷ t) [] h = absurd (omega arith)
-over-is (x ∷ t) (y ∷ o) h = ap (λ (l : List ℕ). x ∷ l) (over-is t o (omega arith))
+pub overwrite-is : (t o : List ℕ) → length t ≤ length o → overwrite t o ≡ t ++ drop (length t) o
+overwrite-is [] o h = refl
+overwrite-is (x ∷ t) [] h = absurd (omega arith)
+overwrite-is (x ∷ t) (y ∷ o) h = ap (λ (l : List ℕ). x ∷ l) (overwrite-is t o (omega arith))
 
 -- and it can be read back
-pub take-over : (t o : List ℕ) → length t ≤ length o → take (length t) (over t o) ≡ t
-take-over t o h = ap (take (length t)) (over-is t o h) ∙ take-append-seam t (drop (length t) o)
+pub take-overwrite : (t o : List ℕ) → length t ≤ length o → take (length t) (overwrite t o) ≡ t
+take-overwrite t o h = ap (take (length t)) (overwrite-is t o h) ∙ take-append-seam t (drop (length t) o)

@@ -6,62 +6,62 @@ use native.Mathlib.Omega.{arith}
 use native.Mathlib.Nat.{suc-add, add-zero}
 use lib.ListN.{length, getD, take, drop, set, length-drop, drop-of-length-le}
 use lib.Seq.{take-all, getD-take, getD-drop}
-use Rattle.lists.specs.Lists.{over, overAt}
-use Rattle.lists.proofs.Over.{length-over, take-over}
+use Rattle.lists.specs.Lists.{overwrite, overwriteAt}
+use Rattle.lists.proofs.Over.{length-overwrite, take-overwrite}
 
-pub length-overAt : (k : ℕ) (t o : List ℕ) → length (overAt k t o) ≡ length o
-length-overAt zero t o = length-over t o
-length-overAt (suc k) t [] = refl
-length-overAt (suc k) t (y ∷ o) = ap suc (length-overAt k t o)
+pub length-overwriteAt : (k : ℕ) (t o : List ℕ) → length (overwriteAt k t o) ≡ length o
+length-overwriteAt zero t o = length-overwrite t o
+length-overwriteAt (suc k) t [] = refl
+length-overwriteAt (suc k) t (y ∷ o) = ap suc (length-overwriteAt k t o)
 
 -- nothing laid over it
-pub overAt-nil : (k : ℕ) (o : List ℕ) → overAt k [] o ≡ o
-overAt-nil zero o = refl
-overAt-nil (suc k) [] = refl
-overAt-nil (suc k) (y ∷ o) = ap (λ (l : List ℕ). y ∷ l) (overAt-nil k o)
+pub overwriteAt-nil : (k : ℕ) (o : List ℕ) → overwriteAt k [] o ≡ o
+overwriteAt-nil zero o = refl
+overwriteAt-nil (suc k) [] = refl
+overwriteAt-nil (suc k) (y ∷ o) = ap (λ (l : List ℕ). y ∷ l) (overwriteAt-nil k o)
 
 -- the first element is a store
-pub over-first : (k x : ℕ) (t o : List ℕ) → overAt k (x ∷ t) o ≡ overAt (suc k) t (set o k x)
-over-first zero x t [] = refl
-over-first zero x t (y ∷ o) = refl
-over-first (suc k) x t [] = refl
-over-first (suc k) x t (y ∷ o) = ap (λ (l : List ℕ). y ∷ l) (over-first k x t o)
+pub overwrite-first : (k x : ℕ) (t o : List ℕ) → overwriteAt k (x ∷ t) o ≡ overwriteAt (suc k) t (set o k x)
+overwrite-first zero x t [] = refl
+overwrite-first zero x t (y ∷ o) = refl
+overwrite-first (suc k) x t [] = refl
+overwrite-first (suc k) x t (y ∷ o) = ap (λ (l : List ℕ). y ∷ l) (overwrite-first k x t o)
 
 -- two lists, one after the other
-pub over-append : (k : ℕ) (a t o : List ℕ) → overAt k (a ++ t) o ≡ overAt (k + length a) t (overAt k a o)
-over-append k [] t o =
+pub overwrite-append : (k : ℕ) (a t o : List ℕ) → overwriteAt k (a ++ t) o ≡ overwriteAt (k + length a) t (overwriteAt k a o)
+overwrite-append k [] t o =
     let e : k ≡ k + 0 = omega arith in
-    ap (λ (j : ℕ). overAt j t o) e ∙ ap (overAt (k + 0) t) (sym (overAt-nil k o))
-over-append k (x ∷ a) t o =
+    ap (λ (j : ℕ). overwriteAt j t o) e ∙ ap (overwriteAt (k + 0) t) (sym (overwriteAt-nil k o))
+overwrite-append k (x ∷ a) t o =
     let e : suc k + length a ≡ k + suc (length a) = omega arith in
-    over-first k x (a ++ t) o ∙ over-append (suc k) a t (set o k x) ∙ ap (λ (j : ℕ). overAt j t (overAt (suc k) a (set o k x))) e
-    ∙ ap (overAt (k + suc (length a)) t) (sym (over-first k x a o))
+    overwrite-first k x (a ++ t) o ∙ overwrite-append (suc k) a t (set o k x) ∙ ap (λ (j : ℕ). overwriteAt j t (overwriteAt (suc k) a (set o k x))) e
+    ∙ ap (overwriteAt (k + suc (length a)) t) (sym (overwrite-first k x a o))
 
 -- a record of three cells is three stores
-pub over-three : (k x y z : ℕ) (o : List ℕ) → set (set (set o k x) (k + 1) y) (k + 2) z ≡ overAt k (x ∷ y ∷ z ∷ []) o
-over-three k x y z o =
+pub overwrite-three : (k x y z : ℕ) (o : List ℕ) → set (set (set o k x) (k + 1) y) (k + 2) z ≡ overwriteAt k (x ∷ y ∷ z ∷ []) o
+overwrite-three k x y z o =
     let e : k + 1 ≡ suc k = omega arith in
     let f : k + 2 ≡ suc (suc k) = omega arith in
     rw (e, f)
     (sym
-    (over-first k x (y ∷ z ∷ []) o ∙ over-first (suc k) y (z ∷ []) (set o k x) ∙ over-first (suc (suc k)) z [] (set (set o k x) (suc k) y)
-    ∙ overAt-nil (suc (suc (suc k))) (set (set (set o k x) (suc k) y) (suc (suc k)) z)))
+    (overwrite-first k x (y ∷ z ∷ []) o ∙ overwrite-first (suc k) y (z ∷ []) (set o k x) ∙ overwrite-first (suc (suc k)) z [] (set (set o k x) (suc k) y)
+    ∙ overwriteAt-nil (suc (suc (suc k))) (set (set (set o k x) (suc k) y) (suc (suc k)) z)))
 
 -- ---- cells read back
 
 -- a cell of it
-pub overAt-inside : (k : ℕ) (t o : List ℕ) (i d : ℕ) → i < length t → k + i < length o → getD (overAt k t o) (k + i) d ≡ getD t i d
-overAt-inside zero [] o i d h l = absurd (omega arith)
-overAt-inside zero (x ∷ t) [] i d h l = absurd (omega arith)
-overAt-inside zero (x ∷ t) (y ∷ o) zero d h l = refl
-overAt-inside zero (x ∷ t) (y ∷ o) (suc i) d h l =
+pub overwriteAt-inside : (k : ℕ) (t o : List ℕ) (i d : ℕ) → i < length t → k + i < length o → getD (overwriteAt k t o) (k + i) d ≡ getD t i d
+overwriteAt-inside zero [] o i d h l = absurd (omega arith)
+overwriteAt-inside zero (x ∷ t) [] i d h l = absurd (omega arith)
+overwriteAt-inside zero (x ∷ t) (y ∷ o) zero d h l = refl
+overwriteAt-inside zero (x ∷ t) (y ∷ o) (suc i) d h l =
     let e : zero + suc i ≡ suc (zero + i) = omega arith in
-    ap (λ (j : ℕ). getD (x ∷ over t o) j d) e ∙ overAt-inside zero t o i d (omega arith) (omega arith)
-overAt-inside (suc k) t [] i d h l = absurd (omega arith)
-overAt-inside (suc k) t (y ∷ o) i d h l = rw (suc-add k i) (overAt-inside k t o i d h (omega arith))
+    ap (λ (j : ℕ). getD (x ∷ overwrite t o) j d) e ∙ overwriteAt-inside zero t o i d (omega arith) (omega arith)
+overwriteAt-inside (suc k) t [] i d h l = absurd (omega arith)
+overwriteAt-inside (suc k) t (y ∷ o) i d h l = rw (suc-add k i) (overwriteAt-inside k t o i d h (omega arith))
 
 -- a run of cells before it
-pub run-before : (k : ℕ) (t o : List ℕ) (a n : ℕ) → a + n ≤ k → take n (drop a (overAt k t o)) ≡ take n (drop a o)
+pub run-before : (k : ℕ) (t o : List ℕ) (a n : ℕ) → a + n ≤ k → take n (drop a (overwriteAt k t o)) ≡ take n (drop a o)
 run-before k t o a zero h = refl
 run-before zero t o a (suc n) h = absurd (omega arith)
 run-before (suc k) t [] a (suc n) h = refl
@@ -69,7 +69,7 @@ run-before (suc k) t (y ∷ o) zero (suc n) h = ap (λ (l : List ℕ). y ∷ l) 
 run-before (suc k) t (y ∷ o) (suc a) (suc n) h = run-before k t o a (suc n) (omega arith)
 
 -- the cells behind it
-pub drop-behind : (k : ℕ) (t o : List ℕ) (a : ℕ) → k + length t ≤ a → drop a (overAt k t o) ≡ drop a o
+pub drop-behind : (k : ℕ) (t o : List ℕ) (a : ℕ) → k + length t ≤ a → drop a (overwriteAt k t o) ≡ drop a o
 drop-behind zero [] o a h = refl
 drop-behind zero (x ∷ t) [] a h = refl
 drop-behind zero (x ∷ t) (y ∷ o) zero h = absurd (omega arith)
@@ -79,28 +79,28 @@ drop-behind (suc k) t (y ∷ o) zero h = absurd (omega arith)
 drop-behind (suc k) t (y ∷ o) (suc a) h = drop-behind k t o a (omega arith)
 
 -- a cell before it
-pub overAt-before : (k : ℕ) (t o : List ℕ) (j d : ℕ) → j < k → getD (overAt k t o) j d ≡ getD o j d
-overAt-before k t o j d h =
-    sym (getD-take k (overAt k t o) j d h) ∙ ap (λ (l : List ℕ). getD l j d) (run-before k t o 0 k (omega arith)) ∙ getD-take k o j d h
+pub overwriteAt-before : (k : ℕ) (t o : List ℕ) (j d : ℕ) → j < k → getD (overwriteAt k t o) j d ≡ getD o j d
+overwriteAt-before k t o j d h =
+    sym (getD-take k (overwriteAt k t o) j d h) ∙ ap (λ (l : List ℕ). getD l j d) (run-before k t o 0 k (omega arith)) ∙ getD-take k o j d h
 
 -- a cell behind it
-pub overAt-behind : (k : ℕ) (t o : List ℕ) (j d : ℕ) → k + length t ≤ j → getD (overAt k t o) j d ≡ getD o j d
-overAt-behind k t o j d h = sym (getD-front j (overAt k t o) d) ∙ ap (λ (l : List ℕ). getD l 0 d) (drop-behind k t o j h) ∙ getD-front j o d
+pub overwriteAt-behind : (k : ℕ) (t o : List ℕ) (j d : ℕ) → k + length t ≤ j → getD (overwriteAt k t o) j d ≡ getD o j d
+overwriteAt-behind k t o j d h = sym (getD-front j (overwriteAt k t o) d) ∙ ap (λ (l : List ℕ). getD l 0 d) (drop-behind k t o j h) ∙ getD-front j o d
   where
     getD-front : (n : ℕ) (l : List ℕ) (e : ℕ) → getD (drop n l) 0 e ≡ getD l n e
     getD-front n l e = rw (getD-drop, add-zero)
 
 -- it can be read back
-pub run-overAt : (k : ℕ) (t o : List ℕ) → k + length t ≤ length o → take (length t) (drop k (overAt k t o)) ≡ t
-run-overAt zero t o h = take-over t o (omega arith)
-run-overAt (suc k) t [] h = absurd (omega arith)
-run-overAt (suc k) t (y ∷ o) h = run-overAt k t o (omega arith)
+pub run-overwriteAt : (k : ℕ) (t o : List ℕ) → k + length t ≤ length o → take (length t) (drop k (overwriteAt k t o)) ≡ t
+run-overwriteAt zero t o h = take-overwrite t o (omega arith)
+run-overwriteAt (suc k) t [] h = absurd (omega arith)
+run-overwriteAt (suc k) t (y ∷ o) h = run-overwriteAt k t o (omega arith)
 
 -- the cells from k on, with a list laid over their front
-pub overAt-rest : (k : ℕ) (t o : List ℕ) → k ≤ length o → take k o ++ over t (drop k o) ≡ overAt k t o
-overAt-rest zero t o h = refl
-overAt-rest (suc k) t [] h = absurd (omega arith)
-overAt-rest (suc k) t (y ∷ o) h = ap (λ (l : List ℕ). y ∷ l) (overAt-rest k t o (omega arith))
+pub overwriteAt-rest : (k : ℕ) (t o : List ℕ) → k ≤ length o → take k o ++ overwrite t (drop k o) ≡ overwriteAt k t o
+overwriteAt-rest zero t o h = refl
+overwriteAt-rest (suc k) t [] h = absurd (omega arith)
+overwriteAt-rest (suc k) t (y ∷ o) h = ap (λ (l : List ℕ). y ∷ l) (overwriteAt-rest k t o (omega arith))
 
 -- the cells from k on, lent as a part (`&mut o[k..]`)
 pub part-is : (k : ℕ) (o : List ℕ) → take (length o - k) (drop k o) ≡ drop k o
@@ -113,6 +113,6 @@ part-back k o q =
     rw (drop-of-length-le (drop k o) g, append-nil q)
 
 -- with a list laid over its front
-pub part-laid : (k : ℕ) (t o : List ℕ) {q : List ℕ} → k ≤ length o → q ≡ over t (take (length o - k) (drop k o))
-    → take k o ++ (q ++ drop (length o - k) (drop k o)) ≡ overAt k t o
-part-laid k t o {q} h e = part-back k o q ∙ ap (λ (l : List ℕ). take k o ++ l) (e ∙ ap (over t) (part-is k o)) ∙ overAt-rest k t o h
+pub part-laid : (k : ℕ) (t o : List ℕ) {q : List ℕ} → k ≤ length o → q ≡ overwrite t (take (length o - k) (drop k o))
+    → take k o ++ (q ++ drop (length o - k) (drop k o)) ≡ overwriteAt k t o
+part-laid k t o {q} h e = part-back k o q ∙ ap (λ (l : List ℕ). take k o ++ l) (e ∙ ap (overwrite t) (part-is k o)) ∙ overwriteAt-rest k t o h

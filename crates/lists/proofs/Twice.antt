@@ -30,11 +30,11 @@ module _ {A : Type 0} where
   without-dup (List·Memᴰ·head e) d = there d
   without-dup (List·Memᴰ·tail m) d = ⊎-elim (λ v. here (without-mem m v)) (λ v. there (without-dup m v)) (dup-cases d)
 
-  twice : {x : A} {l : List A} (m : List·Memᴰ x l) → List·Memᴰ x (without m) → Dup l
+  definedTwice : {x : A} {l : List A} (m : List·Memᴰ x l) → List·Memᴰ x (without m) → Dup l
   unfolding without
-  twice (List·Memᴰ·head e) w = here (Memᴰ·cast (sym e) w)
-  twice {x} (List·Memᴰ·tail {x = z} m) w =
-      ⊎-elim (λ (e : x ≡ z). here (Memᴰ·cast (sym e) m)) (λ (v : List·Memᴰ x (without m)). there (twice m v)) (List·Memᴰ·cases-cons w)
+  definedTwice (List·Memᴰ·head e) w = here (Memᴰ·cast (sym e) w)
+  definedTwice {x} (List·Memᴰ·tail {x = z} m) w =
+      ⊎-elim (λ (e : x ≡ z). here (Memᴰ·cast (sym e) m)) (λ (v : List·Memᴰ x (without m)). there (definedTwice m v)) (List·Memᴰ·cases-cons w)
 
 mem? : (n : ℕ) (l : List ℕ) → List·Memᴰ n l ⊎ (List·Memᴰ n l → ⊥)
 mem? n [] = inr List·Memᴰ·not-nil
@@ -63,6 +63,6 @@ pigeons (suc n) l b h = go (mem? n l) (pigeons n l) (λ m. pigeons n (without m)
     go : List·Memᴰ n l ⊎ (List·Memᴰ n l → ⊥) → (Below n l → n < length l → Dup l)
         → ((m : List·Memᴰ n l) → Below n (without m) → n < length (without m) → Dup (without m)) → Dup l
     go (inr out) same less = same (lower n l b out) (omega arith)
-    go (inl m) same less = ⊎-elim (λ w. twice m w)
+    go (inl m) same less = ⊎-elim (λ w. definedTwice m w)
         (λ w. without-dup m (less m (lower n (without m) (λ x v. b x (without-mem m v)) w) (omega (arith, without-length m))))
         (mem? n (without m))

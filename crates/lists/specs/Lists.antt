@@ -88,16 +88,16 @@ occ v [] = 0
 occ v (x ∷ l) = hit v x + occ v l
 
 -- the list t laid over the front of o, cut where o ends: what a function that fills a slice from its front leaves of it
-abbrev pub over : List ℕ → List ℕ → List ℕ
-over [] o = o
-over (x ∷ t) [] = []
-over (x ∷ t) (y ∷ o) = x ∷ over t o
+abbrev pub overwrite : List ℕ → List ℕ → List ℕ
+overwrite [] o = o
+overwrite (x ∷ t) [] = []
+overwrite (x ∷ t) (y ∷ o) = x ∷ overwrite t o
 
 -- the list t laid over o from cell k on, cut where o ends
-abbrev pub overAt : ℕ → List ℕ → List ℕ → List ℕ
-overAt zero t o = over t o
-overAt (suc k) t [] = []
-overAt (suc k) t (y ∷ o) = y ∷ overAt k t o
+abbrev pub overwriteAt : ℕ → List ℕ → List ℕ → List ℕ
+overwriteAt zero t o = overwrite t o
+overwriteAt (suc k) t [] = []
+overwriteAt (suc k) t (y ∷ o) = y ∷ overwriteAt k t o
 
 -- an element stands again further on: "a name is defined twice"
 pub data Dup {A : Type 0} : List A → Type 0 where

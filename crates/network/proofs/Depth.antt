@@ -7,14 +7,14 @@ use native.Mathlib.Omega.{arith}
 use native.Mathlib.Nat.{le-max-left, le-max-right, max-le}
 use native.Mathlib.Decide.{ℕ-discrete}
 use lib.ListN.{getElem?}
-use Rattle.signal.specs.Signal.{Node, Const, Input, Gated, Signal}
+use Rattle.signal.specs.Signal.{Node, Const, Input, Var, Signal}
 use Rattle.gates.specs.Gate.{Gate, Comb, Dff}
 use Rattle.network.specs.Net.{Net}
 
 abbrev pub nodeDepth : (ℕ → ℕ) → Node → ℕ
 nodeDepth D Const = 0
 nodeDepth D (Input i) = 0
-nodeDepth D (Gated g) = D g
+nodeDepth D (Var g) = D g
 
 abbrev pub deepest : (ℕ → ℕ) → List Signal → ℕ
 deepest D [] = 0
@@ -30,7 +30,7 @@ unfoldable pub depth : Net → ℕ → ℕ → ℕ
 depth net zero g = 0
 depth net (suc k) g = depthOf (depth net k) (getElem? (net .gates) g)
 
-pub deepest-ge : (D : ℕ → ℕ) (ss : List Signal) (s : Signal) (h : ℕ) → List·Memᴰ s ss → s .node ≡ Gated h → D h ≤ deepest D ss
+pub deepest-ge : (D : ℕ → ℕ) (ss : List Signal) (s : Signal) (h : ℕ) → List·Memᴰ s ss → s .node ≡ Var h → D h ≤ deepest D ss
 deepest-ge D _ s h (List·Memᴰ·head {x = t} {xs = ss} e) p =
     let q : nodeDepth D (t .node) ≡ D h = ap (λ (u : Signal). nodeDepth D (u .node)) (sym e) ∙ ap (nodeDepth D) p in
     omega (arith, le-max-left (nodeDepth D (t .node)) (deepest D ss))
@@ -41,7 +41,7 @@ deepest-ge D _ s h (List·Memᴰ·tail {x = t} {xs = ss} m) p =
 node-le : (D : ℕ → ℕ) (k : ℕ) → ((g : ℕ) → D g ≤ k) → (n : Node) → nodeDepth D n ≤ k
 node-le D k h Const = zero-le
 node-le D k h (Input i) = zero-le
-node-le D k h (Gated g) = h g
+node-le D k h (Var g) = h g
 
 deepest-le : (D : ℕ → ℕ) (k : ℕ) → ((g : ℕ) → D g ≤ k) → (ss : List Signal) → deepest D ss ≤ k
 deepest-le D k h [] = zero-le
@@ -58,16 +58,16 @@ depth-le net (suc k) g = go (getElem? (net .gates) g) (depth-le net k)
     go (some (Dff s)) ih = zero-le
 
 -- a signal of the greatest depth
-pub deepest-at : (D : ℕ → ℕ) (ss : List Signal) (k : ℕ) → deepest D ss ≡ suc k → (s : Signal) × (h : ℕ) × List·Memᴰ s ss × (s .node ≡ Gated h) × (D h ≡ suc k)
+pub deepest-at : (D : ℕ → ℕ) (ss : List Signal) (k : ℕ) → deepest D ss ≡ suc k → (s : Signal) × (h : ℕ) × List·Memᴰ s ss × (s .node ≡ Var h) × (D h ≡ suc k)
 deepest-at D [] k e = absurd (omega arith)
 deepest-at D (s ∷ ss) k e = go (s .node) refl (ℕ-discrete (deepest D ss) (suc k)) (deepest-at D ss k)
   where
-    go : (n : Node) → s .node ≡ n → Dec (deepest D ss ≡ suc k) → (deepest D ss ≡ suc k → (t : Signal) × (h : ℕ) × List·Memᴰ t ss × (t .node ≡ Gated h) × (D h ≡ suc k))
-        → (t : Signal) × (h : ℕ) × List·Memᴰ t (s ∷ ss) × (t .node ≡ Gated h) × (D h ≡ suc k)
+    go : (n : Node) → s .node ≡ n → Dec (deepest D ss ≡ suc k) → (deepest D ss ≡ suc k → (t : Signal) × (h : ℕ) × List·Memᴰ t ss × (t .node ≡ Var h) × (D h ≡ suc k))
+        → (t : Signal) × (h : ℕ) × List·Memᴰ t (s ∷ ss) × (t .node ≡ Var h) × (D h ≡ suc k)
     go n p (yes q) ih = let r = ih q in (r .0, r .1, List·Memᴰ·tail (r .2), r .3, r .4)
     go Const p (no q) ih = absurd (q (let z : nodeDepth D (s .node) ≡ 0 = ap (nodeDepth D) p in omega arith))
     go (Input i) p (no q) ih = absurd (q (let z : nodeDepth D (s .node) ≡ 0 = ap (nodeDepth D) p in omega arith))
-    go (Gated h) p (no q) ih = let z : nodeDepth D (s .node) ≡ D h = ap (nodeDepth D) p in (s, h, List·Memᴰ·head refl, p, omega arith)
+    go (Var h) p (no q) ih = let z : nodeDepth D (s .node) ≡ D h = ap (nodeDepth D) p in (s, h, List·Memᴰ·head refl, p, omega arith)
 
 -- ---- depth comes to rest
 
@@ -79,7 +79,7 @@ deepest-same D E k h (s ∷ ss) u =
     node : (n : Node) → nodeDepth D n < k → nodeDepth E n ≡ nodeDepth D n
     node Const v = refl
     node (Input i) v = refl
-    node (Gated g) v = h g v
+    node (Var g) v = h g v
 
 pub depth-rest : (net : Net) (k g : ℕ) → depth net k g < k → depth net (suc k) g ≡ depth net k g
 unfolding depth

@@ -4,8 +4,8 @@ use mathlib.Core.List.{List, [], _∷_, map}
 use Prim.Native.Nat.{ℕ, suc, _+_, _*_, _≤_}
 use native.Mathlib.Omega.{arith}
 use lib.ListN.{length, take, length-map}
-use Rattle.lists.specs.Lists.{over}
-use Rattle.lists.proofs.Over.{take-over}
+use Rattle.lists.specs.Lists.{overwrite}
+use Rattle.lists.proofs.Over.{take-overwrite}
 use Rattle.signal.specs.Cell.{sigCell}
 use Rattle.gates.specs.Gate.{Gate, pins}
 use Rattle.network.specs.Net.{Net}
@@ -17,17 +17,17 @@ length-gateCells at [] = refl
 length-gateCells at (x ∷ xs) = omega (arith, length-gateCells (at + length (pins x)) xs)
 
 -- where there is room, the cells in use are those of the network
-pub laid-over : (net : Net) (gs ps os : List ℕ) → length (net .gates) * gateWidth ≤ length gs → length (pinCells (net .gates)) ≤ length ps
+pub laid-overwrite : (net : Net) (gs ps os : List ℕ) → length (net .gates) * gateWidth ≤ length gs → length (pinCells (net .gates)) ≤ length ps
     → length (net .outputs) ≤ length os
-    → Laid net (lent (countsOf net) (over (gateCells 0 (net .gates)) gs) (over (pinCells (net .gates)) ps) (over (map sigCell (net .outputs)) os))
-laid-over net gs ps os hg hp ho =
+    → Laid net (lent (countsOf net) (overwrite (gateCells 0 (net .gates)) gs) (overwrite (pinCells (net .gates)) ps) (overwrite (map sigCell (net .outputs)) os))
+laid-overwrite net gs ps os hg hp ho =
     let lg = length-gateCells 0 (net .gates) in
     let lo = length-map (net .outputs) sigCell in
     record {
       counted = refl;
       gatesLaid =
-          ap (λ (k : ℕ). take k (over (gateCells 0 (net .gates)) gs)) (sym lg) ∙ take-over (gateCells 0 (net .gates)) gs (omega (arith, lg));
-      pinsLaid = take-over (pinCells (net .gates)) ps hp;
+          ap (λ (k : ℕ). take k (overwrite (gateCells 0 (net .gates)) gs)) (sym lg) ∙ take-overwrite (gateCells 0 (net .gates)) gs (omega (arith, lg));
+      pinsLaid = take-overwrite (pinCells (net .gates)) ps hp;
       outsLaid =
-          ap (λ (k : ℕ). take k (over (map sigCell (net .outputs)) os)) (sym lo) ∙ take-over (map sigCell (net .outputs)) os (omega (arith, lo));
+          ap (λ (k : ℕ). take k (overwrite (map sigCell (net .outputs)) os)) (sym lo) ∙ take-overwrite (map sigCell (net .outputs)) os (omega (arith, lo));
     }

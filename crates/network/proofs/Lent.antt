@@ -14,7 +14,7 @@ use Rattle.lists.specs.Lists.{all, range}
 use Rattle.lists.proofs.Tests.{and-left, and-right, and-both}
 use Rattle.lists.proofs.Places.{place-lt, mem-place, run-getD}
 use Rattle.lists.proofs.Range.{all-mem, mem-all, length-range, map-range, range-all}
-use Rattle.signal.specs.Signal.{Node, Const, Input, Gated, Signal}
+use Rattle.signal.specs.Signal.{Node, Const, Input, Var, Signal}
 use Rattle.signal.specs.Cell.{sigCell, nodeOf, sigOf}
 use Rattle.signal.proofs.Cells.{Small, signal-again, cells-again, signals-again}
 use Rattle.gates.specs.Gate.{Gate, pins}
@@ -32,18 +32,18 @@ use Rattle.network.proofs.HeldGates.{Holds, Again, held-again}
 valid-is : (net : Net) (n : Node) → validNode (net .inputs) (length (net .gates)) n ≡ true → ValidNode net n
 valid-is net Const t = tt
 valid-is net (Input i) t = ltb-true i (net .inputs) t
-valid-is net (Gated g) t = ltb-true g (length (net .gates)) t
+valid-is net (Var g) t = ltb-true g (length (net .gates)) t
 
 is-valid : (net : Net) (n : Node) → ValidNode net n → validNode (net .inputs) (length (net .gates)) n ≡ true
 is-valid net Const h = refl
 is-valid net (Input i) h = lt-ltb i (net .inputs) h
-is-valid net (Gated g) h = lt-ltb g (length (net .gates)) h
+is-valid net (Var g) h = lt-ltb g (length (net .gates)) h
 
 -- the limits leave room in a cell
 pub valid-small : (net : Net) (n : Node) → net .inputs ≤ 256 → length (net .gates) ≤ 1024 → ValidNode net n → Small n
 valid-small net Const a b h = tt
 valid-small net (Input i) a b h = omega arith
-valid-small net (Gated g) a b h = omega arith
+valid-small net (Var g) a b h = omega arith
 
 -- ---- from cells to a network
 

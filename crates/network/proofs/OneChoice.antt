@@ -9,9 +9,9 @@ use native.Mathlib.Omega.{arith}
 use native.Mathlib.Decide.{ℕ-discrete}
 use lib.ListN.{length, getElem?}
 use Rattle.lists.specs.Lists.{Dup, here, there}
-use Rattle.signal.specs.Signal.{Node, Const, Input, Gated, Signal, flip}
+use Rattle.signal.specs.Signal.{Node, Const, Input, Var, Signal, invertIf}
 use Rattle.gates.specs.Gate.{Form, Gate, Comb, Dff, pins, formBit}
-use Rattle.network.specs.Net.{Net, GateIs, ValidNode, Valid, Feeds, Way, last, more, Loop}
+use Rattle.network.specs.Net.{Net, GateIs, ValidNode, Valid, Feeds, Path, last, more, Loop}
 use Rattle.network.specs.Clock.{Fits, Clock, nodeBit, sigBit, gateBit, nextBit, Runs, done, tick}
 use Rattle.network.specs.Settle.{bitAt, round, settle, nextOf, runFrom}
 use Rattle.lists.proofs.Places.{place-lt, lt-place, map-on}
@@ -23,7 +23,7 @@ use Rattle.network.proofs.Depth.{deepest, depthOf, depth, deepest-ge, d
 
 -- the number rises from each gate input to a combinational gate
 abbrev pub RisesBy : Net → (ℕ → ℕ) → Type 0
-RisesBy net rank = (g h : ℕ) (f : Form) (ps : List Signal) (s : Signal) → GateIs net g (Comb f ps) → List·Memᴰ s ps → s .node ≡ Gated h → rank h < rank g
+RisesBy net rank = (g h : ℕ) (f : Form) (ps : List Signal) (s : Signal) → GateIs net g (Comb f ps) → List·Memᴰ s ps → s .node ≡ Var h → rank h < rank g
 
 -- such a number for each gate, none above the number of gates
 pub record Ranked (net : Net) : Type 0 where
@@ -42,22 +42,22 @@ Chain net [] = Unit {0}
 Chain net (g ∷ []) = CombAt net g
 Chain net (g ∷ h ∷ l) = Feeds net h g × Chain net (h ∷ l)
 
-pub way-snoc : {net : Net} {a b c : ℕ} → Way net a b → Feeds net b c → Way net a c
-way-snoc (last f) g = more f (last g)
-way-snoc (more f w) g = more f (way-snoc w g)
+pub path-snoc : {net : Net} {a b c : ℕ} → Path net a b → Feeds net b c → Path net a c
+path-snoc (last f) g = more f (last g)
+path-snoc (more f w) g = more f (path-snoc w g)
 
-chain-way : (net : Net) (x : ℕ) (l : List ℕ) (y : ℕ) → Chain net (x ∷ l) → List·Memᴰ y l → Way net y x
-chain-way net x [] y c m = absurd (List·Memᴰ·not-nil m)
-chain-way net x (h ∷ l) y c m =
-    ⊎-elim (λ (e : y ≡ h). subst (λ (z : ℕ). Way net z x) (sym e) (last (c .0)))
-    (λ (w : List·Memᴰ y l). way-snoc (chain-way net h l y (c .1) w) (c .0)) (List·Memᴰ·cases-cons m)
+chain-path : (net : Net) (x : ℕ) (l : List ℕ) (y : ℕ) → Chain net (x ∷ l) → List·Memᴰ y l → Path net y x
+chain-path net x [] y c m = absurd (List·Memᴰ·not-nil m)
+chain-path net x (h ∷ l) y c m =
+    ⊎-elim (λ (e : y ≡ h). subst (λ (z : ℕ). Path net z x) (sym e) (last (c .0)))
+    (λ (w : List·Memᴰ y l). path-snoc (chain-path net h l y (c .1) w) (c .0)) (List·Memᴰ·cases-cons m)
 
 chain-tail : (net : Net) (x : ℕ) (l : List ℕ) → Chain net (x ∷ l) → Chain net l
 chain-tail net x [] c = tt
 chain-tail net x (y ∷ l) c = c .1
 
 chain-loop : (net : Net) (l : List ℕ) → Chain net l → Dup l → Loop net
-chain-loop net _ c (here {x = x} {l = l} m) = (x, chain-way net x l x c m)
+chain-loop net _ c (here {x = x} {l = l} m) = (x, chain-path net x l x c m)
 chain-loop net _ c (there {x = x} {l = l} d) = chain-loop net l (chain-tail net x l c) d
 
 chain-head : (net : Net) (x : ℕ) (l : List ℕ) → Chain net (x ∷ l) → CombAt net x
@@ -90,7 +90,7 @@ full-chain net (suc k) g e = go (getElem? (net .gates) g) refl e (full-chain net
     go none p q ih = absurd (omega arith)
     go (some (Comb f ps)) p q ih =
         let d : deepest (depth net (suc k)) ps ≡ suc k = omega arith in
-        let r : (s : Signal) × (h : ℕ) × List·Memᴰ s ps × (s .node ≡ Gated h) × (depth net (suc k) h ≡ suc k) = deepest-at (depth net (suc k)) ps k d in
+        let r : (s : Signal) × (h : ℕ) × List·Memᴰ s ps × (s .node ≡ Var h) × (depth net (suc k) h ≡ suc k) = deepest-at (depth net (suc k)) ps k d in
         let i : (l : List ℕ) × Chain net (r .1 ∷ l) × (length l ≡ k) = ih (r .1) (r .4) in
         let c : CombAt net (r .1) = chain-head net (r .1) (i .0) (i .1) in (
           r .1 ∷ i .0,
@@ -124,17 +124,17 @@ ranked net free =
 -- ---- the one choice
 
 -- bits that agree on the gate that a signal points at give it the same bit
-pub sig-agrees : (row : List Bool) (b c : ℕ → Bool) (s : Signal) → ((g : ℕ) → s .node ≡ Gated g → b g ≡ c g) → sigBit row b s ≡ sigBit row c s
-sig-agrees row b c s same = ap (flip (s .inv)) (node (s .node) same)
+pub sig-agrees : (row : List Bool) (b c : ℕ → Bool) (s : Signal) → ((g : ℕ) → s .node ≡ Var g → b g ≡ c g) → sigBit row b s ≡ sigBit row c s
+sig-agrees row b c s same = ap (invertIf (s .inv)) (node (s .node) same)
   where
-    node : (n : Node) → ((g : ℕ) → n ≡ Gated g → b g ≡ c g) → nodeBit row b n ≡ nodeBit row c n
+    node : (n : Node) → ((g : ℕ) → n ≡ Var g → b g ≡ c g) → nodeBit row b n ≡ nodeBit row c n
     node Const h = refl
     node (Input i) h = refl
-    node (Gated g) h = h g refl
+    node (Var g) h = h g refl
 
 -- so do bits that agree on a combinational gate's inputs
 pub gate-agrees : (row : List Bool) (b c : ℕ → Bool) (v : Bool) (x : Gate)
-    → ((f : Form) (s : Signal) (h : ℕ) → x ≡ Comb f (pins x) → List·Memᴰ s (pins x) → s .node ≡ Gated h → b h ≡ c h)
+    → ((f : Form) (s : Signal) (h : ℕ) → x ≡ Comb f (pins x) → List·Memᴰ s (pins x) → s .node ≡ Var h → b h ≡ c h)
     → gateBit (sigBit row b) v x ≡ gateBit (sigBit row c) v x
 gate-agrees row b c v (Dff s) same = refl
 gate-agrees row b c v (Comb f ps) same =
@@ -222,9 +222,9 @@ module _ (net : Net) (height : ℕ → ℕ) (r : RisesBy net height) where
   feeds-rises : (a b : ℕ) → Feeds net a b → height a < height b
   feeds-rises a b f = r b a (f .formB) (f .pinsB) (f .by) (f .isB) (f .among) (f .points)
 
-  way-rises : {a b : ℕ} → Way net a b → height a < height b
-  way-rises {a} {b} (last f) = feeds-rises a b f
-  way-rises {a} {b = c} (more {b = b} f w) = omega (arith, feeds-rises a b f, way-rises w)
+  path-rises : {a b : ℕ} → Path net a b → height a < height b
+  path-rises {a} {b} (last f) = feeds-rises a b f
+  path-rises {a} {b = c} (more {b = b} f w) = omega (arith, feeds-rises a b f, path-rises w)
 
   pub rises-free : Loop net → ⊥
-  rises-free l = omega (arith, way-rises (l .1))
+  rises-free l = omega (arith, path-rises (l .1))

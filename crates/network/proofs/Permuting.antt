@@ -6,7 +6,7 @@ use Prim.Native.Nat.{ℕ, _<_}
 use native.Mathlib.Decide.{ℕ-discrete}
 use lib.ListN.{length, getD, getElem?, length-map}
 use Rattle.lists.specs.Lists.{find}
-use Rattle.signal.specs.Signal.{Node, Const, Input, Gated}
+use Rattle.signal.specs.Signal.{Node, Const, Input, Var}
 use Rattle.gates.specs.Gate.{Comb, Buf}
 use Rattle.network.specs.Net.{Net, GateIs, ValidNode, Valid}
 use Rattle.network.specs.Renumber.{remapGate, NodeKept, Renumbered, orZero, placeOf, gateOr, permuted}
@@ -35,7 +35,7 @@ module _ (net : Net) (valid : Valid net) (l : List ℕ) (o : Orders (length (net
   kept-node : (n : Node) → ValidNode net n → NodeKept (length (permuted l net .gates)) (placeOf l) back n
   kept-node Const v = tt
   kept-node (Input i) v = tt
-  kept-node (Gated g) v =
+  kept-node (Var g) v =
       let p : getElem? l (placeOf l g) ≡ some g = place-of l g (o .every g v) in (
         subst (λ (n : ℕ). placeOf l g < n) (sym (length-map l (λ (k : ℕ). remapGate (placeOf l) (gateOr net k)))) (place-lt l (placeOf l g) g p),
         getD-place 0 l (placeOf l g) g p,

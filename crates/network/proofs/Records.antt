@@ -12,7 +12,7 @@ use borrow.Author.Tests.{le-leb, lt-leb, le-ltb, leb-true}
 use Rattle.lists.proofs.Tests.{and-false, and-left, and-right}
 use Rattle.lists.proofs.Places.{part-run}
 use Rattle.lists.proofs.Range.{TestedTo, to-start, to-next, to-fails, to-done}
-use Rattle.signal.specs.Signal.{Node, Const, Input, Gated, inputNode, gateNode}
+use Rattle.signal.specs.Signal.{Node, Const, Input, Var, inputNode, gateNode}
 use Rattle.signal.specs.Cell.{nodeOf, inputNumber, gateNumber}
 use Rattle.signal.proofs.Cells.{input-number, gate-number}
 use Rattle.gates.specs.Forms.{kindOf, kindTakes}
@@ -39,7 +39,7 @@ module _ (inputs gates c : ℕ) where
       go : (n : Node) → inputNode n ≡ false → gateNode n ≡ false → true ≡ validNode inputs gates n
       go Const a b = refl
       go (Input i) a b = absurd (true≢false a)
-      go (Gated g) a b = absurd (true≢false b)
+      go (Var g) a b = absurd (true≢false b)
 
 -- ---- sizes
 

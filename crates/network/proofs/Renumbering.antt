@@ -6,7 +6,7 @@ use mathlib.Core.Option.{some}
 use Prim.Native.Nat.{ℕ, _<_}
 use native.Mathlib.Omega.{arith}
 use lib.ListN.{length}
-use Rattle.signal.specs.Signal.{Node, Const, Input, Gated, Signal, flip, remapNode, remap}
+use Rattle.signal.specs.Signal.{Node, Const, Input, Var, Signal, invertIf, remapNode, remap}
 use Rattle.gates.specs.Gate.{Form, Gate, Comb, Dff, pins, formBit}
 use Rattle.network.specs.Net.{Net, GateIs, ValidNode, Valid, Loop}
 use Rattle.network.specs.Clock.{Clock, nodeBit, sigBit, gateBit, nextBit}
@@ -22,10 +22,10 @@ pins-remap π (Comb f ps) = refl
 pins-remap π (Dff s) = refl
 
 -- what a renumbered node and a renumbered combinational gate were
-pub node-from : (π : ℕ → ℕ) (n : Node) (d : ℕ) → remapNode π n ≡ Gated d → (v : ℕ) × (n ≡ Gated v) × (π v ≡ d)
+pub node-from : (π : ℕ → ℕ) (n : Node) (d : ℕ) → remapNode π n ≡ Var d → (v : ℕ) × (n ≡ Var v) × (π v ≡ d)
 node-from π Const d e = absurd (let z : _≡_ {A = ℕ} 0 1 = cc in omega arith)
 node-from π (Input i) d e = absurd (let z : _≡_ {A = ℕ} 0 1 = cc in omega arith)
-node-from π (Gated g) d e = (g, refl, cc)
+node-from π (Var g) d e = (g, refl, cc)
 
 pub comb-from : (π : ℕ → ℕ) (y : Gate) (f : Form) (ps : List Signal) → Comb f ps ≡ remapGate π y → (qs : List Signal) × (y ≡ Comb f qs) × (ps ≡ map (remap π) qs)
 comb-from π (Comb h qs) f ps e = (qs, (let q : h ≡ f = cc in ap (λ (x : Form). Comb x qs) q), cc)
@@ -42,10 +42,10 @@ module _ (old new : Net) (π order : ℕ → ℕ) (ren : Renumbered old new π o
     node-same : (n : Node) → NodeKept (length (new .gates)) π order n → nodeBit row bits′ (remapNode π n) ≡ nodeBit row bits n
     node-same Const k = refl
     node-same (Input i) k = refl
-    node-same (Gated g) k = ap bits (k .1)
+    node-same (Var g) k = ap bits (k .1)
 
     sig-same : (s : Signal) → NodeKept (length (new .gates)) π order (s .node) → sigBit row bits′ (remap π s) ≡ sigBit row bits s
-    sig-same s k = ap (flip (s .inv)) (node-same (s .node) k)
+    sig-same s k = ap (invertIf (s .inv)) (node-same (s .node) k)
 
     sigs-same : (ss : List Signal) → ((s : Signal) → List·Memᴰ s ss → NodeKept (length (new .gates)) π order (s .node)) → map (sigBit row bits′) (map (remap π) ss) ≡ map (sigBit row bits) ss
     sigs-same ss k = map-map (sigBit row bits′) (remap π) ss ∙ map-on (λ (s : Signal). sigBit row bits′ (remap π s)) (sigBit row bits) ss (λ s w. sig-same s (k s w))
@@ -90,7 +90,7 @@ module _ (old new : Net) (π order : ℕ → ℕ) (ren : Renumbered old new π o
     kept-valid : (n : Node) → NodeKept (length (new .gates)) π order n → ValidNode old n → ValidNode new (remapNode π n)
     kept-valid Const k v = tt
     kept-valid (Input i) k v = subst (λ (c : ℕ). i < c) (sym (ren .sameInputs)) v
-    kept-valid (Gated g) k v = k .0
+    kept-valid (Var g) k v = k .0
 
     sigs-valid : (ss : List Signal) → ((s : Signal) → List·Memᴰ s ss → NodeKept (length (new .gates)) π order (s .node)) → ((s : Signal) → List·Memᴰ s ss → ValidNode old (s .node))
         → (s : Signal) → List·Memᴰ s (map (remap π) ss) → ValidNode new (s .node)
@@ -105,10 +105,10 @@ module _ (old new : Net) (π order : ℕ → ℕ) (ren : Renumbered old new π o
       outsValid = λ s m. sigs-valid (old .outputs) (ren .outputsKept) (λ t w. valid .outsValid t w) s (subst (List·Memᴰ s) (ren .sameOutputs) m);
     }
 
-  node-was : (n : Node) (h : ℕ) → NodeKept (length (new .gates)) π order n → remapNode π n ≡ Gated h → n ≡ Gated (order h)
+  node-was : (n : Node) (h : ℕ) → NodeKept (length (new .gates)) π order n → remapNode π n ≡ Var h → n ≡ Var (order h)
   node-was n h k e =
       let t = node-from π n h e in
-      t .1 ∙ ap Gated (sym (subst (NodeKept (length (new .gates)) π order) (t .1) k .1) ∙ ap order (t .2))
+      t .1 ∙ ap Var (sym (subst (NodeKept (length (new .gates)) π order) (t .1) k .1) ∙ ap order (t .2))
 
   pub renumbered-free : (Loop old → ⊥) → Loop new → ⊥
   renumbered-free free =

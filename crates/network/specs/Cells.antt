@@ -8,7 +8,7 @@ use Prim.Native.Nat.{ℕ, _+_, _*_, _^_, _<_, _≤_}
 use lib.Dec.{eqb, leb, ltb}
 use lib.ListN.{length, getD, take, drop}
 use Rattle.lists.specs.Lists.{all, range, sumTo}
-use Rattle.signal.specs.Signal.{Node, Const, Input, Gated}
+use Rattle.signal.specs.Signal.{Node, Const, Input, Var}
 use Rattle.signal.specs.Cell.{sigCell, nodeOf, sigOf}
 use Rattle.gates.specs.Gate.{Buf, Gate, Comb, pins}
 use Rattle.gates.specs.Forms.{formCell, kindOf, kindTakes, gateFrom}
@@ -137,7 +137,7 @@ recordsFit cells n p = all (recordFits cells) (range 0 n) && eqb (startAt cells 
 abbrev pub validNode : ℕ → ℕ → Node → Bool
 validNode inputs gates Const = true
 validNode inputs gates (Input i) = ltb i inputs
-validNode inputs gates (Gated g) = ltb g gates
+validNode inputs gates (Var g) = ltb g gates
 
 -- every cell holds a valid signal
 unfoldable pub allValid : ℕ → ℕ → List ℕ → Bool

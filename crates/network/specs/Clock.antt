@@ -4,7 +4,7 @@ use mathlib.Core.Bool.{Bool, true, false, cond}
 use mathlib.Core.List.{List, [], _∷_, map}
 use Prim.Native.Nat.{ℕ}
 use lib.ListN.{getD}
-use Rattle.signal.specs.Signal.{Node, Const, Input, Gated, Signal, flip}
+use Rattle.signal.specs.Signal.{Node, Const, Input, Var, Signal, invertIf}
 use Rattle.gates.specs.Gate.{FlipFlop, Gate, Comb, Dff, formBit}
 use Rattle.network.specs.Net.{Net, GateIs}
 
@@ -12,11 +12,11 @@ use Rattle.network.specs.Net.{Net, GateIs}
 abbrev pub nodeBit : List Bool → (ℕ → Bool) → Node → Bool
 nodeBit row bits Const = false
 nodeBit row bits (Input i) = getD row i false
-nodeBit row bits (Gated g) = bits g
+nodeBit row bits (Var g) = bits g
 
 -- "Inversion turns a bit over"
 abbrev pub sigBit : List Bool → (ℕ → Bool) → Signal → Bool
-sigBit row bits s = flip (s .inv) (nodeBit row bits (s .node))
+sigBit row bits s = invertIf (s .inv) (nodeBit row bits (s .node))
 
 -- "A flip-flop's bit is its held one, a combinational gate's what its form makes of its inputs' bits"
 abbrev pub gateBit : (Signal → Bool) → Bool → Gate → Bool

@@ -5,7 +5,7 @@ use mathlib.Core.List.{List, List·Memᴰ}
 use mathlib.Core.Option.{some}
 use Prim.Native.Nat.{ℕ, _<_}
 use lib.ListN.{length, getElem?}
-use Rattle.signal.specs.Signal.{Node, Const, Input, Gated, Signal}
+use Rattle.signal.specs.Signal.{Node, Const, Input, Var, Signal}
 use Rattle.gates.specs.Gate.{Form, Gate, Comb, pins}
 use Rattle.gates.specs.Forms.{formed}
 
@@ -30,7 +30,7 @@ GateIs net g x = getElem? (net .gates) g ≡ some x
 abbrev pub ValidNode : Net → Node → Type 0
 ValidNode net Const = Unit {0}
 ValidNode net (Input i) = i < net .inputs
-ValidNode net (Gated g) = g < length (net .gates)
+ValidNode net (Var g) = g < length (net .gates)
 
 -- every input of a gate and every output is valid
 pub record Valid (net : Net) : Type 0 where
@@ -62,13 +62,13 @@ pub record Feeds (net : Net) (a b : ℕ) : Type 0 where
   -- which is one of b's
   pub among : List·Memᴰ by pinsB
   -- and stands for a
-  pub points : by .node ≡ Gated a
+  pub points : by .node ≡ Var a
 
 -- a way of one or more steps, each gate "an input of the next"
-pub data Way (net : Net) : ℕ → ℕ → Type 0 where
-  last : {a b : ℕ} → Feeds net a b → Way net a b
-  more : {a b c : ℕ} → Feeds net a b → Way net b c → Way net a c
+pub data Path (net : Net) : ℕ → ℕ → Type 0 where
+  last : {a b : ℕ} → Feeds net a b → Path net a b
+  more : {a b c : ℕ} → Feeds net a b → Path net b c → Path net a c
 
 -- "A combinational loop is a ring of one or more combinational gates, each an input of the next"
 abbrev pub Loop : Net → Type 0
-Loop net = (g : ℕ) × Way net g g
+Loop net = (g : ℕ) × Path net g g

@@ -7,7 +7,7 @@ use Prim.Native.Nat.{ℕ, _<_}
 use native.Mathlib.Decide.{ℕ-discrete}
 use lib.ListN.{length, getD}
 use Rattle.lists.specs.Lists.{find}
-use Rattle.signal.specs.Signal.{Node, Const, Input, Gated, Signal, remap}
+use Rattle.signal.specs.Signal.{Node, Const, Input, Var, Signal, remap}
 use Rattle.gates.specs.Gate.{Buf, FlipFlop, Gate, Comb, Dff, pins}
 use Rattle.network.specs.Net.{Net, GateIs}
 
@@ -24,7 +24,7 @@ remapGate π (Dff s) = Dff (remapFlop π s)
 abbrev pub NodeKept : ℕ → (ℕ → ℕ) → (ℕ → ℕ) → Node → Type 0
 NodeKept n π order Const = Unit {0}
 NodeKept n π order (Input i) = Unit {0}
-NodeKept n π order (Gated g) = (π g < n) × (order (π g) ≡ g)
+NodeKept n π order (Var g) = (π g < n) × (order (π g) ≡ g)
 
 -- gate i of the new network is gate `order i` of the old one, its inputs renumbered
 pub record From (old : Net) (n : ℕ) (π order : ℕ → ℕ) (i : ℕ) (x : Gate) : Type 0 where

@@ -6,7 +6,7 @@ ghost use mathlib.Core.Path.{_≡_};
 ghost use mathlib.Core.List.{[], _∷_};
 ghost use Prim.Native.Nat.{_+_, _*_, _≤_, _<_};
 ghost use lib.ListN.{length};
-ghost use Rattle.lists.specs.Lists.{overAt};
+ghost use Rattle.lists.specs.Lists.{overwriteAt};
 ghost use Rattle.signal.specs.Cell.{nodeOf};
 ghost use Rattle.network.specs.Cells.{gateWidth, maxGates, maxPins, formAt, firstAt, countAt, decodedAt, CellIs, lent, sizesFit, startAt, recordFits, recordsFit, validNode, allValid, isNetwork};
 
@@ -108,7 +108,7 @@ pub fn count_at(gates: &[u32], g: usize) -> usize
 // Writes gate g's record.
 pub fn put_record(gates: &mut [u32], g: usize, form: u32, first: usize, count: usize)
     requires { ⌜ (g * gateWidth + 2 < length (now gates)) × (g < maxGates) × (first ≤ maxPins) × (count ≤ maxPins) ⌝ }
-    ensures { λ r. ⌜ now (gates .exit) ≡ overAt (g * gateWidth) (form ∷ first ∷ count ∷ []) (now (gates .entry)) ⌝ }
+    ensures { λ r. ⌜ now (gates .exit) ≡ overwriteAt (g * gateWidth) (form ∷ first ∷ count ∷ []) (now (gates .entry)) ⌝ }
 {
     gates[g * GATE_CELLS] = form;
     gates[g * GATE_CELLS + 1] = first as u32;

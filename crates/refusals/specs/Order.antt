@@ -6,12 +6,12 @@ use Rattle.refusals.specs.declared.Refusal.{Refusal}
 use Rattle.refusals.specs.declared.Checked.{Checked}
 use Rattle.refusals.specs.declared.Checked.the-variants.{Fine, Refused}
 
-infixr 20 _then_
+infixr 20 _orElse_
 -- the first, or else the second
-unfoldable pub _then_ : Checked → Checked → Checked
-Fine then b = b
-Refused r then b = Refused r
+unfoldable pub _orElse_ : Checked → Checked → Checked
+Fine orElse b = b
+Refused r orElse b = Refused r
 
 -- the refusal where the test holds
-unfoldable pub when : Bool → Refusal → Checked
-when c r = cond c (Refused r) Fine
+unfoldable pub refuseIf : Bool → Refusal → Checked
+refuseIf c r = cond c (Refused r) Fine

@@ -1,7 +1,7 @@
 // Refusals: a case for each number of document 01. What Quaigh answers by a message or a panic is one of these.
 ghost use mathlib.Core.Path.{_≡_};
 ghost use Rattle.refusals.specs.Numbers.{numberOf};
-ghost use Rattle.refusals.specs.Order.{when};
+ghost use Rattle.refusals.specs.Order.{refuseIf};
 
 // Why a text or a network is refused.
 pub enum Refusal {
@@ -48,8 +48,8 @@ pub enum Checked {
 }
 
 // The refusal where the test holds.
-pub fn when(test: bool, refusal: Refusal) -> Checked
-    ensures { λ r. ⌜ r ≡ when test refusal ⌝ }
+pub fn refuse_if(test: bool, refusal: Refusal) -> Checked
+    ensures { λ r. ⌜ r ≡ refuseIf test refusal ⌝ }
 {
     if test {
         return Checked::Refused(refusal);

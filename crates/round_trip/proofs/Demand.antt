@@ -7,10 +7,10 @@ use Prim.Native.Nat.{ℕ}
 use native.Mathlib.Omega.{arith}
 use lib.ListN.{length, take, length-replicate}
 use borrow.Author.Tests.{le-ltb}
-use Rattle.lists.specs.Lists.{Bytes, zeros, any, over}
+use Rattle.lists.specs.Lists.{Bytes, zeros, any, overwrite}
 use Rattle.lists.proofs.Places.{place-mem}
 use Rattle.lists.proofs.Range.{any-none}
-use Rattle.lists.proofs.Over.{length-over, take-over}
+use Rattle.lists.proofs.Over.{length-overwrite, take-overwrite}
 use Rattle.gates.specs.Gate.{Gate, Comb, Dff}
 use Rattle.gates.specs.Forms.{formed}
 use Rattle.network.specs.Net.{Net, GateIs, Loop}
@@ -23,20 +23,20 @@ use Rattle.blif_text.specs.Places.{maxText}
 use Rattle.blif_writing.specs.Text.{textOf}
 use Rattle.blif_reading.specs.Read.{read, readText}
 use Rattle.blif_writing.specs.WrittenModel.{wide}
-use Rattle.round_trip.specs.Conditions.{Good, PlainGate}
+use Rattle.round_trip.specs.Conditions.{RoundTripNet, PlainGate}
 use Rattle.blif_reading.proofs.ReadNet.{read-net}
 use Rattle.round_trip.proofs.ReadBack.{read-back}
 use Rattle.blif_read.specs.Into.{Lengths, readInto}
 use Rattle.blif_read.proofs.Summary.{read-counts}
 use Rattle.blif_read.proofs.CellsRead.{read-decodes}
 use Rattle.blif_write.specs.Into.{writtenText, writeInto, WriteOutcome}
-use Rattle.round_trip.specs.Trip.{writtenLength, readAnswer, answerOf, TripOutcome, tripInto, PlainFlops, Meets, ReadsBack}
+use Rattle.round_trip.specs.Trip.{writtenLength, readAnswer, answerOf, TripOutcome, tripInto, PlainFlops, RoundTripConditions, ReadsBack}
 
 -- ---- the conditions are those of the theorem
 
 -- a lent network that has the layout, no loop, no wide exclusive gate and plain flip-flops is one of demand 3's
-pub lent-good : (l : Lent) → Words l → isNetwork l ≡ true → (Loop (netOf l) → ⊥) → any wide (netOf l .gates) ≡ false → PlainFlops (netOf l) → Good (netOf l)
-lent-good l words layout free narrow plain =
+pub lent-round-trip : (l : Lent) → Words l → isNetwork l ≡ true → (Loop (netOf l) → ⊥) → any wide (netOf l .gates) ≡ false → PlainFlops (netOf l) → RoundTripNet (netOf l)
+lent-round-trip l words layout free narrow plain =
     let k = network-laid l words layout in
     record {
       valid = k .1;
@@ -49,10 +49,10 @@ lent-good l words layout free narrow plain =
     plain-gate f g (Comb t ps) e = f g (Comb t ps) e
     plain-gate f g (Dff s) e = plain g s e
 
-module _ {l : Lent} {n : ℕ} {m : Lengths} (w : Words l) (c : Meets l n m) where
+module _ {l : Lent} {n : ℕ} {m : Lengths} (w : Words l) (c : RoundTripConditions l n m) where
   -- it is one of demand 3's
-  good : Good (netOf l)
-  good = lent-good l w (c .layout) (c .free) (c .narrow) (c .plain)
+  good : RoundTripNet (netOf l)
+  good = lent-round-trip l w (c .layout) (c .free) (c .narrow) (c .plain)
 
   -- the text is written
   pub written : writeInto l n ≡ writtenText (textOf (netOf l)) n
@@ -69,7 +69,7 @@ module _ {l : Lent} {n : ℕ} {m : Lengths} (w : Words l) (c : Meets l n m) wher
   bytes-read : take (writtenLength (writeInto l n .answer)) (writeInto l n .out) ≡ textOf (netOf l)
   bytes-read =
       ap (λ (o : WriteOutcome). take (writtenLength (o .answer)) (o .out)) written
-      ∙ take-over (textOf (netOf l)) (zeros n) (omega (arith, c .room, length-replicate {A = ℕ} n 0))
+      ∙ take-overwrite (textOf (netOf l)) (zeros n) (omega (arith, c .room, length-replicate {A = ℕ} n 0))
 
   -- what reading them leaves
   read-left : readInto (take (writtenLength (writeInto l n .answer)) (writeInto l n .out)) m ≡ readInto (textOf (netOf l)) m
@@ -107,13 +107,13 @@ module _ {l : Lent} {n : ℕ} {m : Lengths} (w : Words l) (c : Meets l n m) wher
       let q : o .outputs ≡ readInto (textOf (netOf l)) m .outputs = ap (λ x. x .outputs) read-left in
       let is : netOf (lent (countsOf (back .0)) (o .gates) (o .pins) (o .outputs)) ≡ back .0 =
       (λ i. netOf (lent (countsOf (back .0)) (g i) (p i) (q i))) ∙ decoded in
-      let t : o .text ≡ over (textOf (netOf l)) (zeros n) = ap (λ (x : WriteOutcome). x .out) written in
+      let t : o .text ≡ overwrite (textOf (netOf l)) (zeros n) = ap (λ (x : WriteOutcome). x .out) written in
       record {
         counts = countsOf (back .0);
         answered =
             ap₂ answerOf (ap (λ (x : WriteOutcome). x .answer) written) (ap (λ x. x .answer) read-left)
             ∙ ap (readAnswer (length (textOf (netOf l)))) (read-counts (textOf (netOf l)) (back .0) m (c .cells) (back .1));
-        text = t ∙ ap (λ (k : ℕ). over (textOf (netOf l)) (zeros k)) (sym (ap length t ∙ length-over (textOf (netOf l)) (zeros n) ∙ length-replicate {A = ℕ} n 0));
+        text = t ∙ ap (λ (k : ℕ). overwrite (textOf (netOf l)) (zeros k)) (sym (ap length t ∙ length-overwrite (textOf (netOf l)) (zeros n) ∙ length-replicate {A = ℕ} n 0));
         inputs = back .2 .inputs;
         outputs = back .2 .outputs;
         runs = λ rows. ap (λ (x : Net). run x rows) is ∙ back .2 .runs rows;

@@ -5,7 +5,7 @@ use Prim.Native.Nat.{ℕ, _≤_}
 use native.Mathlib.Omega.{arith}
 use lib.ListN.{length, take, length-replicate}
 use Rattle.lists.specs.Lists.{Bytes, zeros}
-use Rattle.lists.proofs.Over.{length-over}
+use Rattle.lists.proofs.Over.{length-overwrite}
 use Rattle.network.specs.Cells.{Lent, netOf, Words}
 use Rattle.blif_read.specs.Into.{Lengths, readInto, ReadOutcome, readOutcome}
 use Rattle.blif_read.specs.declared.ReadAnswer.{ReadAnswer}
@@ -27,7 +27,7 @@ written-within l n a t e = go (writer-ways l n)
     )
     go (writes s h b q) = (
       subst (λ (o : WriteOutcome). writtenLength (o .answer) ≤ n) (sym (e ∙ q)) h,
-      ap (λ (o : WriteOutcome). length (o .out)) (e ∙ q) ∙ length-over s (zeros n) ∙ length-replicate n 0,
+      ap (λ (o : WriteOutcome). length (o .out)) (e ∙ q) ∙ length-overwrite s (zeros n) ∙ length-replicate n 0,
     )
 
 -- the tripOutcome of writing and then reading

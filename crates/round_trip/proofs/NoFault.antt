@@ -12,7 +12,7 @@ use Rattle.lists.proofs.Places.{place-mem}
 use Rattle.lists.proofs.Range.{mem-all}
 use Rattle.lists.proofs.Known.{mem-known, out-unknown}
 use Rattle.lists.proofs.Once.{dup-left, dup-both}
-use Rattle.refusals.specs.Order.{_then_, when}
+use Rattle.refusals.specs.Order.{_orElse_, refuseIf}
 use Rattle.refusals.specs.declared.Refusal.the-variants as refusal
 use Rattle.refusals.specs.declared.Checked.the-variants.{Fine}
 use Rattle.gates.specs.Gate.{FlipFlop, Dff}
@@ -25,7 +25,7 @@ use Rattle.blif_meaning.specs.WellFormed.{defined, sources, optName, Defined, G
 use Rattle.blif_writing.specs.WrittenModel.{written}
 use Rattle.blif_writing.specs.Names.{nameBytes}
 use Rattle.blif_writing.specs.Text.{colByte, textOf}
-use Rattle.blif_reading.specs.Read.{tooLarge, twice, naming, undefined, goodLine, coverFault, coverFaults, declFault, readFault}
+use Rattle.blif_reading.specs.Read.{tooLarge, definedTwice, naming, undefined, goodLine, coverFault, coverFaults, declFault, readFault}
 use Rattle.blif_reading.specs.Accepts.{Accepts}
 use Rattle.round_trip.proofs.BlocksSaid.{tok, tokOf, defOf, gateOf, last-at, cover-ins, cover-out, tok-columns, tok-one}
 use Rattle.round_trip.proofs.Rendered.{textDecls, text-ascii, text-sound, decls-of, ins-are, outs-are, defs-are}
@@ -40,19 +40,19 @@ met l x r h = out-unknown x l (λ m. h (dup-both l (x ∷ r) x m (List·Memᴰ·
 move : (l : List Bytes) (x : Bytes) (r : List Bytes) → (Dup (l ++ x ∷ r) → ⊥) → Dup ((l ++ (x ∷ [])) ++ r) → ⊥
 move l x r h d = h (subst Dup (append-assoc l (x ∷ []) r) d)
 
-not-twice : (earlier ns : List Bytes) → (Dup (earlier ++ ns) → ⊥) → twice earlier ns ≡ false
-unfolding twice
+not-twice : (earlier ns : List Bytes) → (Dup (earlier ++ ns) → ⊥) → definedTwice earlier ns ≡ false
+unfolding definedTwice
 not-twice earlier [] h = refl
 not-twice earlier (n ∷ ns) h = ap₂ (λ (a b : Bool). a || b) (met earlier n ns h) (not-twice (earlier ++ (n ∷ [])) ns (move earlier n ns h))
 
 name-one : (seen : Bool) (earlier : List Bytes) (xs : List Bytes) (y : Bytes) (ls : List (List Bytes)) (ds : List Decl)
-    → naming seen earlier (gate (cover (xs ++ (y ∷ [])) ls) ∷ ds) ≡ (when (known y earlier) refusal.DefinedTwice then naming seen (earlier ++ (y ∷ [])) ds)
+    → naming seen earlier (gate (cover (xs ++ (y ∷ [])) ls) ∷ ds) ≡ (refuseIf (known y earlier) refusal.DefinedTwice orElse naming seen (earlier ++ (y ∷ [])) ds)
 unfolding naming
-name-one seen earlier [] y ls ds = ap (λ (z : Bytes). when (known z earlier) refusal.DefinedTwice then naming seen (earlier ++ (z ∷ [])) ds) (cover-out [] y)
-name-one seen earlier (x ∷ xs) y ls ds = ap (λ (z : Bytes). when (known z earlier) refusal.DefinedTwice then naming seen (earlier ++ (z ∷ [])) ds) (cover-out (x ∷ xs) y)
+name-one seen earlier [] y ls ds = ap (λ (z : Bytes). refuseIf (known z earlier) refusal.DefinedTwice orElse naming seen (earlier ++ (z ∷ [])) ds) (cover-out [] y)
+name-one seen earlier (x ∷ xs) y ls ds = ap (λ (z : Bytes). refuseIf (known z earlier) refusal.DefinedTwice orElse naming seen (earlier ++ (z ∷ [])) ds) (cover-out (x ∷ xs) y)
 
 names-once : (seen : Bool) (earlier : List Bytes) (bs : List (Block Bytes)) → (Dup (earlier ++ map target bs) → ⊥) → naming seen earlier (map gateOf bs) ≡ Fine
-unfolding naming when _then_
+unfolding naming refuseIf _orElse_
 names-once seen earlier [] h = refl
 names-once seen earlier (Latch f q ∷ bs) h =
     rw (met earlier q (map target bs) h) (names-once seen (earlier ++ (q ∷ [])) bs (move earlier q (map target bs) h))
@@ -131,13 +131,13 @@ one-kind n true ls g = ap (λ (b : Bool). any isOne (map tokOf ls) && not b) (al
 one-kind n false ls g = ap (λ (b : Bool). b && not (all isOne (map tokOf ls))) (no-ones n ls g)
 
 cover-good : (b : Block Bytes) → GoodBlock b → coverFault (defOf b) ≡ Fine
-unfolding coverFault when _then_
+unfolding coverFault refuseIf _orElse_
 cover-good (Latch f q) g = refl
 cover-good (Cover xs y ls) g =
     rw (last-at xs y, lines-good (length xs) (g .0) ls (g .1), one-kind (length xs) (g .0) ls (g .1))
 
 covers-good : (bs : List (Block Bytes)) → ((b : Block Bytes) → List·Memᴰ b bs → GoodBlock b) → coverFaults (map defOf bs) ≡ Fine
-unfolding coverFaults _then_
+unfolding coverFaults _orElse_
 covers-good [] h = refl
 covers-good (b ∷ bs) h = rw (cover-good b (h b (List·Memᴰ·head refl))) (covers-good bs (λ c m. h c (List·Memᴰ·tail m)))
 
@@ -151,7 +151,7 @@ module _ (net : Net) (plainFlops : (g : ℕ) (s : FlipFlop) → GateIs net g (Df
   dl = textDecls net plainFlops
 
   no-naming : naming false [] dl ≡ Fine
-  unfolding naming when _then_
+  unfolding naming refuseIf _orElse_
   no-naming =
       rw (not-twice [] (w .inputs) (λ d. acc .formed .once (dup-left (w .inputs) (map target (w .blocks)) d)))
       (names-once true (w .inputs) (w .blocks) (acc .formed .once))
@@ -179,7 +179,7 @@ module _ (net : Net) (plainFlops : (g : ℕ) (s : FlipFlop) → GateIs net g (Df
 
   -- within our sizes: no refusal at all
   pub no-fault : length (textOf net) ≤ 32768 → tooLarge (declsOf (textOf net)) ≡ false → readFault (textOf net) ≡ Fine
-  unfolding readFault declFault when _then_
+  unfolding readFault declFault refuseIf _orElse_
   no-fault short small =
       rw (le-ltb 32768 (length (textOf net)) short, text-ascii net plainFlops, text-sound net plainFlops, small)
       (rw decls-are (rw (no-naming, none-undefined, no-cover-fault)))

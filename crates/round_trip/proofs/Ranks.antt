@@ -4,7 +4,7 @@ use mathlib.Core.List.{List, List·Memᴰ, List·Memᴰ·not-nil, Memᴰ·of-map
 use mathlib.Core.Bool.{Bool, true, false}
 use Prim.Native.Nat.{ℕ, suc, _+_, _*_, _≤_, _<_}
 use native.Mathlib.Omega.{arith}
-use Rattle.signal.specs.Signal.{Node, Const, Input, Gated, Signal, plain, turned}
+use Rattle.signal.specs.Signal.{Node, Const, Input, Var, Signal, plain, invert}
 use Rattle.gates.specs.Gate.{Form, Buf, Comb}
 use Rattle.network.specs.Net.{Net, GateIs}
 use Rattle.blif_meaning.specs.Model.{Block, Latch, Cover}
@@ -19,7 +19,7 @@ module _ {Name : Type 0} (name : Signal → Name) where
     abbrev nodeRank : Node → ℕ
     nodeRank Const = 0
     nodeRank (Input i) = 0
-    nodeRank (Gated g) = suc (rk .rank g)
+    nodeRank (Var g) = suc (rk .rank g)
 
     abbrev signRank : Bool → ℕ
     signRank false = 0
@@ -45,7 +45,7 @@ module _ {Name : Type 0} (name : Signal → Name) where
         go : (n : Node) → s .node ≡ n → nodeRank n < suc (rk .rank g)
         go Const e = omega arith
         go (Input i) e = omega arith
-        go (Gated h) e = let u : rk .rank h < rk .rank g = rk .rises g h f ps s p m e in omega arith
+        go (Var h) e = let u : rk .rank h < rk .rank g = rk .rises g h f ps s p m e in omega arith
 
     abbrev AboveB : Block Name → Type 0
     AboveB (Latch d q) = Unit {0}
@@ -56,19 +56,19 @@ module _ {Name : Type 0} (name : Signal → Name) where
         (λ ps p x m. let t = Memᴰ·of-map (λ (s : Signal). name (bare s)) ps m in
         let u : nodeRank (t .0 .node) < suc (rk .rank g) = node-rises g Buf ps p (t .0) (t .1) in
         let v : rankName x ≡ sigRank (bare (t .0)) = ap rankName (sym (t .2)) ∙ rank-name (bare (t .0)) in
-        let w : rankName (gateName name g) ≡ sigRank (plain (Gated g)) = rank-name (plain (Gated g)) in
+        let w : rankName (gateName name g) ≡ sigRank (plain (Var g)) = rank-name (plain (Var g)) in
         omega arith)
         (λ f ps e p x m. let t = Memᴰ·of-map name ps m in
         let u : nodeRank (t .0 .node) < suc (rk .rank g) = node-rises g f ps p (t .0) (t .1) in
         let v : rankName x ≡ sigRank (t .0) = ap rankName (sym (t .2)) ∙ rank-name (t .0) in
-        let w : rankName (gateName name g) ≡ sigRank (plain (Gated g)) = rank-name (plain (Gated g)) in
+        let w : rankName (gateName name g) ≡ sigRank (plain (Var g)) = rank-name (plain (Var g)) in
         let z : signRank (t .0 .inv) ≤ 1 = sign-le (t .0 .inv) in
         omega arith)
 
     inverter-above : (n : Node) → AboveB (inverterBlock name n)
     inverter-above n x m =
         let v : rankName x ≡ sigRank (plain n) = ap rankName (List·Memᴰ·eq-of-singleton m) ∙ rank-name (plain n) in
-        let w : rankName (name (turned (plain n))) ≡ sigRank (turned (plain n)) = rank-name (turned (plain n)) in
+        let w : rankName (name (invert (plain n))) ≡ sigRank (invert (plain n)) = rank-name (invert (plain n)) in
         omega arith
 
     block-above : (b : Block Name) → Source name net b → AboveB b
@@ -79,4 +79,4 @@ module _ {Name : Type 0} (name : Signal → Name) where
     block-above b (ofZero q) = subst AboveB (sym q) (λ x m. absurd (List·Memᴰ·not-nil m))
 
     pub written-ranked : RankedModel (written name net)
-    written-ranked = record { rankOf = rankName; over = λ xs y ls l x m w v. block-above (Cover xs y ls) (source name net (Cover xs y ls) m) x (lit-source (l .cols) xs x v) }
+    written-ranked = record { rankOf = rankName; above = λ xs y ls l x m w v. block-above (Cover xs y ls) (source name net (Cover xs y ls) m) x (lit-source (l .cols) xs x v) }

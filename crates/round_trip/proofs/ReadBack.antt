@@ -18,12 +18,12 @@ use Rattle.blif_writing.specs.Text.{textOf}
 use Rattle.blif_reading.specs.TextModel.{modelOfText}
 use Rattle.blif_reading.specs.Read.{tooLarge, read, answer, builtFrom, readText}
 use Rattle.blif_text.specs.Decls.{declsOf}
-use Rattle.round_trip.specs.Conditions.{Good}
+use Rattle.round_trip.specs.Conditions.{RoundTripNet}
 use Rattle.network.specs.Settle.{SameOutputs}
 use Rattle.blif_reading.specs.Accepts.{Accepts}
 use Rattle.blif_writing.proofs.NamesDiffer.{unname, unname-name}
 use Rattle.blif_reading.proofs.Meaning.{builtOf, accepted-valid}
-use Rattle.round_trip.proofs.WrittenMeans.{good-formed, written-accepts, same-outputs}
+use Rattle.round_trip.proofs.WrittenMeans.{round-trip-formed, written-accepts, same-outputs}
 use Rattle.round_trip.proofs.Rendered.{parses}
 use Rattle.round_trip.proofs.NoFault.{no-fault}
 
@@ -33,15 +33,15 @@ same-sym s = record { inputs = sym (s .inputs); outputs = sym (s .outputs); runs
 pub same-trans : {a b c : Net} → SameOutputs a b → SameOutputs b c → SameOutputs a c
 same-trans s t = record { inputs = s .inputs ∙ t .inputs; outputs = s .outputs ∙ t .outputs; runs = λ rows. s .runs rows ∙ t .runs rows }
 
-module _ (net : Net) (good : Good net) where
+module _ (net : Net) (good : RoundTripNet net) where
   plain-flops : (g : ℕ) (s : FlipFlop) → GateIs net g (Dff s) → (s .enable ≡ oneS) × (s .reset ≡ zeroS)
   plain-flops g s e = good .plainGates g (Dff s) e
 
-  pub good-parses : modelOfText (textOf net) ≡ written nameBytes net
-  good-parses = parses net plain-flops
+  pub round-trip-parses : modelOfText (textOf net) ≡ written nameBytes net
+  round-trip-parses = parses net plain-flops
 
   accepts : Accepts byte-names (written nameBytes net)
-  accepts = written-accepts byte-names nameBytes unname unname-name net (good .valid) (good .free) (good-formed net good)
+  accepts = written-accepts byte-names nameBytes unname unname-name net (good .valid) (good .free) (round-trip-formed net good)
 
   -- the gates built for what is written are sorted
   sorts : (new : Net) × (sorted (builtOf byte-names (written nameBytes net)) ≡ some new)
@@ -59,8 +59,8 @@ module _ (net : Net) (good : Good net) where
   text-sorts =
       let s = sorts in (
         s .0,
-        ap (λ (m : Model Bytes). sorted (builtOf byte-names m)) good-parses ∙ s .1,
-        same-outputs byte-names nameBytes unname unname-name net (good .valid) (good .free) (good-formed net good) (s .0) (s .1),
+        ap (λ (m : Model Bytes). sorted (builtOf byte-names m)) round-trip-parses ∙ s .1,
+        same-outputs byte-names nameBytes unname unname-name net (good .valid) (good .free) (round-trip-formed net good) (s .0) (s .1),
       )
 
   -- within our sizes it is read
@@ -72,7 +72,7 @@ module _ (net : Net) (good : Good net) where
       (s .0, ap₂ answer (no-fault net plain-flops accepts short small) (s .1), s .2)
 
 -- two networks that share a text have as many inputs and outputs and equal outputs
-pub never-shared : (a b : Net) → Good a → Good b → textOf a ≡ textOf b → SameOutputs a b
+pub never-shared : (a b : Net) → RoundTripNet a → RoundTripNet b → textOf a ≡ textOf b → SameOutputs a b
 never-shared a b goodA goodB e =
     let x = text-sorts a goodA in
     let y = text-sorts b goodB in

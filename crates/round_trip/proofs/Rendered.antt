@@ -13,7 +13,7 @@ use Rattle.lists.specs.Lists.{Bytes, bytes, same, any, range}
 use Rattle.lists.proofs.Places.{flatMap-append}
 use Rattle.lists.proofs.Every.{Every, every-nil, every-cons, every-append, every-map}
 use Rattle.refusals.specs.declared.Checked.the-variants.{Fine}
-use Rattle.signal.specs.Signal.{Node, Const, Input, Gated, Signal, plain, turned, oneS, zeroS}
+use Rattle.signal.specs.Signal.{Node, Const, Input, Var, Signal, plain, invert, oneS, zeroS}
 use Rattle.gates.specs.Gate.{FlipFlop, Gate, Comb, Dff}
 use Rattle.network.specs.Net.{Net, GateIs}
 use Rattle.blif_text.specs.Lines.{split, consFirst, cut, continues, isBlank, nonEmpty, tokens}
@@ -53,7 +53,7 @@ unfolding nonEmpty
 node-word Const true = quoted (bytes "vdd") refl
 node-word Const false = quoted (bytes "gnd") refl
 node-word (Input i) v = (every-cons {x = 105} (omega arith, (λ q. omega arith), (λ q. omega arith), omega arith) (decimal-word (suc i) i (suffix v) (suffix-word v)), refl)
-node-word (Gated g) v = (every-cons {x = 120} (omega arith, (λ q. omega arith), (λ q. omega arith), omega arith) (decimal-word (suc g) g (suffix v) (suffix-word v)), refl)
+node-word (Var g) v = (every-cons {x = 120} (omega arith, (λ q. omega arith), (λ q. omega arith), omega arith) (decimal-word (suc g) g (suffix v) (suffix-word v)), refl)
 
 name-word : (s : Signal) → IsWord (nameBytes s)
 name-word s = node-word (s .node) (s .inv)
@@ -63,7 +63,7 @@ abbrev PlainFlop : FlipFlop → Type 0
 PlainFlop s = (s .enable ≡ oneS) × (s .reset ≡ zeroS)
 
 flop-plain : (k : ℕ) (s : FlipFlop) → PlainFlop s → PlainBlock (Latch (feedOf nameBytes s) (gateName nameBytes k))
-flop-plain k s p = (ap (unless nameBytes true) (p .0), ap (unless nameBytes false) (p .1), name-word (s .dataIn), name-word (plain (Gated k)))
+flop-plain k s p = (ap (unless nameBytes true) (p .0), ap (unless nameBytes false) (p .1), name-word (s .dataIn), name-word (plain (Var k)))
 
 latches-plain : (k : ℕ) (xs : List Gate) → ((i : ℕ) (s : FlipFlop) → getElem? xs i ≡ some (Dff s) → PlainFlop s) → Every PlainBlock (latchBlocks nameBytes k xs)
 latches-plain k [] h = every-nil
@@ -75,12 +75,12 @@ covers-plain k [] = every-nil
 covers-plain k (Dff s ∷ xs) = covers-plain (suc k) xs
 covers-plain k (Comb f ps ∷ xs) =
     every-cons (comb-cases nameBytes (λ f ps b. PlainBlock b) k
-    (λ qs. (every-map (λ (s : Signal). nameBytes (bare s)) qs (λ s. name-word (bare s)), name-word (plain (Gated k))))
-    (λ g qs e. (every-map nameBytes qs name-word, name-word (plain (Gated k)))) f ps)
+    (λ qs. (every-map (λ (s : Signal). nameBytes (bare s)) qs (λ s. name-word (bare s)), name-word (plain (Var k))))
+    (λ g qs e. (every-map nameBytes qs name-word, name-word (plain (Var k)))) f ps)
     (covers-plain (suc k) xs)
 
 inverters-plain : (l : List Node) → Every PlainBlock (map (inverterBlock nameBytes) l)
-inverters-plain l = every-map (inverterBlock nameBytes) l (λ n. (every-cons (name-word (plain n)) every-nil, name-word (turned (plain n))))
+inverters-plain l = every-map (inverterBlock nameBytes) l (λ n. (every-cons (name-word (plain n)) every-nil, name-word (invert (plain n))))
 
 consts-plain : Every PlainBlock (constBlocks nameBytes)
 consts-plain =

@@ -14,9 +14,9 @@ use Rattle.blif_meaning.specs.Model.{BlifRuns}
 use Rattle.blif_writing.specs.Text.{textOf}
 use Rattle.blif_reading.specs.TextModel.{modelOfText}
 use Rattle.blif_reading.specs.Read.{read, readText}
-use Rattle.round_trip.specs.Conditions.{Good}
+use Rattle.round_trip.specs.Conditions.{RoundTripNet}
 use Rattle.blif_read.specs.Into.{Lengths}
-use Rattle.round_trip.specs.Trip.{tripInto, Meets, ReadsBack}
+use Rattle.round_trip.specs.Trip.{tripInto, RoundTripConditions, ReadsBack}
 use Rattle.round_trip.proofs.Demand as demand
 use Rattle.round_trip.proofs.ReadBack as back
 use Rattle.round_trip.proofs.WrittenMeans as writing
@@ -36,11 +36,11 @@ use mathlib.Core.Bool.{false}
 -- demand 3: whatever is lent, where the conditions hold the network is written and read back with as many inputs and outputs, and for every
 -- list of rows, the empty one too, the two give equal outputs at every clock from zero, by the function and by the relation.
 -- `Words` says that the lent cells are 32-bit numbers, which the slices give
-pub demand-three : (l : Lent) (n : ℕ) (m : Lengths) → Words l → Meets l n m → ReadsBack (netOf l) (tripInto l n m)
+pub demand-three : (l : Lent) (n : ℕ) (m : Lengths) → Words l → RoundTripConditions l n m → ReadsBack (netOf l) (tripInto l n m)
 demand-three l n m w c = demand.demand-three w c
 
 -- so two such networks that differ in their numbers of inputs or outputs, or at an output for some list of rows, never share a text
-pub never-shared : (a b : Net) → Good a → Good b → textOf a ≡ textOf b
+pub never-shared : (a b : Net) → RoundTripNet a → RoundTripNet b → textOf a ≡ textOf b
     → (a .inputs ≡ b .inputs) × (length (a .outputs) ≡ length (b .outputs)) × ((rows : List (List Bool)) → run a rows ≡ run b rows)
     × ((rows outs : List (List Bool)) → NetRuns a rows outs ↔ NetRuns b rows outs)
 never-shared a b goodA goodB e =
@@ -64,11 +64,11 @@ pub written-accepted : (net : Net) → Valid net → (Loop net → ⊥) → Form
 written-accepted net valid free formed = writing.written-accepts byte-names nameBytes unname unname-name net valid free formed
 
 -- the text written for a network of demand 3 is parsed as the model written for it
-pub written-parses : (net : Net) → Good net → modelOfText (textOf net) ≡ written nameBytes net
-written-parses = back.good-parses
+pub written-parses : (net : Net) → RoundTripNet net → modelOfText (textOf net) ≡ written nameBytes net
+written-parses = back.round-trip-parses
 
 -- what is written for "a valid, loop-free network with no exclusive gate over 12 inputs and plain flip-flops" is read, where it
 -- is within our sizes, as a network with as many inputs and outputs and equal outputs at every clock
-pub read-back : (net : Net) → Good net → length (textOf net) ≤ maxText → tooLarge (declsOf (textOf net)) ≡ false
+pub read-back : (net : Net) → RoundTripNet net → length (textOf net) ≤ maxText → tooLarge (declsOf (textOf net)) ≡ false
     → (new : Net) × (readText (textOf net) ≡ read new) × SameOutputs new net
 read-back = back.read-back

@@ -28,7 +28,7 @@ use Rattle.blif_writing.specs.WrittenModel.{wide}
 use Rattle.blif_writing.specs.Text.{spaced, line, textOf}
 use Rattle.blif_reading.specs.Read.{added, gateCount, pinCount, tooLarge}
 use Rattle.blif_read.specs.Into.{enough}
-use Rattle.round_trip.specs.Trip.{Meets}
+use Rattle.round_trip.specs.Trip.{RoundTripConditions}
 use Rattle.round_trip.specs.Witness.{flop, net, witness, cells}
 
 -- the cells hold the network
@@ -81,9 +81,9 @@ plain-flops (suc (suc zero)) s e = absurd (let z : _≡_ {A = ℕ} 0 1 = cc in o
 plain-flops (suc (suc (suc g))) s e = absurd (let z : _≡_ {A = ℕ} 0 1 = cc in omega (arith, z))
 
 -- the witness meets the conditions
-pub witness-meets : Meets witness 32768 cells
+pub witness-conditions : RoundTripConditions witness 32768 cells
 unfolding enough spaced line flatMap
-witness-meets =
+witness-conditions =
     record {
       layout = layout;
       free = free;

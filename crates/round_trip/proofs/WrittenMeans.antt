@@ -19,7 +19,7 @@ use Rattle.sort_order.proofs.Summary.{sorted-keeps}
 use Rattle.blif_meaning.specs.Model.{BlifRuns}
 use Rattle.blif_reading.specs.Lookup.{lookup}
 use Rattle.blif_writing.specs.WrittenModel.{written}
-use Rattle.round_trip.specs.Conditions.{Good, PlainGate}
+use Rattle.round_trip.specs.Conditions.{RoundTripNet, PlainGate}
 use Rattle.network.specs.Settle.{SameOutputs}
 use Rattle.blif_reading.specs.Accepts.{Accepts}
 use Rattle.blif_reading.proofs.Lookups.{looks}
@@ -34,8 +34,8 @@ plain-formed : (x : Gate) → PlainGate x → formed x ≡ true
 plain-formed (Comb f ps) p = p
 plain-formed (Dff s) p = refl
 
-pub good-formed : (net : Net) → Good net → Formed net
-good-formed net good g x e = plain-formed x (good .plainGates g x e)
+pub round-trip-formed : (net : Net) → RoundTripNet net → Formed net
+round-trip-formed net good g x e = plain-formed x (good .plainGates g x e)
 
 module _ {Name : Type 0} (dec : (x y : Name) → Dec (x ≡ y)) (name : Signal → Name) (unnamed : Name → Signal) (back : (s : Signal) → unnamed (name s) ≡ s) where
   module _ (net : Net) (valid : Valid net) (free : Loop net → ⊥) (counts : Formed net) where

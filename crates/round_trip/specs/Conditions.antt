@@ -16,7 +16,7 @@ PlainGate (Dff s) = (s .enable ≡ oneS) × (s .reset ≡ zeroS)
 
 -- a network of demand 3, "without a loop": "Its networks have the layout and signals that 20 asks for, its exclusive gates are those of
 -- 21", and its flip-flops are plain
-pub record Good (net : Net) : Type 0 where
+pub record RoundTripNet (net : Net) : Type 0 where
   -- every signal is valid
   pub valid : Valid net
   -- no combinational loop

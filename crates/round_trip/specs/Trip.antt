@@ -8,7 +8,7 @@ use mathlib.Core.List.{List}
 use mathlib.Core.Logic.{_↔_}
 use Prim.Native.Nat.{ℕ, _≤_}
 use lib.ListN.{length, take}
-use Rattle.lists.specs.Lists.{Bytes, zeros, any, over}
+use Rattle.lists.specs.Lists.{Bytes, zeros, any, overwrite}
 use Rattle.signal.specs.Signal.{zeroS, oneS}
 use Rattle.gates.specs.Gate.{FlipFlop, Dff}
 use Rattle.network.specs.Net.{Net, GateIs, Loop}
@@ -82,7 +82,7 @@ abbrev pub PlainFlops : Net → Type 0
 PlainFlops net = (g : ℕ) (s : FlipFlop) → GateIs net g (Dff s) → (s .enable ≡ oneS) × (s .reset ≡ zeroS)
 
 -- the conditions: n is the length of the text's slice, m are the lengths of those to be filled
-pub record Meets (l : Lent) (n : ℕ) (m : Lengths) : Type 0 where
+pub record RoundTripConditions (l : Lent) (n : ℕ) (m : Lengths) : Type 0 where
   -- "Its networks have the layout and signals that 20 asks for"
   pub layout : isNetwork l ≡ true
   -- no combinational loop
@@ -107,7 +107,7 @@ pub record ReadsBack (net : Net) (o : TripOutcome) : Type 0 where
   -- it is read back, and the text's length is answered too
   pub answered : o .answer ≡ ReadBack (length (textOf net)) counts
   -- the text is the network's, with zero bytes after it
-  pub text : o .text ≡ over (textOf net) (zeros (length (o .text)))
+  pub text : o .text ≡ overwrite (textOf net) (zeros (length (o .text)))
   -- as many inputs
   pub inputs : counts .inputs ≡ net .inputs
   -- as many outputs
@@ -127,4 +127,4 @@ pub record WritesThenReads (l : Lent) (n : ℕ) (m : Lengths) (o : TripOutcome) 
   -- the answer and every cell and byte are determined, whatever is lent
   pub determined : o ≡ tripInto l n m
   -- demand 3
-  pub demand : Meets l n m → ReadsBack (netOf l) o
+  pub demand : RoundTripConditions l n m → ReadsBack (netOf l) o

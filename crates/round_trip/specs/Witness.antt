@@ -1,7 +1,7 @@
 -- A network that meets demand 3's conditions, with a flip-flop, an Xor, a Mux and an inverted output. Assumes nothing: these are
 -- definitions.
 use mathlib.Core.List.{[], _∷_, map}
-use Rattle.signal.specs.Signal.{Input, Gated, plain, zeroS, oneS, turned}
+use Rattle.signal.specs.Signal.{Input, Var, plain, zeroS, oneS, invert}
 use Rattle.signal.specs.Cell.{sigCell}
 use Rattle.gates.specs.Gate.{Mux3, XorN, FlipFlop, Comb, Dff}
 use Rattle.network.specs.Net.{Net}
@@ -10,14 +10,14 @@ use Rattle.blif_read.specs.Into.{Lengths, lengths}
 
 -- x0 takes x1 at each clock
 abbrev pub flop : FlipFlop
-flop = record { dataIn = plain (Gated 1); enable = oneS; reset = zeroS }
+flop = record { dataIn = plain (Var 1); enable = oneS; reset = zeroS }
 
 -- x1 = i0 xor x0; x2 = x0 ? i1 : x1; the output is x2 inverted
 abbrev pub net : Net
 net = record {
   inputs = 2;
-  gates = Dff flop ∷ Comb XorN (plain (Input 0) ∷ plain (Gated 0) ∷ []) ∷ Comb Mux3 (plain (Gated 0) ∷ plain (Input 1) ∷ plain (Gated 1) ∷ []) ∷ [];
-  outputs = turned (plain (Gated 2)) ∷ [];
+  gates = Dff flop ∷ Comb XorN (plain (Input 0) ∷ plain (Var 0) ∷ []) ∷ Comb Mux3 (plain (Var 0) ∷ plain (Input 1) ∷ plain (Var 1) ∷ []) ∷ [];
+  outputs = invert (plain (Var 2)) ∷ [];
 }
 
 -- its cells

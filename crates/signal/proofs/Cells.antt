@@ -9,14 +9,14 @@ use lib.Bits.{bitXor, xor-zero-r}
 use borrow.Author.Tests.{eq-eqb, ne-eqb, lt-ltb, le-ltb}
 use mir.Val.{boolByte}
 use Rattle.lists.proofs.Tests.{by-order}
-use Rattle.signal.specs.Signal.{Node, Const, Input, Gated, Signal, plain, xorS, turned, inputNode, constNode, gateNode}
+use Rattle.signal.specs.Signal.{Node, Const, Input, Var, Signal, plain, xorS, invert, inputNode, constNode, gateNode}
 use Rattle.signal.specs.Cell.{bitOf, nodeCell, sigCell, nodeOf, sigOf, gateCell, inputCell, gateNumber, inputNumber}
 use Rattle.signal.proofs.Bits.{xor-one}
 
 -- the numbers that a cell has room for: 2^30 − 1 gates and 2^30 inputs
 abbrev pub Small : Node → Type 0
 Small Const = Unit {0}
-Small (Gated v) = v < 2 ^ 30 - 1
+Small (Var v) = v < 2 ^ 30 - 1
 Small (Input v) = v < 2 ^ 30
 
 -- ---- the three kinds of cells
@@ -24,7 +24,7 @@ Small (Input v) = v < 2 ^ 30
 -- which kind a cell is of, with its node
 pub data Kind (c : ℕ) : Type 0 where
   const : c < 2 → nodeOf c ≡ Const → Kind c
-  gate : 2 ≤ c → c < 2 ^ 31 → nodeOf c ≡ Gated (c / 2 - 1) → Kind c
+  gate : 2 ≤ c → c < 2 ^ 31 → nodeOf c ≡ Var (c / 2 - 1) → Kind c
   input : 2 ^ 31 ≤ c → nodeOf c ≡ Input (2 ^ 31 - 1 - c / 2) → Kind c
 
 pub kind : (c : ℕ) → Kind c
@@ -85,14 +85,14 @@ half-input i b u w = omega arith
 node-again : (n : Node) (v : Bool) → Small n → nodeOf (nodeCell n + bitOf v) ≡ n
 node-again Const false s = refl
 node-again Const true s = refl
-node-again (Gated g) v s = go (kind (2 * (g + 1) + bitOf v))
+node-again (Var g) v s = go (kind (2 * (g + 1) + bitOf v))
   where
     u : bitOf v ≤ 1
     u = bit-le v
 
-    go : Kind (2 * (g + 1) + bitOf v) → nodeOf (2 * (g + 1) + bitOf v) ≡ Gated g
+    go : Kind (2 * (g + 1) + bitOf v) → nodeOf (2 * (g + 1) + bitOf v) ≡ Var g
     go (const h e) = absurd (omega arith)
-    go (gate h k e) = e ∙ ap Gated (half-gate g (bitOf v) u)
+    go (gate h k e) = e ∙ ap Var (half-gate g (bitOf v) u)
     go (input h e) = absurd (omega (arith, u))
 node-again (Input i) v s = go (kind (2 ^ 32 - 2 * (i + 1) + bitOf v))
   where
@@ -107,7 +107,7 @@ node-again (Input i) v s = go (kind (2 ^ 32 - 2 * (i + 1) + bitOf v))
 inv-again : (n : Node) (v : Bool) → Small n → eqb ((nodeCell n + bitOf v) % 2) 1 ≡ v
 inv-again Const false s = refl
 inv-again Const true s = refl
-inv-again (Gated g) v s = odd-even (g + 1) v
+inv-again (Var g) v s = odd-even (g + 1) v
 inv-again (Input i) v s = ap (λ (c : ℕ). eqb ((c + bitOf v) % 2) 1) (input-even i s) ∙ odd-even (2 ^ 31 - (i + 1)) v
   where
     input-even : (j : ℕ) → j < 2 ^ 30 → 2 ^ 32 - 2 * (j + 1) ≡ 2 * (2 ^ 31 - (j + 1))
@@ -125,7 +125,7 @@ cell-fits s h = go (s .node) h
 
     go : (n : Node) → Small n → nodeCell n + bitOf (s .inv) < 2 ^ 32
     go Const k = omega (arith, u)
-    go (Gated g) k = omega (arith, u)
+    go (Var g) k = omega (arith, u)
     go (Input i) k = omega (arith, u)
 
 -- so two 32-bit numbers with one signal are one number
@@ -169,7 +169,7 @@ gate-not-input c p q = go (nodeOf c) (sym p ∙ q)
     go : (n : Node) → inputNode n ≡ true → false ≡ gateNode n
     go Const e = refl
     go (Input i) e = refl
-    go (Gated g) e = e
+    go (Var g) e = e
 
 pub gate-test : {r s : Bool} (c : ℕ) → r ≡ inputNode (nodeOf c) → r ≡ false → s ≡ constNode (nodeOf c) → not s ≡ gateNode (nodeOf c)
 gate-test c p q t = ap not t ∙ go (nodeOf c) (sym p ∙ q)
@@ -177,17 +177,17 @@ gate-test c p q t = ap not t ∙ go (nodeOf c) (sym p ∙ q)
     go : (n : Node) → inputNode n ≡ false → not (constNode n) ≡ gateNode n
     go Const e = refl
     go (Input i) e = e
-    go (Gated g) e = refl
+    go (Var g) e = refl
 
 -- ---- numbers
 
 -- the number of a gate's cell is its gate's
-pub gate-number : (c : ℕ) → gateNode (nodeOf c) ≡ true → nodeOf c ≡ Gated (gateNumber c)
+pub gate-number : (c : ℕ) → gateNode (nodeOf c) ≡ true → nodeOf c ≡ Var (gateNumber c)
 gate-number c t = go (kind c)
   where
-    go : Kind c → nodeOf c ≡ Gated (gateNumber c)
+    go : Kind c → nodeOf c ≡ Var (gateNumber c)
     go (const h e) = absurd (false≢true (sym (ap gateNode e) ∙ t))
-    go (gate h k e) = e ∙ ap Gated (omega arith)
+    go (gate h k e) = e ∙ ap Var (omega arith)
     go (input h e) = absurd (false≢true (sym (ap gateNode e) ∙ t))
 
 pub input-number : (c : ℕ) → inputNode (nodeOf c) ≡ true → nodeOf c ≡ Input (inputNumber c)
@@ -199,7 +199,7 @@ input-number c t = go (kind c)
     go (input h e) = e
 
 -- what `from_var` and `from_input` build, where the number has room, is document 01's number
-pub gate-cell : (v : ℕ) → v < 2 ^ 30 - 1 → gateCell v ≡ sigCell (plain (Gated v))
+pub gate-cell : (v : ℕ) → v < 2 ^ 30 - 1 → gateCell v ≡ sigCell (plain (Var v))
 gate-cell v h = omega arith
 
 pub input-cell : (v : ℕ) → v < 2 ^ 30 → inputCell v ≡ sigCell (plain (Input v))
@@ -213,7 +213,7 @@ turn-bit c =
     (λ h. ap (λ (b : Bool). bitOf (not b)) (ne-eqb (c % 2) 1 (λ e. omega arith)) ∙ omega arith)
     (λ h. ap (λ (b : Bool). bitOf (not b)) (eq-eqb (c % 2) 1 (omega arith)) ∙ omega arith)
 
-pub turn-cell : (c : ℕ) → c < 2 ^ 32 → bitXor c 1 ≡ sigCell (turned (sigOf c))
+pub turn-cell : (c : ℕ) → c < 2 ^ 32 → bitXor c 1 ≡ sigCell (invert (sigOf c))
 turn-cell c l = omega (arith, xor-one c, node-cell c l, turn-bit c)
 
 pub xor-cell : (b : Bool) (c : ℕ) → c < 2 ^ 32 → bitXor c (boolByte b) ≡ sigCell (xorS (sigOf c) b)

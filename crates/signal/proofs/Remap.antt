@@ -7,7 +7,7 @@ use lib.Dec.{ltb}
 use lib.ListN.{length, getD}
 use borrow.Author.Tests.{lt-ltb, le-ltb}
 use Rattle.lists.proofs.Tests.{and-both, and-false}
-use Rattle.signal.specs.Signal.{Node, Const, Input, Gated, Signal, plain, flip, xorS, gateNode, remapNode, remap}
+use Rattle.signal.specs.Signal.{Node, Const, Input, Var, Signal, plain, invertIf, xorS, gateNode, remapNode, remap}
 use Rattle.signal.specs.Cell.{nodeCell, sigCell, nodeOf, sigOf, gateNumber, remapCell}
 use Rattle.signal.proofs.Cells.{Small}
 use Rattle.signal.proofs.Cells.{gate-number, signal-again, cell-again}
@@ -37,7 +37,7 @@ module _ (t : List ℕ) (π : ℕ → ℕ) where
   abbrev pub Renames : Node → Type 0
   Renames Const = Unit {0}
   Renames (Input i) = Unit {0}
-  Renames (Gated g) = (g < length t) × (π g < 2 ^ 30 - 1) × (sigOf (getD t g 0) ≡ plain (Gated (π g)))
+  Renames (Var g) = (g < length t) × (π g < 2 ^ 30 - 1) × (sigOf (getD t g 0) ≡ plain (Var (π g)))
 
   -- a signal of no gate is kept
   remap-kept : (s : Signal) → gateNode (s .node) ≡ false → s ≡ remap π s
@@ -46,11 +46,11 @@ module _ (t : List ℕ) (π : ℕ → ℕ) where
       go : (n : Node) → gateNode n ≡ false → n ≡ remapNode π n
       go Const k = refl
       go (Input i) k = refl
-      go (Gated g) k = absurd (true≢false k)
+      go (Var g) k = absurd (true≢false k)
 
-  flip-false : (b : Bool) → flip b false ≡ b
-  flip-false false = refl
-  flip-false true = refl
+  invertIf-false : (b : Bool) → invertIf b false ≡ b
+  invertIf-false false = refl
+  invertIf-false true = refl
 
   -- the signal of the renumbered cell is the signal renumbered
   pub remap-signal : (c : ℕ) → Renames (nodeOf c) → sigOf (remapCell t c) ≡ remap π (sigOf c)
@@ -59,15 +59,15 @@ module _ (t : List ℕ) (π : ℕ → ℕ) where
       go : (n : Node) → nodeOf c ≡ n → Renames n → sigOf (remapCell t c) ≡ remap π (sigOf c)
       go Const e k = ap sigOf (sym (remap-other t c (ap gateNode e))) ∙ remap-kept (sigOf c) (ap gateNode e)
       go (Input j) e k = ap sigOf (sym (remap-other t c (ap gateNode e))) ∙ remap-kept (sigOf c) (ap gateNode e)
-      go (Gated g) e k =
-          let q : Gated (gateNumber c) ≡ Gated g = sym (gate-number c (ap gateNode e)) ∙ e in
+      go (Var g) e k =
+          let q : Var (gateNumber c) ≡ Var g = sym (gate-number c (ap gateNode e)) ∙ e in
           let n : gateNumber c ≡ g = cc in
-          let s : Signal = xorS (plain (Gated (π g))) (sigOf c .inv) in
-          let w : sigOf (getD t (gateNumber c) 0) ≡ plain (Gated (π g)) = ap (λ (v : ℕ). sigOf (getD t v 0)) n ∙ k .2 in
+          let s : Signal = xorS (plain (Var (π g))) (sigOf c .inv) in
+          let w : sigOf (getD t (gateNumber c) 0) ≡ plain (Var (π g)) = ap (λ (v : ℕ). sigOf (getD t v 0)) n ∙ k .2 in
           ap sigOf (sym (remap-gate t c (ap gateNode e) refl (subst (λ (v : ℕ). v < length t) (sym n) (k .0)) refl))
           ∙ ap (λ (x : Signal). sigOf (sigCell (xorS x (sigOf c .inv)))) w
           ∙ signal-again s (k .1)
-          ∙ (λ i. record { node = ap (remapNode π) (sym e) i; inv = flip-false (sigOf c .inv) i })
+          ∙ (λ i. record { node = ap (remapNode π) (sym e) i; inv = invertIf-false (sigOf c .inv) i })
 
   -- and the renumbered cell is the cell of the signal renumbered
   pub remap-cell : (c : ℕ) → c < 2 ^ 32 → Renames (nodeOf c) → remapCell t c ≡ sigCell (remap π (sigOf c))
@@ -79,12 +79,12 @@ module _ (t : List ℕ) (π : ℕ → ℕ) where
       go : (n : Node) → nodeOf c ≡ n → Renames n → remapCell t c ≡ sigCell (remap π (sigOf c))
       go Const e k = kept (ap gateNode e)
       go (Input j) e k = kept (ap gateNode e)
-      go (Gated g) e k =
-          let q : Gated (gateNumber c) ≡ Gated g = sym (gate-number c (ap gateNode e)) ∙ e in
+      go (Var g) e k =
+          let q : Var (gateNumber c) ≡ Var g = sym (gate-number c (ap gateNode e)) ∙ e in
           let n : gateNumber c ≡ g = cc in
-          let w : sigOf (getD t (gateNumber c) 0) ≡ plain (Gated (π g)) = ap (λ (v : ℕ). sigOf (getD t v 0)) n ∙ k .2 in
-          let s : xorS (plain (Gated (π g))) (sigOf c .inv) ≡ remap π (sigOf c) =
-          λ i. record { node = ap (remapNode π) (sym e) i; inv = flip-false (sigOf c .inv) i } in
+          let w : sigOf (getD t (gateNumber c) 0) ≡ plain (Var (π g)) = ap (λ (v : ℕ). sigOf (getD t v 0)) n ∙ k .2 in
+          let s : xorS (plain (Var (π g))) (sigOf c .inv) ≡ remap π (sigOf c) =
+          λ i. record { node = ap (remapNode π) (sym e) i; inv = invertIf-false (sigOf c .inv) i } in
           sym (remap-gate t c (ap gateNode e) refl (subst (λ (v : ℕ). v < length t) (sym n) (k .0)) refl)
           ∙ ap (λ (x : Signal). sigCell (xorS x (sigOf c .inv))) w
           ∙ ap sigCell s

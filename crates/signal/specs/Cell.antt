@@ -5,7 +5,7 @@ use mathlib.Core.List.{List}
 use Prim.Native.Nat.{ℕ, _+_, _-_, _*_, _/_, _%_, _^_, _<_}
 use lib.Dec.{eqb, ltb}
 use lib.ListN.{length, getD}
-use Rattle.signal.specs.Signal.{Node, Const, Input, Gated, Signal, plain, xorS, gateNode}
+use Rattle.signal.specs.Signal.{Node, Const, Input, Var, Signal, plain, xorS, gateNode}
 
 -- a bit as a number
 abbrev pub bitOf : Bool → ℕ
@@ -15,7 +15,7 @@ bitOf true = 1
 -- "Constant zero is 0", "Gate v is 2 × (v + 1)", "Input v is 2^32 − 2 × (v + 1)"
 abbrev pub nodeCell : Node → ℕ
 nodeCell Const = 0
-nodeCell (Gated v) = 2 * (v + 1)
+nodeCell (Var v) = 2 * (v + 1)
 nodeCell (Input v) = 2 ^ 32 - 2 * (v + 1)
 
 -- the cell of a signal: inversion is bit 0
@@ -24,7 +24,7 @@ sigCell s = nodeCell (s .node) + bitOf (s .inv)
 
 -- the node of a cell: a constant below 2, an input from 2^31 on, else a gate
 abbrev pub nodeOf : ℕ → Node
-nodeOf c = cond (ltb c 2) Const (cond (ltb c (2 ^ 31)) (Gated (c / 2 - 1)) (Input (2 ^ 31 - 1 - c / 2)))
+nodeOf c = cond (ltb c 2) Const (cond (ltb c (2 ^ 31)) (Var (c / 2 - 1)) (Input (2 ^ 31 - 1 - c / 2)))
 
 -- the signal of a cell
 abbrev pub sigOf : ℕ → Signal

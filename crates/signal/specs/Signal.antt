@@ -6,7 +6,7 @@ use Prim.Native.Nat.{ℕ}
 pub data Node : Type 0 where
   Const : Node
   Input : ℕ → Node
-  Gated : ℕ → Node
+  Var : ℕ → Node
 
 -- "bit 0 is the inversion"
 pub record Signal : Type 0 where
@@ -28,41 +28,41 @@ abbrev pub oneS : Signal
 oneS = record { node = Const; inv = true }
 
 -- "Inversion turns a bit over": b, turned over where the first is true
-abbrev pub flip : Bool → Bool → Bool
-flip false b = b
-flip true b = not b
+abbrev pub invertIf : Bool → Bool → Bool
+invertIf false b = b
+invertIf true b = not b
 
 -- "Exclusive-or of a signal with a bool": "true flips bit 0"
 abbrev pub xorS : Signal → Bool → Signal
-xorS s b = record { node = s .node; inv = flip b (s .inv) }
+xorS s b = record { node = s .node; inv = invertIf b (s .inv) }
 
 -- the signal inverted
-abbrev pub turned : Signal → Signal
-turned s = xorS s true
+abbrev pub invert : Signal → Signal
+invert s = xorS s true
 
 -- whether the node is an input: "bit 31 marks an input"
 abbrev pub inputNode : Node → Bool
 inputNode Const = false
 inputNode (Input i) = true
-inputNode (Gated g) = false
+inputNode (Var g) = false
 
 -- whether the node is a constant
 abbrev pub constNode : Node → Bool
 constNode Const = true
 constNode (Input i) = false
-constNode (Gated g) = false
+constNode (Var g) = false
 
 -- whether the node is a gate
 abbrev pub gateNode : Node → Bool
 gateNode Const = false
 gateNode (Input i) = false
-gateNode (Gated g) = true
+gateNode (Var g) = true
 
 -- the node with gate g renumbered π g
 abbrev pub remapNode : (ℕ → ℕ) → Node → Node
 remapNode π Const = Const
 remapNode π (Input i) = Input i
-remapNode π (Gated g) = Gated (π g)
+remapNode π (Var g) = Var (π g)
 
 -- the signal with its gate renumbered and its inversion kept: what `remap_order` does
 abbrev pub remap : (ℕ → ℕ) → Signal → Signal

@@ -1,7 +1,7 @@
 // Signals: 32-bit numbers built, inverted and split by shifts and masks (Quaigh's src/network/signal.rs).
 ghost use mathlib.Core.Path.{_≡_};
 ghost use Prim.Native.Nat.{_*_, _/_, _%_, _^_};
-ghost use Rattle.signal.specs.Signal.{zeroS, oneS, plain, turned, xorS, inputNode, constNode, gateNode};
+ghost use Rattle.signal.specs.Signal.{zeroS, oneS, plain, invert, xorS, inputNode, constNode, gateNode};
 ghost use Rattle.signal.specs.Cell.{sigCell, nodeOf, sigOf, gateCell, inputCell, gateNumber, inputNumber, remapCell};
 
 // A constant, an input or a gate, or its complement: bit 0 is the inversion, bit 31 marks an input.
@@ -128,7 +128,7 @@ impl Signal {
 
     // The signal inverted.
     pub fn not(self) -> Signal
-        ensures { λ r. ⌜ r .a ≡ sigCell (turned (sigOf (self .a))) ⌝ }
+        ensures { λ r. ⌜ r .a ≡ sigCell (invert (sigOf (self .a))) ⌝ }
     {
         Signal { a: self.a ^ 1 }
     }

@@ -10,10 +10,10 @@ use lib.ListN.{length, getD, drop, length-map, drop-of-length-le, List·getD-eq-
 use borrow.Author.Tests.{eq-eqb, ne-eqb, eqb-true, eqb-false}
 use Rattle.lists.proofs.Tests.{by-test}
 use Rattle.lists.proofs.Places.{drop-next}
-use Rattle.signal.specs.Signal.{Node, Const, Input, Gated, flip, inputNode, gateNode}
+use Rattle.signal.specs.Signal.{Node, Const, Input, Var, invertIf, inputNode, gateNode}
 use Rattle.signal.specs.Cell.{nodeOf, sigOf, inputNumber, gateNumber}
 use Rattle.signal.proofs.Cells.{input-number, gate-number}
-use Rattle.gates.specs.Gate.{allOf, anyOf, ones, odd, two}
+use Rattle.gates.specs.Gate.{allOf, anyOf, ones, odd, atLeastTwo}
 use Rattle.gates.proofs.Bits.{maj-is, xor-is}
 use Rattle.network.specs.Clock.{nodeBit}
 use Rattle.simulate.specs.Bits.{signalBit, pinBits}
@@ -21,31 +21,31 @@ use Rattle.simulate.specs.Bits.{signalBit, pinBits}
 -- ---- a signal's bit
 
 -- two bits that differ: the one turned over where the other is one
-pub differ-flip : (b i : Bool) → not (Bool·beq b i) ≡ flip i b
-differ-flip true true = refl
-differ-flip true false = refl
-differ-flip false true = refl
-differ-flip false false = refl
+pub differ-invertIf : (b i : Bool) → not (Bool·beq b i) ≡ invertIf i b
+differ-invertIf true true = refl
+differ-invertIf true false = refl
+differ-invertIf false true = refl
+differ-invertIf false false = refl
 
 module _ (row bits : List Bool) (c : ℕ) {b i : Bool} (inverted : i ≡ sigOf c .inv) where
   pub input-bit : {v : ℕ} → inputNode (nodeOf c) ≡ true → v ≡ inputNumber c → b ≡ getD row v false → not (Bool·beq b i) ≡ signalBit row bits (sigOf c)
   input-bit {v} t e g =
-      differ-flip b i
-      ∙ ap₂ flip inverted (g ∙ ap (λ (k : ℕ). getD row k false) e ∙ sym (ap (nodeBit row (λ (k : ℕ). getD bits k false)) (input-number c t)))
+      differ-invertIf b i
+      ∙ ap₂ invertIf inverted (g ∙ ap (λ (k : ℕ). getD row k false) e ∙ sym (ap (nodeBit row (λ (k : ℕ). getD bits k false)) (input-number c t)))
 
   pub gate-bit : {v : ℕ} → gateNode (nodeOf c) ≡ true → v ≡ gateNumber c → b ≡ getD bits v false → not (Bool·beq b i) ≡ signalBit row bits (sigOf c)
   gate-bit {v} t e g =
-      differ-flip b i
-      ∙ ap₂ flip inverted (g ∙ ap (λ (k : ℕ). getD bits k false) e ∙ sym (ap (nodeBit row (λ (k : ℕ). getD bits k false)) (gate-number c t)))
+      differ-invertIf b i
+      ∙ ap₂ invertIf inverted (g ∙ ap (λ (k : ℕ). getD bits k false) e ∙ sym (ap (nodeBit row (λ (k : ℕ). getD bits k false)) (gate-number c t)))
 
 pub const-bit : (row bits : List Bool) (c : ℕ) {i : Bool} → i ≡ sigOf c .inv → inputNode (nodeOf c) ≡ false → gateNode (nodeOf c) ≡ false → i ≡ signalBit row bits (sigOf c)
 const-bit row bits c e p q = e ∙ go (sigOf c .inv) (nodeOf c) p q
   where
-    go : (i : Bool) (n : Node) → inputNode n ≡ false → gateNode n ≡ false → i ≡ flip i (nodeBit row (λ (k : ℕ). getD bits k false) n)
+    go : (i : Bool) (n : Node) → inputNode n ≡ false → gateNode n ≡ false → i ≡ invertIf i (nodeBit row (λ (k : ℕ). getD bits k false) n)
     go true Const a b = refl
     go false Const a b = refl
     go i (Input k) a b = absurd (true≢false a)
-    go i (Gated k) a b = absurd (true≢false b)
+    go i (Var k) a b = absurd (true≢false b)
 
 -- ---- counts of ones
 
@@ -96,7 +96,7 @@ module _ (m n : ℕ) (bs : List Bool) (l : length bs ≡ m) (o : ones bs ≡ n) 
   pub even-by : eqb (n % 2) 0 ≡ not (odd bs)
   even-by = even-is n ∙ ap not odd-by
 
-  pub maj-by : leb 2 n ≡ two bs
+  pub maj-by : leb 2 n ≡ atLeastTwo bs
   maj-by = sym (maj-is bs ∙ ap (leb 2) o)
 
 -- the only bit

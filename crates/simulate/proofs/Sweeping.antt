@@ -11,7 +11,7 @@ use native.Mathlib.Numerals.{add-one}
 use lib.ListN.{length, set, length-set}
 use lib.Seq.{getD-set-same, getD-set-other, set-getD}
 use Rattle.lists.proofs.Tests.{by-order, by-test, below-next, or-left, or-right}
-use Rattle.signal.specs.Signal.{Gated, Signal}
+use Rattle.signal.specs.Signal.{Var, Signal}
 use Rattle.gates.specs.Gate.{Form, Comb}
 use Rattle.network.specs.Clock.{sigBit, gateBit}
 use Rattle.network.specs.Cells.{gateAt, orBuf}
@@ -104,7 +104,7 @@ module _ (cells pins : List ℕ) (row held : List Bool) where
     -- each gate has the bit that it should
     pub fits : (g : ℕ) → g < n → s g ≡ gateBit (sigBit row s) (bitsOf held g) (orBuf (gateAt cells pins g))
     -- a combinational gate's gate inputs are of lower rank
-    pub rises : (g h : ℕ) (f : Form) (ps : List Signal) (t : Signal) → g < n → orBuf (gateAt cells pins g) ≡ Comb f ps → List·Memᴰ t ps → t .node ≡ Gated h
+    pub rises : (g h : ℕ) (f : Form) (ps : List Signal) (t : Signal) → g < n → orBuf (gateAt cells pins g) ≡ Comb f ps → List·Memᴰ t ps → t .node ≡ Var h
         → rank h < rank g
 
   module _ {n : ℕ} {s : ℕ → Bool} {rank : ℕ → ℕ} (t : Target n s rank) where

@@ -6,11 +6,11 @@ use mathlib.Core.Option.{Option, none, some}
 use Prim.Native.Nat.{ℕ, _+_, _-_, _*_, _^_, _≤_, _<_}
 use native.Mathlib.Omega.{arith}
 use lib.ListN.{length, getD, getElem?, take, drop, length-map}
-use Rattle.lists.specs.Lists.{occ, over}
+use Rattle.lists.specs.Lists.{occ, overwrite}
 use Rattle.lists.proofs.Counting.{getD-occ, mem-occ}
 use Rattle.lists.proofs.FirstPlace.{place, place-at}
 use Rattle.lists.proofs.Places.{place-lt, getD-place, map-on, map-map, run-getD}
-use Rattle.signal.specs.Signal.{Node, Const, Input, Gated, Signal, plain, remap}
+use Rattle.signal.specs.Signal.{Node, Const, Input, Var, Signal, plain, remap}
 use Rattle.signal.specs.Cell.{sigCell, nodeOf, sigOf, gateCell, remapCell}
 use Rattle.signal.proofs.Cells.{signal-again, gate-cell}
 use Rattle.signal.proofs.Remap.{Renames, remap-cell}
@@ -28,7 +28,7 @@ use Rattle.sort_order.specs.Order.{sortOrder}
 use Rattle.sort_order.specs.Sorted.{graph, sorted}
 use Rattle.sort.specs.Into.{sortOutcome, sortInto}
 use Rattle.sort_order.specs.Sortable.{Sortable}
-use Rattle.sort.specs.Steps.{ordered, cellGraph, Numbers, Tabled, movedGates, movedPins, pinsIn, Movable, Renewed}
+use Rattle.sort.specs.Steps.{ordered, cellGraph, Numbers, PlacesTable, movedGates, movedPins, pinsIn, Movable, RenumberedCells}
 use Rattle.sort_order.proofs.Ordering.{sort-length}
 use Rattle.sort_order.proofs.Sorting.{graph-valid, order-sorted, none-sorted, order-has, order-orders}
 use Rattle.sort_order.proofs.Keeps.{once, kept-pins}
@@ -152,20 +152,20 @@ module _ (n : Counts) (gs ps os : List ℕ) {a b : ℕ} (s : Sortable (lent n gs
 
   -- ---- cells renumbered by the table
 
-  module _ (t : List ℕ) (tab : Tabled l (length l) t) where
-    renames : (v : ℕ) → v < n .gates → (v < length t) × (π v < 2 ^ 30 - 1) × (sigOf (getD t v 0) ≡ plain (Gated (π v)))
+  module _ (t : List ℕ) (tab : PlacesTable l (length l) t) where
+    renames : (v : ℕ) → v < n .gates → (v < length t) × (π v < 2 ^ 30 - 1) × (sigOf (getD t v 0) ≡ plain (Var (π v)))
     renames v h =
         let m : List·Memᴰ v l = order-orders net (s .valid) l is-order .every v (subst (λ (k : ℕ). v < k) (sym (net-size n gs ps os)) h) in
         let p : getElem? l (π v) ≡ some v = place-of l v m in
         let q : π v < length l = place-lt l (π v) v p in
         let r : π v < 2 ^ 30 - 1 = omega (arith, q, order-length, s .few) in
         let c : getD t v 0 ≡ gateCell (π v) = ap (λ (k : ℕ). getD t k 0) (sym (getD-place 0 l (π v) v p)) ∙ tab .each (π v) q in
-        (omega (arith, tab .long, s .few), r, ap sigOf (c ∙ gate-cell (π v) r) ∙ signal-again (plain (Gated (π v))) r)
+        (omega (arith, tab .long, s .few), r, ap sigOf (c ∙ gate-cell (π v) r) ∙ signal-again (plain (Var (π v))) r)
 
     node-renames : (m : Node) → ValidNode net m → Renames t π m
     node-renames Const v = tt
     node-renames (Input i) v = tt
-    node-renames (Gated g) v = renames g (subst (λ (k : ℕ). g < k) (net-size n gs ps os) v)
+    node-renames (Var g) v = renames g (subst (λ (k : ℕ). g < k) (net-size n gs ps os) v)
 
     -- cells that hold valid signals are renumbered as the signals are
     cells-renamed : (cs : List ℕ) → ((c : ℕ) → List·Memᴰ c cs → c < 2 ^ 32) → ((c : ℕ) → List·Memᴰ c cs → ValidNode net (nodeOf c))
@@ -203,14 +203,14 @@ module _ (n : Counts) (gs ps os : List ℕ) {a b : ℕ} (s : Sortable (lent n gs
 
   -- ---- all cells
 
-  pub ends-sorted : {ng np os′ ng′ np′ : List ℕ} {r : ℕ} → WordCells ps → WordCells os → Renewed gs ps l (n .outputs) os ng np os′ ng′ np′ r
+  pub ends-sorted : {ng np os′ ng′ np′ : List ℕ} {r : ℕ} → WordCells ps → WordCells os → RenumberedCells gs ps l (n .outputs) os ng np os′ ng′ np′ r
       → sortOutcome (Order r) ng′ np′ os′ ≡ sortInto (sorted net) ng np os
   unfolding sortInto
   ends-sorted {ng} {np} {os′} {ng′} {np′} {r} wp wo d =
       let t = d .table in
       let q : sorted net ≡ some (permuted l net) = order-sorted net (s .valid) l is-order in
       let p1 : r ≡ length (pinCells (permuted l net .gates)) = d .moved .end ∙ pins-all in
-      let p2 : ng′ ≡ over (gateCells 0 (permuted l net .gates)) ng = d .moved .records ∙ ap (λ (y : List ℕ). over y ng) (records-are t (d .tabled) 0 l mem-below) in
-      let p3 : np′ ≡ over (pinCells (permuted l net .gates)) np = d .moved .runs ∙ ap (λ (y : List ℕ). over y np) (runs-are t (d .tabled) wp l mem-below) in
-      let p4 : os′ ≡ over (map sigCell (permuted l net .outputs)) os = d .outputs ∙ ap (λ (y : List ℕ). over y os) (outs-renamed t (d .tabled) wo) in
+      let p2 : ng′ ≡ overwrite (gateCells 0 (permuted l net .gates)) ng = d .moved .records ∙ ap (λ (y : List ℕ). overwrite y ng) (records-are t (d .tabled) 0 l mem-below) in
+      let p3 : np′ ≡ overwrite (pinCells (permuted l net .gates)) np = d .moved .runs ∙ ap (λ (y : List ℕ). overwrite y np) (runs-are t (d .tabled) wp l mem-below) in
+      let p4 : os′ ≡ overwrite (map sigCell (permuted l net .outputs)) os = d .outputs ∙ ap (λ (y : List ℕ). overwrite y os) (outs-renamed t (d .tabled) wo) in
       (λ i. sortOutcome (Order (p1 i)) (p2 i) (p3 i) (p4 i)) ∙ ap (λ (y : Option Net). sortInto y ng np os) (sym q)

@@ -11,13 +11,13 @@ use lib.Seq.{take-at}
 use borrow.Author.Tests.{eq-eqb, ne-eqb}
 use Rattle.sort_order.specs.Order.{Graph, recorded, order, flopsTo, startTo, useCount, sortOrder}
 use Rattle.sort_order.specs.Walk.{ValidGraph}
-use Rattle.sort.specs.Steps.{down, Flopped, Started, Counted, unmarked, Recorded, ordered}
+use Rattle.sort.specs.Steps.{fromTop, FlopsPlaced, Started, Counted, unmarked, Recorded, ordered}
 use Rattle.sort_order.proofs.Ordering.{order-short, sort-full, sort-short}
 use Rattle.sort.proofs.Starting.{start-same, flopped-unmarked}
 
 -- the first stack is that of the graph
-pub started-graph : (G : Graph) (o₀ m o c st : List ℕ) (k top : ℕ) → Flopped (G .comb) (G .size) o₀ m o k → Counted G c → Started m c (G .size) st top
-    → down top st ≡ startTo (G .comb) (useCount G) (G .size)
+pub started-graph : (G : Graph) (o₀ m o c st : List ℕ) (k top : ℕ) → FlopsPlaced (G .comb) (G .size) o₀ m o k → Counted G c → Started m c (G .size) st top
+    → fromTop top st ≡ startTo (G .comb) (useCount G) (G .size)
 started-graph G o₀ m o c st k top f q s =
     s .stack ∙ start-same (unmarked m) (G .comb) (λ v. getD c v 0) (useCount G) (G .size) (λ v l. flopped-unmarked (G .comb) (G .size) o₀ m o k f v l) (λ v l. q .each v)
 
@@ -26,7 +26,7 @@ module _ (G : Graph) (valid : ValidGraph G) where
   unfolding order
   parts = length-append (flopsTo (G .comb) (G .size)) (recorded G)
 
-  module _ {o₀ m o₁ o₂ : List ℕ} {k at : ℕ} (f : Flopped (G .comb) (G .size) o₀ m o₁ k) (l : Recorded G o₁ o₂ at) where
+  module _ {o₀ m o₁ o₂ : List ℕ} {k at : ℕ} (f : FlopsPlaced (G .comb) (G .size) o₀ m o₁ k) (l : Recorded G o₁ o₂ at) where
     -- where the recorded gates start behind the flip-flops, all gates stand in the order
     found-order : at ≡ k → take (G .size) o₂ ≡ order G
     unfolding order

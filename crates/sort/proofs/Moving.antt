@@ -6,20 +6,20 @@ use native.Mathlib.Omega.{arith}
 use native.Mathlib.Nat.{zero-add}
 use lib.ListN.{length, getD, take, drop, set, length-set, length-map, drop-of-length-le}
 use lib.Seq.{getD-set-same, getD-set-other, getD-take, length-take-le}
-use Rattle.lists.specs.Lists.{over, overAt}
+use Rattle.lists.specs.Lists.{overwrite, overwriteAt}
 use Rattle.lists.proofs.Places.{drop-next}
 use Rattle.lists.proofs.Tests.{below-next}
 use Rattle.signal.specs.Cell.{gateCell, remapCell}
 use Rattle.network.specs.Cells.{gateWidth, maxGates, formAt, runAt}
-use Rattle.sort.specs.Steps.{Numbers, Tabled, movedGates, movedPins, pinsIn, RoomFor, GateMoved, Movable, Moved}
-use Rattle.lists.proofs.OverAt.{length-overAt, overAt-nil, over-first, over-append}
+use Rattle.sort.specs.Steps.{Numbers, PlacesTable, movedGates, movedPins, pinsIn, RoomFor, GateMoved, Movable, Moved}
+use Rattle.lists.proofs.OverAt.{length-overwriteAt, overwriteAt-nil, overwrite-first, overwrite-append}
 
 -- ---- the translation table
 
 -- the first i numbers of the order have their signal
 pub record Tabling (o t : List ℕ) (i : ℕ) : Type 0 where
   pub within : i ≤ length o
-  pub tabled : Tabled o i t
+  pub tabled : PlacesTable o i t
 
 pub tabling-start : {o t : List ℕ} → length t ≡ maxGates → Tabling o t 0
 tabling-start e = record { within = omega arith; tabled = record { long = e; each = λ i h. absurd (omega arith) } }
@@ -41,7 +41,7 @@ tabling-next {o} {t} {i} {g} {x} n l e q h =
           };
     }
 
-pub tabling-done : {o t : List ℕ} {i : ℕ} → length o ≤ i → Tabling o t i → Tabled o (length o) t
+pub tabling-done : {o t : List ℕ} {i : ℕ} → length o ≤ i → Tabling o t i → PlacesTable o (length o) t
 tabling-done {o} {t} {i} l h = let e : i ≡ length o = omega (arith, h .within) in rw e at (h .tabled)
 
 -- ---- a run of pins
@@ -50,12 +50,12 @@ tabling-done {o} {t} {i} l h = let e : i ≡ length o = omega (arith, h .within)
 pub record Copying (f : ℕ → ℕ) (run to₀ to : List ℕ) (at i : ℕ) : Type 0 where
   pub within : i ≤ length run
   pub same : length to ≡ length to₀
-  pub rest : overAt (at + i) (map f (drop i run)) to ≡ overAt at (map f run) to₀
+  pub rest : overwriteAt (at + i) (map f (drop i run)) to ≡ overwriteAt at (map f run) to₀
 
 pub copying-start : {f : ℕ → ℕ} {run to : List ℕ} {at : ℕ} → Copying f run to to at 0
 copying-start {f} {run} {to} {at} =
     let e : at + 0 ≡ at = omega arith in
-    record { within = omega arith; same = refl; rest = ap (λ (k : ℕ). overAt k (map f run) to) e }
+    record { within = omega arith; same = refl; rest = ap (λ (k : ℕ). overwriteAt k (map f run) to) e }
 
 pub copying-next : {f : ℕ → ℕ} {run to₀ to : List ℕ} {at i x : ℕ} → i < length run → x ≡ f (getD run i 0) → Copying f run to₀ to at i
     → Copying f run to₀ (set to (at + i) x) at (i + 1)
@@ -66,17 +66,17 @@ copying-next {f} {run} {to₀} {to} {at} {i} {x} l q h =
       within = omega arith;
       same = length-set to (at + i) x ∙ h .same;
       rest =
-          ap (λ (k : ℕ). overAt k r (set to (at + i) x)) e
-          ∙ sym (over-first (at + i) x r to)
-          ∙ ap (λ (y : ℕ). overAt (at + i) (y ∷ r) to) q
-          ∙ ap (λ (s : List ℕ). overAt (at + i) (map f s) to) (sym (drop-next run i 0 l))
+          ap (λ (k : ℕ). overwriteAt k r (set to (at + i) x)) e
+          ∙ sym (overwrite-first (at + i) x r to)
+          ∙ ap (λ (y : ℕ). overwriteAt (at + i) (y ∷ r) to) q
+          ∙ ap (λ (s : List ℕ). overwriteAt (at + i) (map f s) to) (sym (drop-next run i 0 l))
           ∙ h .rest;
     }
 
-pub copying-done : {f : ℕ → ℕ} {run to₀ to : List ℕ} {at i : ℕ} → length run ≤ i → Copying f run to₀ to at i → to ≡ overAt at (map f run) to₀
+pub copying-done : {f : ℕ → ℕ} {run to₀ to : List ℕ} {at i : ℕ} → length run ≤ i → Copying f run to₀ to at i → to ≡ overwriteAt at (map f run) to₀
 copying-done {f} {run} {to₀} {to} {at} {i} l h =
     let e : drop i run ≡ [] = drop-of-length-le run l in
-    sym (overAt-nil (at + i) to) ∙ ap (λ (s : List ℕ). overAt (at + i) (map f s) to) (sym e) ∙ h .rest
+    sym (overwriteAt-nil (at + i) to) ∙ ap (λ (s : List ℕ). overwriteAt (at + i) (map f s) to) (sym e) ∙ h .rest
 
 -- ---- all gates
 
@@ -85,8 +85,8 @@ pub record Moving (gates pins t o ng₀ np₀ ng np : List ℕ) (at i : ℕ) : T
   pub within : i ≤ length o
   pub same-gates : length ng ≡ length ng₀
   pub same-pins : length np ≡ length np₀
-  pub records : overAt (i * gateWidth) (movedGates gates pins at (drop i o)) ng ≡ over (movedGates gates pins 0 o) ng₀
-  pub runs : overAt at (movedPins gates pins t (drop i o)) np ≡ over (movedPins gates pins t o) np₀
+  pub records : overwriteAt (i * gateWidth) (movedGates gates pins at (drop i o)) ng ≡ overwrite (movedGates gates pins 0 o) ng₀
+  pub runs : overwriteAt at (movedPins gates pins t (drop i o)) np ≡ overwrite (movedPins gates pins t o) np₀
   pub end : at + pinsIn gates pins (drop i o) ≡ pinsIn gates pins o
 
 pub moving-start : {gates pins t o ng np : List ℕ} → Moving gates pins t o ng np ng np 0 0
@@ -117,17 +117,17 @@ module _ {gates pins t o ng₀ np₀ ng np : List ℕ} {at i : ℕ} (m : Movable
       let lr : length (map (remapCell t) run) ≡ length run = length-map run (remapCell t) in
       record {
         within = omega arith;
-        same-gates = ap length (g .records) ∙ length-overAt (i * gateWidth) three ng ∙ h .same-gates;
-        same-pins = ap length (g .runs) ∙ length-overAt at (map (remapCell t) run) np ∙ h .same-pins;
+        same-gates = ap length (g .records) ∙ length-overwriteAt (i * gateWidth) three ng ∙ h .same-gates;
+        same-pins = ap length (g .runs) ∙ length-overwriteAt at (map (remapCell t) run) np ∙ h .same-pins;
         records =
             rw (w, g .end, g .records)
-            (sym (over-append (i * gateWidth) three (movedGates gates pins (at + length run) rest) ng)
-            ∙ ap (λ (s : List ℕ). overAt (i * gateWidth) (movedGates gates pins at s) ng) (sym (drop-next o i 0 l))
+            (sym (overwrite-append (i * gateWidth) three (movedGates gates pins (at + length run) rest) ng)
+            ∙ ap (λ (s : List ℕ). overwriteAt (i * gateWidth) (movedGates gates pins at s) ng) (sym (drop-next o i 0 l))
             ∙ h .records);
         runs =
             rw (g .end, g .runs, ← lr)
-            (sym (over-append at (map (remapCell t) run) (movedPins gates pins t rest) np)
-            ∙ ap (λ (s : List ℕ). overAt at (movedPins gates pins t s) np) (sym (drop-next o i 0 l))
+            (sym (overwrite-append at (map (remapCell t) run) (movedPins gates pins t rest) np)
+            ∙ ap (λ (s : List ℕ). overwriteAt at (movedPins gates pins t s) np) (sym (drop-next o i 0 l))
             ∙ h .runs);
         end = omega (arith, g .end, pins-left, h .end);
       }
@@ -137,8 +137,8 @@ pub moving-done : {gates pins t o ng₀ np₀ ng np : List ℕ} {at i : ℕ} →
 moving-done {gates} {pins} {t} {o} {ng₀} {np₀} {ng} {np} {at} {i} l h =
     let e : drop i o ≡ [] = drop-of-length-le o l in
     record {
-      records = sym (overAt-nil (i * gateWidth) ng) ∙ ap (λ (s : List ℕ). overAt (i * gateWidth) (movedGates gates pins at s) ng) (sym e) ∙ h .records;
-      runs = sym (overAt-nil at np) ∙ ap (λ (s : List ℕ). overAt at (movedPins gates pins t s) np) (sym e) ∙ h .runs;
+      records = sym (overwriteAt-nil (i * gateWidth) ng) ∙ ap (λ (s : List ℕ). overwriteAt (i * gateWidth) (movedGates gates pins at s) ng) (sym e) ∙ h .records;
+      runs = sym (overwriteAt-nil at np) ∙ ap (λ (s : List ℕ). overwriteAt at (movedPins gates pins t s) np) (sym e) ∙ h .runs;
       end = omega (arith, h .end, ap (pinsIn gates pins) e);
     }
 
@@ -166,5 +166,5 @@ renaming-next {f} {n} {s₀} {s} {i} {x} ln l q h =
       behind = λ k u. getD-set-other s i k x 0 (λ z. omega arith) ∙ h .behind k (omega arith);
     }
 
-pub renaming-done : {f : ℕ → ℕ} {n : ℕ} {s₀ s : List ℕ} {i : ℕ} → n ≤ length s₀ → n ≤ i → Renaming f n s₀ s i → s ≡ over (map f (take n s₀)) s₀
+pub renaming-done : {f : ℕ → ℕ} {n : ℕ} {s₀ s : List ℕ} {i : ℕ} → n ≤ length s₀ → n ≤ i → Renaming f n s₀ s i → s ≡ overwrite (map f (take n s₀)) s₀
 renaming-done {n = n} {s₀} ln l h = copying-done (rw (length-take-le n s₀ ln) l) (h .copied)

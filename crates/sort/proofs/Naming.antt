@@ -9,7 +9,7 @@ use lib.ListN.{length, getD, drop, set, drop-of-length-le}
 use Rattle.lists.specs.Lists.{hit, occ}
 use Rattle.lists.proofs.Counting.{hit-same, set-hit, occ-append}
 use Rattle.lists.proofs.Places.{drop-next}
-use Rattle.signal.specs.Signal.{Node, Const, Input, Gated, gateNode}
+use Rattle.signal.specs.Signal.{Node, Const, Input, Var, gateNode}
 use Rattle.signal.specs.Cell.{nodeOf, sigOf, gateNumber}
 use Rattle.signal.proofs.Cells.{gate-number}
 use Rattle.network.specs.Cells.{maxPins}
@@ -29,7 +29,7 @@ named-none s e = go (nodeOf s) e
     go : (n : Node) → gateNode n ≡ false → nodeGate n [] ≡ []
     go Const p = refl
     go (Input i) p = refl
-    go (Gated g) p = absurd (true≢false p)
+    go (Var g) p = absurd (true≢false p)
 
 -- a gate's number in hand: it is what the cell names
 pub occ-gate : (s : ℕ) {g : ℕ} → gateNode (nodeOf s) ≡ true → g ≡ gateNumber s → (v : ℕ) → occ v (gateNamed s) ≡ hit v g
@@ -52,7 +52,7 @@ ins-nums (c ∷ cs) = go (nodeOf c) (gateIns cs) (gateNums (map sigOf cs)) (ins-
     go : (n : Node) (a b : List ℕ) → a ≡ b → nodeGate n [] ++ a ≡ nodeGate n b
     go Const a b e = e
     go (Input i) a b e = e
-    go (Gated g) a b e = ap (λ (l : List ℕ). g ∷ l) e
+    go (Var g) a b e = ap (λ (l : List ℕ). g ∷ l) e
 
 -- one pin less to come
 occ-less : (v : ℕ) (p : List ℕ) (i : ℕ) → i < length p → occ v (gateIns (drop i p)) ≡ occ v (gateNamed (getD p i 0)) + occ v (gateIns (drop (i + 1) p))

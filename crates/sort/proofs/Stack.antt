@@ -16,25 +16,25 @@ use Rattle.signal.specs.Cell.{nodeOf, gateNumber}
 use Rattle.network.specs.Cells.{maxGates}
 use Rattle.sort_order.specs.Order.{Graph, lowered, pushed, countsAfter, stackAfter}
 use Rattle.sort_order.specs.Walk.{WalkState}
-use Rattle.sort.specs.Steps.{gateNamed, gateIns, down, Walks, Lowers, Lowered}
+use Rattle.sort.specs.Steps.{gateNamed, gateIns, fromTop, Walks, Lowers, Lowered}
 use Rattle.sort_order.proofs.Walk.{good-lower, next-below, next-count, next-fresh}
 use Rattle.sort.proofs.Naming.{named-gate, named-none, named-own}
 
-pub length-down : (k : ℕ) (l : List ℕ) → length (down k l) ≡ k
-length-down zero l = refl
-length-down (suc k) l = ap suc (length-down k l)
+pub length-fromTop : (k : ℕ) (l : List ℕ) → length (fromTop k l) ≡ k
+length-fromTop zero l = refl
+length-fromTop (suc k) l = ap suc (length-fromTop k l)
 
-pub down-set : (k : ℕ) (l : List ℕ) (i x : ℕ) → k ≤ i → down k (set l i x) ≡ down k l
-down-set zero l i x h = refl
-down-set (suc k) l i x h =
+pub fromTop-set : (k : ℕ) (l : List ℕ) (i x : ℕ) → k ≤ i → fromTop k (set l i x) ≡ fromTop k l
+fromTop-set zero l i x h = refl
+fromTop-set (suc k) l i x h =
     let a : getD (set l i x) k 0 ≡ getD l k 0 = getD-set-other l i k x 0 (λ e. omega arith) in
-    let b : down k (set l i x) ≡ down k l = down-set k l i x (omega arith) in
+    let b : fromTop k (set l i x) ≡ fromTop k l = fromTop-set k l i x (omega arith) in
     cc
 
-pub down-push : (l : List ℕ) (i x : ℕ) → i < length l → down (i + 1) (set l i x) ≡ x ∷ down i l
-down-push l i x h =
+pub fromTop-push : (l : List ℕ) (i x : ℕ) → i < length l → fromTop (i + 1) (set l i x) ≡ x ∷ fromTop i l
+fromTop-push l i x h =
     let a : getD (set l i x) i 0 ≡ x = getD-set-same l i x 0 h in
-    let b : down i (set l i x) ≡ down i l = down-set i l i x (omega arith) in
+    let b : fromTop i (set l i x) ≡ fromTop i l = fromTop-set i l i x (omega arith) in
     rw add-one (rw (a, b) refl)
 
 -- ---- lowering
@@ -119,19 +119,19 @@ pub record Lowering (pins c₀ st₀ : List ℕ) (top : ℕ) (c st : List ℕ) (
   pub within : i ≤ length pins
   pub counts-long : length c ≡ maxGates
   pub stack-long : length st ≡ maxGates
-  pub walks : Walks c (down t st) (drop i pins)
+  pub walks : Walks c (fromTop t st) (drop i pins)
   pub counts : countsAfter (gateIns (drop i pins)) c ≡ countsAfter (gateIns pins) c₀
-  pub stack : stackAfter (gateIns (drop i pins)) c (down t st) ≡ stackAfter (gateIns pins) c₀ (down top st₀)
+  pub stack : stackAfter (gateIns (drop i pins)) c (fromTop t st) ≡ stackAfter (gateIns pins) c₀ (fromTop top st₀)
 
-pub lowering-start : {pins c st : List ℕ} {top : ℕ} → length c ≡ maxGates → length st ≡ maxGates → Walks c (down top st) pins → Lowering pins c st top c st top 0
+pub lowering-start : {pins c st : List ℕ} {top : ℕ} → length c ≡ maxGates → length st ≡ maxGates → Walks c (fromTop top st) pins → Lowering pins c st top c st top 0
 lowering-start lc ls w = record { within = omega arith; counts-long = lc; stack-long = ls; walks = w; counts = refl; stack = refl }
 
 module _ {pins c₀ st₀ : List ℕ} {top : ℕ} {c st : List ℕ} {t i : ℕ} (l : i < length pins) (h : Lowering pins c₀ st₀ top c st t i) where
   pub lowering-asks : Lowers (getD pins i 0) c t
-  lowering-asks = rw (length-down t st) at (walks-next c (down t st) (getD pins i 0) (drop (i + 1) pins) (rw (drop-next pins i 0 l) at (h .walks)))
+  lowering-asks = rw (length-fromTop t st) at (walks-next c (fromTop t st) (getD pins i 0) (drop (i + 1) pins) (rw (drop-next pins i 0 l) at (h .walks)))
 
   pub lowering-next : {c′ st′ : List ℕ} {t′ : ℕ} → length c′ ≡ length c → length st′ ≡ length st
-      → Lowered (gateNamed (getD pins i 0)) c (down t st) c′ (down t′ st′) → Lowering pins c₀ st₀ top c′ st′ t′ (i + 1)
+      → Lowered (gateNamed (getD pins i 0)) c (fromTop t st) c′ (fromTop t′ st′) → Lowering pins c₀ st₀ top c′ st′ t′ (i + 1)
   lowering-next {c′} {st′} {t′} kc ks e =
       let s = getD pins i 0 in
       let r = gateIns (drop (i + 1) pins) in
@@ -140,13 +140,13 @@ module _ {pins c₀ st₀ : List ℕ} {top : ℕ} {c st : List ℕ} {t i : ℕ} 
         within = omega arith;
         counts-long = kc ∙ h .counts-long;
         stack-long = ks ∙ h .stack-long;
-        walks = walks-after c (down t st) s (drop (i + 1) pins) c′ (down t′ st′) (rw (drop-next pins i 0 l) at (h .walks)) e;
+        walks = walks-after c (fromTop t st) s (drop (i + 1) pins) c′ (fromTop t′ st′) (rw (drop-next pins i 0 l) at (h .walks)) e;
         counts = rw (e .counts) (sym (countsAfter-append (gateNamed s) r c) ∙ (rw q at (h .counts)));
-        stack = rw (e .counts, e .stack) (sym (stackAfter-append (gateNamed s) r c (down t st)) ∙ (rw q at (h .stack)));
+        stack = rw (e .counts, e .stack) (sym (stackAfter-append (gateNamed s) r c (fromTop t st)) ∙ (rw q at (h .stack)));
       }
 
 pub lowering-done : {pins c₀ st₀ : List ℕ} {top : ℕ} {c st : List ℕ} {t i : ℕ} → length pins ≤ i → Lowering pins c₀ st₀ top c st t i
-    → Lowered (gateIns pins) c₀ (down top st₀) c (down t st)
+    → Lowered (gateIns pins) c₀ (fromTop top st₀) c (fromTop t st)
 lowering-done {pins} {i = i} l h =
     let e : drop i pins ≡ [] = drop-of-length-le pins l in
     record { counts = rw e at (h .counts); stack = rw e at (h .stack) }

@@ -15,8 +15,8 @@ use Rattle.lists.proofs.Places.{drop-next}
 use Rattle.lists.proofs.Tests.{by-order}
 use Rattle.network.specs.Cells.{maxGates}
 use Rattle.sort_order.specs.Order.{Graph, pushed, flopsTo, startTo}
-use Rattle.sort.specs.Steps.{flopMark, Flopped, unmarked, Started, GatesMarked}
-use Rattle.sort.proofs.Stack.{down-push, pushed-more}
+use Rattle.sort.specs.Steps.{flopMark, FlopsPlaced, unmarked, Started, GatesMarked}
+use Rattle.sort.proofs.Stack.{fromTop-push, pushed-more}
 use Rattle.sort.proofs.Uses.{getD-zeros}
 
 module _ (comb : ℕ → Bool) where
@@ -38,7 +38,7 @@ module _ (comb : ℕ → Bool) where
   flops-next : (k : ℕ) → flopsTo comb (k + 1) ≡ flopsTo comb k ++ cond (comb k) [] (k ∷ [])
   flops-next k = rw add-one
 
-  pub flopped-skip : {k : ℕ} {o₀ m o : List ℕ} {k′ : ℕ} → comb k ≡ true → Flopped comb k o₀ m o k′ → Flopped comb (k + 1) o₀ m o k′
+  pub flopped-skip : {k : ℕ} {o₀ m o : List ℕ} {k′ : ℕ} → comb k ≡ true → FlopsPlaced comb k o₀ m o k′ → FlopsPlaced comb (k + 1) o₀ m o k′
   flopped-skip {k} {o₀} {m} {o} {k′} e h =
       let f : flopsTo comb (k + 1) ≡ flopsTo comb k = rw flops-next (rw e (append-nil (flopsTo comb k))) in
       record {
@@ -52,7 +52,7 @@ module _ (comb : ℕ → Bool) where
             (hit-or v k);
       }
 
-  pub flopped-mark : {k : ℕ} {o₀ m o : List ℕ} {k′ : ℕ} → comb k ≡ false → k < length m → k′ < length o → Flopped comb k o₀ m o k′ → Flopped comb (k + 1) o₀ (set m k 1) (set o k′ k) (k′ + 1)
+  pub flopped-mark : {k : ℕ} {o₀ m o : List ℕ} {k′ : ℕ} → comb k ≡ false → k < length m → k′ < length o → FlopsPlaced comb k o₀ m o k′ → FlopsPlaced comb (k + 1) o₀ (set m k 1) (set o k′ k) (k′ + 1)
   flopped-mark {k} {o₀} {m} {o} {k′} e lm lo h =
       let f : flopsTo comb (k + 1) ≡ flopsTo comb k ++ k ∷ [] = rw flops-next (rw e) in
       let q : k′ < length o₀ = omega (arith, ap length (h .front), length-append (flopsTo comb k) (drop k′ o₀), length-drop k′ o₀, h .count) in
@@ -73,11 +73,11 @@ module _ (comb : ℕ → Bool) where
             (hit-or v k);
       }
 
-  pub flopped-none : {m o : List ℕ} → m ≡ replicate maxGates 0 → Flopped comb 0 o m o 0
+  pub flopped-none : {m o : List ℕ} → m ≡ replicate maxGates 0 → FlopsPlaced comb 0 o m o 0
   flopped-none {m} {o} e = record { count = refl; few = omega arith; front = refl; marks = λ v. (rw e (getD-zeros maxGates v)) ∙ sym (mark-above 0 v (omega arith)) }
 
   -- the marks of a whole network
-  pub flopped-unmarked : (n : ℕ) (o₀ m o : List ℕ) (k′ : ℕ) → Flopped comb n o₀ m o k′ → (v : ℕ) → v < n → unmarked m v ≡ comb v
+  pub flopped-unmarked : (n : ℕ) (o₀ m o : List ℕ) (k′ : ℕ) → FlopsPlaced comb n o₀ m o k′ → (v : ℕ) → v < n → unmarked m v ≡ comb v
   flopped-unmarked n o₀ m o k′ h v l = rw (h .marks v, mark-below n v l) (go (comb v))
     where
       go : (b : Bool) → eqb (cond b 0 1) 0 ≡ b
@@ -95,8 +95,8 @@ mark-same comb comb′ k h v =
     (λ l. mark-above comb k v l ∙ sym (mark-above comb′ k v l))
     (λ l. mark-below comb k v l ∙ ap (λ (b : Bool). cond b 0 1) (h v l) ∙ sym (mark-below comb′ k v l))
 
-pub flopped-same : {comb comb′ : ℕ → Bool} {k : ℕ} {o₀ m o : List ℕ} {k′ : ℕ} → ((v : ℕ) → v < k → comb v ≡ comb′ v) → Flopped comb k o₀ m o k′
-    → Flopped comb′ k o₀ m o k′
+pub flopped-same : {comb comb′ : ℕ → Bool} {k : ℕ} {o₀ m o : List ℕ} {k′ : ℕ} → ((v : ℕ) → v < k → comb v ≡ comb′ v) → FlopsPlaced comb k o₀ m o k′
+    → FlopsPlaced comb′ k o₀ m o k′
 flopped-same {comb} {comb′} {k} h f =
     let e = flops-same comb comb′ k h in
     record {
@@ -106,7 +106,7 @@ flopped-same {comb} {comb′} {k} h f =
       marks = λ v. f .marks v ∙ mark-same comb comb′ k h v;
     }
 
-pub flopped-marked : (G : Graph) (o₀ m o : List ℕ) (k′ : ℕ) → Flopped (G .comb) (G .size) o₀ m o k′ → GatesMarked G [] m
+pub flopped-marked : (G : Graph) (o₀ m o : List ℕ) (k′ : ℕ) → FlopsPlaced (G .comb) (G .size) o₀ m o k′ → GatesMarked G [] m
 flopped-marked G o₀ m o k′ h = record { each = λ v l. h .marks v ∙ mark-below (G .comb) (G .size) v l }
 
 -- ---- the first stack
@@ -131,7 +131,7 @@ pub started-push : {m c : List ℕ} {k : ℕ} {st : List ℕ} {top : ℕ} → ge
 started-push {m} {c} {k} {st} {top} e z l h =
     record {
       stack =
-          down-push st top k l
+          fromTop-push st top k l
           ∙ ap (λ (s : List ℕ). k ∷ s) (h .stack)
           ∙ sym (start-next (unmarked m) (λ v. getD c v 0) k ∙ (rw (eq-eqb (getD m k 0) 0 e) (rw z)));
       low = omega (arith, h .low);

@@ -12,10 +12,10 @@ use Rattle.lists.proofs.Counting.{hit-or, once-short, length-listTo, getD-listT
 use Rattle.network.specs.Cells.{maxGates}
 use Rattle.sort_order.specs.Order.{Graph, uses, pushed, lowered, kept, countsAfter, stackAfter, walk, recorded, useCount}
 use Rattle.sort_order.specs.Walk.{ValidGraph, WalkState}
-use Rattle.sort.specs.Steps.{gateIns, down, Lowered, Walks, GatesMarked, Ready, Visited, Begins, Recorded}
+use Rattle.sort.specs.Steps.{gateIns, fromTop, Lowered, Walks, GatesMarked, Ready, Visited, Begins, Recorded}
 use Rattle.sort_order.proofs.Walk.{budget, good-lower, next-below, good-pop, good-all, budget-all, top-low, top-fresh, uses-comb, uses-flop}
 use Rattle.sort_order.proofs.WalkEnds.{good-start, budget-start}
-use Rattle.sort.proofs.Stack.{length-down}
+use Rattle.sort.proofs.Stack.{length-fromTop}
 
 -- ---- lengths of the stack and of the recorded gates
 
@@ -55,9 +55,9 @@ walk-empty G (suc k) c done = refl
 
 -- ---- one visit
 
-pub down-pop : (top : ℕ) (st : List ℕ) → 0 < top → down top st ≡ getD st (top - 1) 0 ∷ down (top - 1) st
-down-pop zero st p = absurd (omega arith)
-down-pop (suc k) st p =
+pub fromTop-pop : (top : ℕ) (st : List ℕ) → 0 < top → fromTop top st ≡ getD st (top - 1) 0 ∷ fromTop (top - 1) st
+fromTop-pop zero st p = absurd (omega arith)
+fromTop-pop (suc k) st p =
     let e : suc k - 1 ≡ k = omega arith in
     rw e
 
@@ -70,20 +70,20 @@ mark-comb true r x e h = refl
 mark-comb false r x e h = absurd (omega arith)
 
 module _ (G : Graph) (valid : ValidGraph G) (few : G .size ≤ maxGates) (c m st : List ℕ) (top : ℕ) (o : List ℕ) (at : ℕ) (p : 0 < top) (r : Ready G c m st top o at) where
-  pub top-good : WalkState G c (getD st (top - 1) 0 ∷ down (top - 1) st) (r .done) []
-  top-good = rw (down-pop top st p) at (r .good)
+  pub top-good : WalkState G c (getD st (top - 1) 0 ∷ fromTop (top - 1) st) (r .done) []
+  top-good = rw (fromTop-pop top st p) at (r .good)
 
   pub top-few : top ≤ G .size
-  top-few = omega (arith, stack-short G c (down top st) (r .done) [] (r .good), length-down top st)
+  top-few = omega (arith, stack-short G c (fromTop top st) (r .done) [] (r .good), length-fromTop top st)
 
   pub v-below : getD st (top - 1) 0 < G .size
-  v-below = top-low G valid c (down (top - 1) st) (r .done) (getD st (top - 1) 0) top-good .0
+  v-below = top-low G valid c (fromTop (top - 1) st) (r .done) (getD st (top - 1) 0) top-good .0
 
   pub v-flop : (getD m (getD st (top - 1) 0) 0 ≡ 0 → ⊥) → G .comb (getD st (top - 1) 0) ≡ false
   v-flop z =
       mark-flop (G .comb (getD st (top - 1) 0)) (occ (getD st (top - 1) 0) (r .done)) (getD m (getD st (top - 1) 0) 0)
       (r .marked .each (getD st (top - 1) 0) v-below)
-      (top-fresh G valid c (down (top - 1) st) (r .done) (getD st (top - 1) 0) top-good .1)
+      (top-fresh G valid c (fromTop (top - 1) st) (r .done) (getD st (top - 1) 0) top-good .1)
       z
 
   pub v-comb : getD m (getD st (top - 1) 0) 0 ≡ 0 → G .comb (getD st (top - 1) 0) ≡ true
@@ -104,21 +104,21 @@ module _ (G : Graph) (valid : ValidGraph G) (few : G .size ≤ maxGates) (c m st
       }
 
   -- the gate is recorded
-  v-good : getD m (getD st (top - 1) 0) 0 ≡ 0 → WalkState G c (down (top - 1) st) (getD st (top - 1) 0 ∷ r .done) (G .ins (getD st (top - 1) 0))
+  v-good : getD m (getD st (top - 1) 0) 0 ≡ 0 → WalkState G c (fromTop (top - 1) st) (getD st (top - 1) 0 ∷ r .done) (G .ins (getD st (top - 1) 0))
   v-good z =
       let v = getD st (top - 1) 0 in
       let e = v-comb z in
       let f : kept (G .comb v) v (r .done) ≡ v ∷ r .done = rw e in
-      rw (f, uses-comb G v e) at (good-pop G valid c (down (top - 1) st) (r .done) v top-good)
+      rw (f, uses-comb G v e) at (good-pop G valid c (fromTop (top - 1) st) (r .done) v top-good)
 
   pub at-pos : getD m (getD st (top - 1) 0) 0 ≡ 0 → 1 ≤ at
-  at-pos z = omega (arith, done-short G c (down (top - 1) st) (getD st (top - 1) 0 ∷ r .done) (G .ins (getD st (top - 1) 0)) (v-good z), r .room)
+  at-pos z = omega (arith, done-short G c (fromTop (top - 1) st) (getD st (top - 1) 0 ∷ r .done) (G .ins (getD st (top - 1) 0)) (v-good z), r .room)
 
-  pub visit-walks : (pins : List ℕ) → G .ins (getD st (top - 1) 0) ≡ gateIns pins → getD m (getD st (top - 1) 0) 0 ≡ 0 → Walks c (down (top - 1) st) pins
+  pub visit-walks : (pins : List ℕ) → G .ins (getD st (top - 1) 0) ≡ gateIns pins → getD m (getD st (top - 1) 0) 0 ≡ 0 → Walks c (fromTop (top - 1) st) pins
   visit-walks pins e z = record { graph = G; done = getD st (top - 1) 0 ∷ r .done; few = few; good = rw e at (v-good z) }
 
   pub visited-comb : (pins c′ st′ : List ℕ) (top′ : ℕ) → G .ins (getD st (top - 1) 0) ≡ gateIns pins → getD m (getD st (top - 1) 0) 0 ≡ 0
-      → Lowered (gateIns pins) c (down (top - 1) st) c′ (down top′ st′)
+      → Lowered (gateIns pins) c (fromTop (top - 1) st) c′ (fromTop top′ st′)
       → Visited G (getD st (top - 1) 0) c m st top o at c′ (set m (getD st (top - 1) 0) 1) st′ top′ (set o (at - 1) (getD st (top - 1) 0)) (at - 1)
   visited-comb pins c′ st′ top′ q z l =
       let e = v-comb z in
@@ -143,8 +143,8 @@ pub record Walking (G : Graph) (o₀ c m st : List ℕ) (top : ℕ) (o : List �
   pub laid : drop at o ≡ ready .done ++ drop (G .size) o₀
   pub front : take at o ≡ take at o₀
   pub left : ℕ
-  pub enough : budget G c (down top st) ≤ left
-  pub leads : walk G left c (down top st) (ready .done) ≡ recorded G
+  pub enough : budget G c (fromTop top st) ≤ left
+  pub leads : walk G left c (fromTop top st) (ready .done) ≡ recorded G
 
 marked-next : (G : Graph) (v : ℕ) (done m : List ℕ) (b : Bool) → G .comb v ≡ b → v < length m → occ v done ≡ 0 → GatesMarked G done m → GatesMarked G (kept b v done) (cond b (set m v 1) m)
 marked-next G v done m false e l z h = h
@@ -186,23 +186,23 @@ module _ (G : Graph) (valid : ValidGraph G) (few : G .size ≤ maxGates) (o₀ c
   abbrev now-done : List ℕ
   now-done = kept (G .comb (getD st (top - 1) 0)) (getD st (top - 1) 0) (w .ready .done)
 
-  popped : WalkState G c (down (top - 1) st) now-done (uses G (getD st (top - 1) 0))
-  popped = good-pop G valid c (down (top - 1) st) (w .ready .done) (getD st (top - 1) 0) (top-good G valid few c m st top o at p (w .ready))
+  popped : WalkState G c (fromTop (top - 1) st) now-done (uses G (getD st (top - 1) 0))
+  popped = good-pop G valid c (fromTop (top - 1) st) (w .ready .done) (getD st (top - 1) 0) (top-good G valid few c m st top o at p (w .ready))
 
-  next-good : WalkState G c′ (down top′ st′) now-done []
-  next-good = rw (x .lowered .counts, x .lowered .stack) (good-all G (uses G (getD st (top - 1) 0)) c (down (top - 1) st) now-done popped)
+  next-good : WalkState G c′ (fromTop top′ st′) now-done []
+  next-good = rw (x .lowered .counts, x .lowered .stack) (good-all G (uses G (getD st (top - 1) 0)) c (fromTop (top - 1) st) now-done popped)
 
-  pub next-budget : budget G c (down top st) ≡ suc (budget G c′ (down top′ st′))
+  pub next-budget : budget G c (fromTop top st) ≡ suc (budget G c′ (fromTop top′ st′))
   next-budget =
-      let b = budget-all G (uses G (getD st (top - 1) 0)) c (down (top - 1) st) now-done popped in
-      rw (down-pop top st p, x .lowered .counts, x .lowered .stack) (omega arith)
+      let b = budget-all G (uses G (getD st (top - 1) 0)) c (fromTop (top - 1) st) now-done popped in
+      rw (fromTop-pop top st p, x .lowered .counts, x .lowered .stack) (omega arith)
 
   comb-pos : G .comb (getD st (top - 1) 0) ≡ true → 1 ≤ at
   comb-pos e =
       let v = getD st (top - 1) 0 in
       let f : now-done ≡ v ∷ w .ready .done = rw e in
-      let g : WalkState G c (down (top - 1) st) (v ∷ w .ready .done) (uses G v) = rw f at popped in
-      omega (arith, done-short G c (down (top - 1) st) (v ∷ w .ready .done) (uses G v) g, w .ready .room)
+      let g : WalkState G c (fromTop (top - 1) st) (v ∷ w .ready .done) (uses G v) = rw f at popped in
+      omega (arith, done-short G c (fromTop (top - 1) st) (v ∷ w .ready .done) (uses G v) g, w .ready .room)
 
   next-ready : length c′ ≡ length c → length m′ ≡ length m → length st′ ≡ length st → length o′ ≡ length o → Ready G c′ m′ st′ top′ o′ at′
   next-ready kc km ks ko =
@@ -216,17 +216,17 @@ module _ (G : Graph) (valid : ValidGraph G) (few : G .size ≤ maxGates) (o₀ c
             rw (x .marks)
             (marked-next G v (w .ready .done) m (G .comb v) refl
             (omega (arith, v-below G valid few c m st top o at p (w .ready), l .marks))
-            (top-fresh G valid c (down (top - 1) st) (w .ready .done) v (top-good G valid few c m st top o at p (w .ready)) .1)
+            (top-fresh G valid c (fromTop (top - 1) st) (w .ready .done) v (top-good G valid few c m st top o at p (w .ready)) .1)
             (w .ready .marked));
         room = rw (x .place) (room-next (G .size) at v (w .ready .done) (G .comb v) comb-pos (w .ready .room));
       }
 
-  next-leads : (k : ℕ) → w .left ≡ k → (j : ℕ) × (budget G c′ (down top′ st′) ≤ j) × (walk G j c′ (down top′ st′) now-done ≡ recorded G)
+  next-leads : (k : ℕ) → w .left ≡ k → (j : ℕ) × (budget G c′ (fromTop top′ st′) ≤ j) × (walk G j c′ (fromTop top′ st′) now-done ≡ recorded G)
   next-leads zero e = absurd (omega (arith, w .enough, next-budget))
   next-leads (suc k) e = (
     k,
     omega (arith, w .enough, next-budget),
-    rw (x .lowered .counts, x .lowered .stack) (rw (e, down-pop top st p) at (w .leads)),
+    rw (x .lowered .counts, x .lowered .stack) (rw (e, fromTop-pop top st p) at (w .leads)),
   )
 
   next-laid : drop at′ o′ ≡ now-done ++ drop (G .size) o₀
@@ -257,9 +257,9 @@ walking-start G valid o c m st top b few =
     let long : G .size ≤ length c = omega (arith, b .long .counts) in
     let same : (v : ℕ) → v < G .size → getD c v 0 ≡ useCount G v = λ v _. b .counted .each v in
     let e = b .first in
-    let g : WalkState G c (down top st) [] [] = rw e (good-start G c same long) in
+    let g : WalkState G c (fromTop top st) [] [] = rw e (good-start G c same long) in
     let c′ = listTo (G .size) (useCount G) in
-    let h : WalkState G c′ (down top st) [] [] = rw e (good-start G c′ (λ v b. getD-listTo (G .size) (useCount G) v b) (omega (arith, length-listTo (G .size) (useCount G)))) in
+    let h : WalkState G c′ (fromTop top st) [] [] = rw e (good-start G c′ (λ v b. getD-listTo (G .size) (useCount G) v b) (omega (arith, length-listTo (G .size) (useCount G)))) in
     record {
       ready = record { done = []; long = b .long; good = g; marked = b .marked; room = omega arith };
       same = refl;
@@ -267,7 +267,7 @@ walking-start G valid o c m st top b few =
       front = refl;
       left = G .size;
       enough = rw e (budget-start G c same long);
-      leads = walk-same G valid (G .size) c c′ (down top st) [] g h ∙ ap (λ (s : List ℕ). walk G (G .size) c′ s []) e;
+      leads = walk-same G valid (G .size) c c′ (fromTop top st) [] g h ∙ ap (λ (s : List ℕ). walk G (G .size) c′ s []) e;
     }
 
 pub walking-end : {G : Graph} {o₀ c m st : List ℕ} {top : ℕ} {o : List ℕ} {at : ℕ} → top ≡ 0 → Walking G o₀ c m st top o at → Recorded G o₀ o at

@@ -6,7 +6,7 @@ use mathlib.Core.Option.{Option, none, some}
 use Prim.Native.Nat.{ℕ, _*_}
 use lib.Dec.{leb}
 use lib.ListN.{length}
-use Rattle.lists.specs.Lists.{over}
+use Rattle.lists.specs.Lists.{overwrite}
 use Rattle.signal.specs.Cell.{sigCell}
 use Rattle.network.specs.Net.{Net}
 use Rattle.network.specs.Cells.{Lent, netOf, isNetwork, gateWidth, gateCells, pinCells}
@@ -35,8 +35,8 @@ sortOutcome a gs ps os = record { answer = a; gates = gs; pins = ps; outs = os }
 unfoldable pub sortInto : Option Net → List ℕ → List ℕ → List ℕ → SortOutcome Sorted
 sortInto none gs ps os = sortOutcome Loop gs ps os
 sortInto (some net) gs ps os =
-    sortOutcome (Order (length (pinCells (net .gates)))) (over (gateCells 0 (net .gates)) gs) (over (pinCells (net .gates)) ps)
-    (over (map sigCell (net .outputs)) os)
+    sortOutcome (Order (length (pinCells (net .gates)))) (overwrite (gateCells 0 (net .gates)) gs) (overwrite (pinCells (net .gates)) ps)
+    (overwrite (map sigCell (net .outputs)) os)
 
 -- cells that nothing is known of can be sorted: they are a network, and the new cells have room for it
 unfoldable pub canSort : Lent → ℕ → ℕ → Bool

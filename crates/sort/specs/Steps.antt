@@ -6,7 +6,7 @@ use mathlib.Core.Option.{Option, none, some}
 use Prim.Native.Nat.{ℕ, zero, suc, _+_, _-_, _*_, _≤_, _<_}
 use lib.Dec.{eqb, ltb}
 use lib.ListN.{length, getD, getElem?, take, drop, set}
-use Rattle.lists.specs.Lists.{occ, sumTo, over, overAt}
+use Rattle.lists.specs.Lists.{occ, sumTo, overwrite, overwriteAt}
 use Rattle.signal.specs.Signal.{gateNode}
 use Rattle.signal.specs.Cell.{nodeOf, gateNumber, gateCell, remapCell}
 use Rattle.gates.specs.Forms.{kindOf}
@@ -80,9 +80,9 @@ pub record Counted (G : Graph) (c : List ℕ) : Type 0 where
 -- ---- the stack
 
 -- the first k cells, the last first
-abbrev pub down : ℕ → List ℕ → List ℕ
-down zero l = []
-down (suc k) l = getD l k 0 ∷ down k l
+abbrev pub fromTop : ℕ → List ℕ → List ℕ
+fromTop zero l = []
+fromTop (suc k) l = getD l k 0 ∷ fromTop k l
 
 -- what lowering the counts of the gates ds leaves of the counts and of the stack
 pub record Lowered (ds c st c′ st′ : List ℕ) : Type 0 where
@@ -116,7 +116,7 @@ unfoldable pub flopMark : (ℕ → Bool) → ℕ → ℕ → ℕ
 flopMark comb k v = cond (ltb v k) (cond (comb v) 0 1) 0
 
 -- the flip-flops below k are marked, and stand at the front of the order o, of which k′ cells are written
-pub record Flopped (comb : ℕ → Bool) (k : ℕ) (o₀ m o : List ℕ) (k′ : ℕ) : Type 0 where
+pub record FlopsPlaced (comb : ℕ → Bool) (k : ℕ) (o₀ m o : List ℕ) (k′ : ℕ) : Type 0 where
   -- as many as there are flip-flops
   pub count : k′ ≡ length (flopsTo comb k)
   -- at most one for each gate passed
@@ -133,7 +133,7 @@ unmarked m v = eqb (getD m v 0) 0
 -- the stack st up to its top holds the gates below k that are neither marked nor used
 pub record Started (m c : List ℕ) (k : ℕ) (st : List ℕ) (top : ℕ) : Type 0 where
   -- in rising number, the highest at the top
-  pub stack : down top st ≡ startTo (unmarked m) (λ v. getD c v 0) k
+  pub stack : fromTop top st ≡ startTo (unmarked m) (λ v. getD c v 0) k
   -- at most one for each gate passed
   pub low : top ≤ k
 
@@ -162,7 +162,7 @@ pub record Ready (G : Graph) (c m st : List ℕ) (top : ℕ) (o : List ℕ) (at 
   -- there are cells for all
   pub long : Long (G .size) c m st o
   -- counts and stack fit them
-  pub good : WalkState G c (down top st) done []
+  pub good : WalkState G c (fromTop top st) done []
   -- marks fit them
   pub marked : GatesMarked G done m
   -- there is a place for each gate to come
@@ -171,7 +171,7 @@ pub record Ready (G : Graph) (c m st : List ℕ) (top : ℕ) (o : List ℕ) (at 
 -- what a visit of the gate v at the top of the stack leaves
 pub record Visited (G : Graph) (v : ℕ) (c m st : List ℕ) (top : ℕ) (o : List ℕ) (at : ℕ) (c′ m′ st′ : List ℕ) (top′ : ℕ) (o′ : List ℕ) (at′ : ℕ) : Type 0 where
   -- its uses are lowered
-  pub lowered : Lowered (uses G v) c (down (top - 1) st) c′ (down top′ st′)
+  pub lowered : Lowered (uses G v) c (fromTop (top - 1) st) c′ (fromTop top′ st′)
   -- it is marked, unless it is a flip-flop
   pub marks : m′ ≡ cond (G .comb v) (set m v 1) m
   -- it is recorded before those recorded so far, unless it is a flip-flop
@@ -188,7 +188,7 @@ pub record Begins (G : Graph) (c m st : List ℕ) (top : ℕ) (o : List ℕ) : T
   -- flip-flops are marked
   pub marked : GatesMarked G [] m
   -- the stack holds the combinational gates of count zero
-  pub first : down top st ≡ startTo (G .comb) (useCount G) (G .size)
+  pub first : fromTop top st ≡ startTo (G .comb) (useCount G) (G .size)
 
 -- the recorded gates stand in the order from cell `at` on
 pub record Recorded (G : Graph) (o₀ o : List ℕ) (at : ℕ) : Type 0 where
@@ -212,7 +212,7 @@ pub record Numbers (o : List ℕ) : Type 0 where
   pub distinct : (i j : ℕ) → i < length o → j < length o → getD o i 0 ≡ getD o j 0 → i ≡ j
 
 -- the translation table up to k: at each number of the order the signal of its place
-pub record Tabled (o : List ℕ) (k : ℕ) (t : List ℕ) : Type 0 where
+pub record PlacesTable (o : List ℕ) (k : ℕ) (t : List ℕ) : Type 0 where
   -- a cell for each gate that there may be
   pub long : length t ≡ maxGates
   -- gate number i of the order is gate i now
@@ -242,9 +242,9 @@ pub record RoomFor (i at count : ℕ) (ng np : List ℕ) : Type 0 where
 -- what moving gate g to gate i leaves in the new cells, with the cell after its pins
 pub record GateMoved (gates pins t : List ℕ) (g i at : ℕ) (ng np ng′ np′ : List ℕ) (r : ℕ) : Type 0 where
   -- form number, first pin and pin count
-  pub records : ng′ ≡ overAt (i * gateWidth) (formAt gates g ∷ at ∷ length (runAt gates pins g) ∷ []) ng
+  pub records : ng′ ≡ overwriteAt (i * gateWidth) (formAt gates g ∷ at ∷ length (runAt gates pins g) ∷ []) ng
   -- the renumbered pins
-  pub runs : np′ ≡ overAt at (map (remapCell t) (runAt gates pins g)) np
+  pub runs : np′ ≡ overwriteAt at (map (remapCell t) (runAt gates pins g)) np
   -- the cell after them
   pub end : r ≡ at + length (runAt gates pins g)
 
@@ -269,19 +269,19 @@ pub record Movable (gates pins o ng np : List ℕ) : Type 0 where
 -- what moving the gates of an order leaves in the new cells, with the pins in use
 pub record Moved (gates pins t o ng np ng′ np′ : List ℕ) (r : ℕ) : Type 0 where
   -- the records, in the new order
-  pub records : ng′ ≡ over (movedGates gates pins 0 o) ng
+  pub records : ng′ ≡ overwrite (movedGates gates pins 0 o) ng
   -- the renumbered pins, laid in gate order
-  pub runs : np′ ≡ over (movedPins gates pins t o) np
+  pub runs : np′ ≡ overwrite (movedPins gates pins t o) np
   -- how many there are
   pub end : r ≡ pinsIn gates pins o
 
 -- what renumbering leaves: gates and pins moved and n outputs renumbered by the table of the order
-pub record Renewed (gates pins o : List ℕ) (n : ℕ) (os ng np os′ ng′ np′ : List ℕ) (r : ℕ) : Type 0 where
+pub record RenumberedCells (gates pins o : List ℕ) (n : ℕ) (os ng np os′ ng′ np′ : List ℕ) (r : ℕ) : Type 0 where
   -- the translation table
   pub table : List ℕ
   -- is the order's
-  pub tabled : Tabled o (length o) table
+  pub tabled : PlacesTable o (length o) table
   -- gates and pins are moved by it
   pub moved : Moved gates pins table o ng np ng′ np′ r
   -- outputs are renumbered by it
-  pub outputs : os′ ≡ over (map (remapCell table) (take n os)) os
+  pub outputs : os′ ≡ overwrite (map (remapCell table) (take n os)) os

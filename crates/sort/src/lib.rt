@@ -7,7 +7,7 @@ ghost use mathlib.Core.Path.{_≡_};
 ghost use mathlib.Core.List.{List, map};
 ghost use Prim.Native.Nat.{ℕ, _+_, _-_, _*_, _≤_, _<_};
 ghost use lib.ListN.{length, getD, take, replicate};
-ghost use Rattle.lists.specs.Lists.{over, overAt};
+ghost use Rattle.lists.specs.Lists.{overwrite, overwriteAt};
 ghost use Rattle.signal.specs.Cell.{remapCell};
 ghost use Rattle.network.specs.Cells.{gateWidth, maxGates, runAt, lent, netOf, HasRun};
 ghost use Rattle.sort_order.specs.Order.{uses, sortOrder};
@@ -15,8 +15,8 @@ ghost use Rattle.sort_order.specs.Sorted.{sorted};
 ghost use Rattle.sort.specs.Into.{sortOutcome, sortInto, sortLent};
 ghost use Rattle.sort_order.specs.Sortable.{Sortable};
 ghost use Rattle.sort.specs.Steps.{gateNamed, gateIns, formComb, cellGraph, Cells, Raised, Countable, Counted};
-ghost use Rattle.sort.specs.Steps.{down, Lowered, Lowers, Walks, Flopped, Started, Ready, Visited, Begins, Recorded, ordered};
-ghost use Rattle.sort.specs.Steps.{Numbers, Tabled, RoomFor, GateMoved, Movable, Moved, Renewed};
+ghost use Rattle.sort.specs.Steps.{fromTop, Lowered, Lowers, Walks, FlopsPlaced, Started, Ready, Visited, Begins, Recorded, ordered};
+ghost use Rattle.sort.specs.Steps.{Numbers, PlacesTable, RoomFor, GateMoved, Movable, Moved, RenumberedCells};
 
 // Sorted, with the pins in use; or a combinational loop.
 pub enum Sorted {
@@ -109,7 +109,7 @@ fn count_uses(gates: &[u32], pins: &[u32], n: usize, counts: &mut [u32])
 fn lower_use(s: u32, counts: &mut [u32], stack: &mut [u32], top: usize) -> usize
     requires { ⌜ (length (now counts) ≡ maxGates) × (length (now stack) ≡ maxGates) ⌝ }
     requires { ⌜ Lowers s (now counts) top ⌝ }
-    ensures { λ r. ⌜ Lowered (gateNamed s) (now (counts .entry)) (down top (now (stack .entry))) (now (counts .exit)) (down r (now (stack .exit))) ⌝ }
+    ensures { λ r. ⌜ Lowered (gateNamed s) (now (counts .entry)) (fromTop top (now (stack .entry))) (now (counts .exit)) (fromTop r (now (stack .exit))) ⌝ }
 {
     let signal = Signal { a: s };
     if !signal.is_var() {
@@ -127,8 +127,8 @@ fn lower_use(s: u32, counts: &mut [u32], stack: &mut [u32], top: usize) -> usize
 // Lowers the counts of what a gate's pins name, in order.
 fn lower_uses(pins: &[u32], counts: &mut [u32], stack: &mut [u32], top: usize) -> usize
     requires { ⌜ (length (now counts) ≡ maxGates) × (length (now stack) ≡ maxGates) ⌝ }
-    requires { ⌜ Walks (now counts) (down top (now stack)) (now pins) ⌝ }
-    ensures { λ r. ⌜ Lowered (gateIns (now (pins .entry))) (now (counts .entry)) (down top (now (stack .entry))) (now (counts .exit)) (down r (now (stack .exit))) ⌝ }
+    requires { ⌜ Walks (now counts) (fromTop top (now stack)) (now pins) ⌝ }
+    ensures { λ r. ⌜ Lowered (gateIns (now (pins .entry))) (now (counts .entry)) (fromTop top (now (stack .entry))) (now (counts .exit)) (fromTop r (now (stack .exit))) ⌝ }
 {
     let mut t = top;
     let mut i = 0;
@@ -142,7 +142,7 @@ fn lower_uses(pins: &[u32], counts: &mut [u32], stack: &mut [u32], top: usize) -
 // Marks gate g and puts it into the order, if it is a flip-flop.
 fn mark_flop(gates: &[u32], g: usize, marks: &mut [u8], order: &mut [u32], k: usize) -> usize
     requires { ⌜ (g * gateWidth + 2 < length (now gates)) × (g < maxGates) × (length (now marks) ≡ maxGates) × (k ≤ g) × (g < length (now order)) ⌝ }
-    ensures { λ r. ⌜ ((o₀ : List ℕ) → Flopped (formComb (now (gates .entry))) g o₀ (now (marks .entry)) (now (order .entry)) k → Flopped (formComb (now (gates .entry))) (g + 1) o₀ (now (marks .exit)) (now (order .exit)) r) ⌝ }
+    ensures { λ r. ⌜ ((o₀ : List ℕ) → FlopsPlaced (formComb (now (gates .entry))) g o₀ (now (marks .entry)) (now (order .entry)) k → FlopsPlaced (formComb (now (gates .entry))) (g + 1) o₀ (now (marks .exit)) (now (order .exit)) r) ⌝ }
 {
     if is_comb(gates, g) {
         return k;
@@ -155,7 +155,7 @@ fn mark_flop(gates: &[u32], g: usize, marks: &mut [u8], order: &mut [u32], k: us
 // Marks the flip-flops, and puts them first into the order.
 fn mark_flops(gates: &[u32], n: usize, marks: &mut [u8], order: &mut [u32]) -> usize
     requires { ⌜ (n ≤ maxGates) × (n * gateWidth ≤ length (now gates)) × (now marks ≡ replicate maxGates 0) × (n ≤ length (now order)) ⌝ }
-    ensures { λ r. ⌜ Flopped (formComb (now (gates .entry))) n (now (order .entry)) (now (marks .exit)) (now (order .exit)) r ⌝ }
+    ensures { λ r. ⌜ FlopsPlaced (formComb (now (gates .entry))) n (now (order .entry)) (now (marks .exit)) (now (order .exit)) r ⌝ }
 {
     let mut k = 0;
     let mut g = 0;
@@ -275,7 +275,7 @@ fn find_order(gates: &[u32], pins: &[u32], n: usize, order: &mut [u32]) -> bool
 fn number_gates(order: &[u32], table: &mut [u32])
     requires { ⌜ (length (now order) ≤ maxGates) × (length (now table) ≡ maxGates) ⌝ }
     requires { ⌜ Numbers (now order) ⌝ }
-    ensures { λ r. ⌜ Tabled (now (order .entry)) (length (now (order .entry))) (now (table .exit)) ⌝ }
+    ensures { λ r. ⌜ PlacesTable (now (order .entry)) (length (now (order .entry))) (now (table .exit)) ⌝ }
 {
     let mut i = 0;
     while i < order.len() {
@@ -288,7 +288,7 @@ fn number_gates(order: &[u32], table: &mut [u32])
 // Copies a run of pins, renumbered, to the new pins from cell at on.
 fn move_pins(run: &[u32], table: &[u32], to: &mut [u32], at: usize)
     requires { ⌜ at + length (now run) ≤ length (now to) ⌝ }
-    ensures { λ r. ⌜ now (to .exit) ≡ overAt at (map (remapCell (now (table .entry))) (now (run .entry))) (now (to .entry)) ⌝ }
+    ensures { λ r. ⌜ now (to .exit) ≡ overwriteAt at (map (remapCell (now (table .entry))) (now (run .entry))) (now (to .entry)) ⌝ }
 {
     let mut i = 0;
     while i < run.len() {
@@ -344,7 +344,7 @@ fn move_gates(
 // Renumbers the first n outputs.
 fn move_outputs(table: &[u32], outputs: &mut [u32], n: usize)
     requires { ⌜ n ≤ length (now outputs) ⌝ }
-    ensures { λ r. ⌜ now (outputs .exit) ≡ over (map (remapCell (now (table .entry))) (take n (now (outputs .entry)))) (now (outputs .entry)) ⌝ }
+    ensures { λ r. ⌜ now (outputs .exit) ≡ overwrite (map (remapCell (now (table .entry))) (take n (now (outputs .entry)))) (now (outputs .entry)) ⌝ }
 {
     let mut i = 0;
     while i < n {
@@ -366,7 +366,7 @@ fn renumber(
     requires { ⌜ Numbers (now order) ⌝ }
     requires { ⌜ Movable (now gates) (now pins) (now order) (now «new_gates») (now «new_pins») ⌝ }
     requires { ⌜ n ≤ length (now outputs) ⌝ }
-    ensures { λ r. ⌜ Renewed (now (gates .entry)) (now (pins .entry)) (now (order .entry)) n (now (outputs .entry)) (now («new_gates» .entry)) (now («new_pins» .entry)) (now (outputs .exit)) (now («new_gates» .exit)) (now («new_pins» .exit)) r ⌝ }
+    ensures { λ r. ⌜ RenumberedCells (now (gates .entry)) (now (pins .entry)) (now (order .entry)) n (now (outputs .entry)) (now («new_gates» .entry)) (now («new_pins» .entry)) (now (outputs .exit)) (now («new_gates» .exit)) (now («new_pins» .exit)) r ⌝ }
 {
     let mut table = [0u32; 1024];
     number_gates(order, &mut table);

@@ -10,7 +10,7 @@ use Rattle.lists.specs.Lists.{occ, sumOf, sumTo}
 use Rattle.lists.proofs.Counting.{hit-or, zero-or, sum-head, sum-mono, sum-perm, mem-occ}
 use Rattle.lists.proofs.FirstPlace.{place, place-at, find-place}
 use Rattle.lists.proofs.Places.{place-getD, place-lt}
-use Rattle.signal.specs.Signal.{Node, Const, Input, Gated, Signal, remap}
+use Rattle.signal.specs.Signal.{Node, Const, Input, Var, Signal, remap}
 use Rattle.gates.specs.Gate.{Form, Buf, Gate, Comb, Dff, pins}
 use Rattle.gates.specs.Forms.{canHave, formed}
 use Rattle.network.specs.Net.{Net, GateIs, Valid, Formed}
@@ -47,7 +47,7 @@ occ-nums v (s ∷ ss) = go (s .node) (occ-nums v ss)
     go : (n : Node) → occ v (gateNums ss) ≤ length ss → occ v (nodeGate n (gateNums ss)) ≤ suc (length ss)
     go Const h = omega arith
     go (Input i) h = omega arith
-    go (Gated g) h = ⊎-elim (λ w. omega (arith, w .1)) (λ w. omega (arith, w .1)) (hit-or v g)
+    go (Var g) h = ⊎-elim (λ w. omega (arith, w .1)) (λ w. omega (arith, w .1)) (hit-or v g)
 
 pub uses-fit : (net : Net) (v g : ℕ) → g < length (net .gates) → occ v (uses (graph net) g) ≤ pinsAt (net .gates) g
 uses-fit net v g h =
@@ -84,7 +84,7 @@ module _ (net : Net) (valid : Valid net) (l : List ℕ) (e : sortOrder (graph ne
   once v = let f = some-full (graph net) (graph-valid net valid) l e in rw (f .0) at (order-once (graph net) (graph-valid net valid) v)
 
   -- "every gate input of a combinational gate has a lower number"
-  pub lower : (i d : ℕ) (f : Form) (ps : List Signal) (s : Signal) → GateIs (permuted l net) i (Comb f ps) → List·Memᴰ s ps → s .node ≡ Gated d → d < i
+  pub lower : (i d : ℕ) (f : Form) (ps : List Signal) (s : Signal) → GateIs (permuted l net) i (Comb f ps) → List·Memᴰ s ps → s .node ≡ Var d → d < i
   lower i d f ps s is m q =
       let G = graph net in
       let gv = graph-valid net valid in

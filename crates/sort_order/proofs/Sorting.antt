@@ -10,11 +10,11 @@ use lib.ListN.{length, getD, getElem?}
 use Rattle.lists.specs.Lists.{occ}
 use Rattle.lists.proofs.Counting.{occ-mem, mem-occ}
 use Rattle.lists.proofs.Places.{place-lt}
-use Rattle.signal.specs.Signal.{Node, Const, Input, Gated, Signal}
+use Rattle.signal.specs.Signal.{Node, Const, Input, Var, Signal}
 use Rattle.gates.specs.Gate.{Form, Gate, Comb, Dff, pins}
-use Rattle.network.specs.Net.{Net, Valid, ValidNode, Feeds, Way, last, Loop}
+use Rattle.network.specs.Net.{Net, Valid, ValidNode, Feeds, Path, last, Loop}
 use Rattle.network.specs.Renumber.{permuted, placeOf, Renumbered}
-use Rattle.network.proofs.OneChoice.{way-snoc}
+use Rattle.network.proofs.OneChoice.{path-snoc}
 use Rattle.network.proofs.Permuting.{Orders, permuted-renumbers}
 use Rattle.sort_order.specs.Order.{sortOrder}
 use Rattle.sort_order.specs.Sorted.{nodeGate, gateNums, combAt, insAt, graph, sortedBy, sorted}
@@ -24,19 +24,19 @@ use Rattle.sort_order.proofs.Rings as rings
 use Rattle.sort_order.proofs.Rings.{one, more, sort-none}
 
 -- a gate among the signals' gates is what a signal points at
-nums-point : (d : ℕ) (ss : List Signal) → List·Memᴰ d (gateNums ss) → (s : Signal) × List·Memᴰ s ss × (s .node ≡ Gated d)
+nums-point : (d : ℕ) (ss : List Signal) → List·Memᴰ d (gateNums ss) → (s : Signal) × List·Memᴰ s ss × (s .node ≡ Var d)
 nums-point d [] m = absurd (List·Memᴰ·not-nil m)
 nums-point d (s ∷ ss) m = go (s .node) refl m (nums-point d ss)
   where
-    go : (n : Node) → s .node ≡ n → List·Memᴰ d (nodeGate n (gateNums ss)) → (List·Memᴰ d (gateNums ss) → (t : Signal) × List·Memᴰ t ss × (t .node ≡ Gated d))
-        → (t : Signal) × List·Memᴰ t (s ∷ ss) × (t .node ≡ Gated d)
+    go : (n : Node) → s .node ≡ n → List·Memᴰ d (nodeGate n (gateNums ss)) → (List·Memᴰ d (gateNums ss) → (t : Signal) × List·Memᴰ t ss × (t .node ≡ Var d))
+        → (t : Signal) × List·Memᴰ t (s ∷ ss) × (t .node ≡ Var d)
     go Const e w ih = let r = ih w in (r .0, List·Memᴰ·tail (r .1), r .2)
     go (Input i) e w ih = let r = ih w in (r .0, List·Memᴰ·tail (r .1), r .2)
-    go (Gated g) e w ih =
-        ⊎-elim (λ (q : d ≡ g). (s, List·Memᴰ·head refl, e ∙ ap Gated (sym q)))
+    go (Var g) e w ih =
+        ⊎-elim (λ (q : d ≡ g). (s, List·Memᴰ·head refl, e ∙ ap Var (sym q)))
         (λ (v : List·Memᴰ d (gateNums ss)). let r = ih v in (r .0, List·Memᴰ·tail (r .1), r .2)) (List·Memᴰ·cases-cons w)
 
-pub point-nums : (d : ℕ) (ss : List Signal) (s : Signal) → List·Memᴰ s ss → s .node ≡ Gated d → List·Memᴰ d (gateNums ss)
+pub point-nums : (d : ℕ) (ss : List Signal) (s : Signal) → List·Memᴰ s ss → s .node ≡ Var d → List·Memᴰ d (gateNums ss)
 point-nums d _ s (List·Memᴰ·head {x = t} {xs = ss} e) q =
     subst (λ (n : Node). List·Memᴰ d (nodeGate n (gateNums ss))) (sym (ap (λ (u : Signal). u .node) (sym e) ∙ q)) (List·Memᴰ·head refl)
 point-nums d _ s (List·Memᴰ·tail {x = t} {xs = ss} m) q = go (t .node) (point-nums d ss s m q)
@@ -44,9 +44,9 @@ point-nums d _ s (List·Memᴰ·tail {x = t} {xs = ss} m) q = go (t .node) (poin
     go : (n : Node) → List·Memᴰ d (gateNums ss) → List·Memᴰ d (nodeGate n (gateNums ss))
     go Const w = w
     go (Input i) w = w
-    go (Gated g) w = List·Memᴰ·tail w
+    go (Var g) w = List·Memᴰ·tail w
 
-ins-point : (d : ℕ) (o : Option Gate) → 0 < occ d (insAt o) → (x : Gate) × (o ≡ some x) × ((s : Signal) × List·Memᴰ s (pins x) × (s .node ≡ Gated d))
+ins-point : (d : ℕ) (o : Option Gate) → 0 < occ d (insAt o) → (x : Gate) × (o ≡ some x) × ((s : Signal) × List·Memᴰ s (pins x) × (s .node ≡ Var d))
 ins-point d none u = absurd (omega arith)
 ins-point d (some x) u = (x, refl, nums-point d (pins x) (occ-mem d (gateNums (pins x)) u))
 
@@ -70,9 +70,9 @@ module _ (net : Net) (valid : Valid net) where
       let e : t .0 ≡ Comb (b .0) (b .1) = cc in
       record { formA = a .0; pinsA = a .1; isA = a .2; formB = b .0; pinsB = b .1; isB = b .2; by = t .2 .0; among = subst (λ (x : Gate). List·Memᴰ (t .2 .0) (pins x)) e (t .2 .1); points = t .2 .2 }
 
-  chain-back : {a b : ℕ} → rings.Chain (graph net) a b → Way net a b
+  chain-back : {a b : ℕ} → rings.Chain (graph net) a b → Path net a b
   chain-back {a} {b} (one f) = last (feeds-back a b f)
-  chain-back {a} {b = c} (more {b = b} w f) = way-snoc (chain-back w) (feeds-back b c f)
+  chain-back {a} {b = c} (more {b = b} w f) = path-snoc (chain-back w) (feeds-back b c f)
 
   loop-back : rings.Ring (graph net) → Loop net
   loop-back l = (l .at, chain-back (l .ring))
@@ -89,9 +89,9 @@ module _ (net : Net) (valid : Valid net) where
   chain-cons f (one g) = more (one f) g
   chain-cons f (more w g) = more (chain-cons f w) g
 
-  chain-to : {a b : ℕ} → Way net a b → rings.Chain (graph net) a b
+  chain-to : {a b : ℕ} → Path net a b → rings.Chain (graph net) a b
   chain-to {a} {b} (last f) = one (feeds-to a b f)
-  chain-to {a} {b = c} (Way.more {b = b} f w) = chain-cons (feeds-to a b f) (chain-to w)
+  chain-to {a} {b = c} (Path.more {b = b} f w) = chain-cons (feeds-to a b f) (chain-to w)
 
   -- ---- the network sorted
 

@@ -9,7 +9,7 @@ use native.Mathlib.Omega.{arith}
 use lib.ListN.{length, getD}
 use Rattle.lists.specs.Lists.{occ, listTo}
 use Rattle.lists.proofs.Counting.{length-listTo, getD-listTo}
-use Rattle.signal.specs.Signal.{Gated, Signal}
+use Rattle.signal.specs.Signal.{Var, Signal}
 use Rattle.gates.specs.Gate.{Form, Comb}
 use Rattle.network.specs.Net.{Net, GateIs, Valid, Loop}
 use Rattle.network.specs.Cells.{pinCells}
@@ -47,7 +47,7 @@ pops-enough net valid k h =
 
 -- "After a sort, every gate input of a combinational gate has a lower number"
 pub inputs-lower : (net new : Net) → Valid net → sorted net ≡ some new → (i d : ℕ) (f : Form) (ps : List Signal) (s : Signal)
-    → GateIs new i (Comb f ps) → List·Memᴰ s ps → s .node ≡ Gated d → d < i
+    → GateIs new i (Comb f ps) → List·Memᴰ s ps → s .node ≡ Var d → d < i
 inputs-lower net new valid e i d f ps s is m q =
     let o = sorted-order net valid new e in
     lower net valid (o .0) (o .1) i d f ps s (subst (λ (n : Net). GateIs n i (Comb f ps)) (sym (o .2)) is) m q

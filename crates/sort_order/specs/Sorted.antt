@@ -6,7 +6,7 @@ use mathlib.Core.List.{List, [], _∷_}
 use mathlib.Core.Option.{Option, none, some}
 use Prim.Native.Nat.{ℕ}
 use lib.ListN.{length, getElem?}
-use Rattle.signal.specs.Signal.{Node, Const, Input, Gated, Signal}
+use Rattle.signal.specs.Signal.{Node, Const, Input, Var, Signal}
 use Rattle.gates.specs.Gate.{Gate, pins, isComb}
 use Rattle.network.specs.Net.{Net, Valid, Formed}
 use Rattle.network.specs.Cells.{pinCells}
@@ -17,7 +17,7 @@ use Rattle.sort_order.specs.Order.{Graph, sortOrder}
 abbrev pub nodeGate : Node → List ℕ → List ℕ
 nodeGate Const l = l
 nodeGate (Input i) l = l
-nodeGate (Gated g) l = g ∷ l
+nodeGate (Var g) l = g ∷ l
 
 -- the gates that signals name, in order and with repeats, inverted or not
 abbrev pub gateNums : List Signal → List ℕ

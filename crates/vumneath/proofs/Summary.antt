@@ -13,8 +13,8 @@ use mathlib.Core.Logic.{_↔_, _⊎_, inl, inr}
 use Prim.Native.Nat.{ℕ}
 use native.Mathlib.Omega.{arith}
 use lib.ListN.{length, take, length-replicate}
-use Rattle.lists.specs.Lists.{Bytes, zeros, over}
-use Rattle.lists.proofs.Over.{take-over}
+use Rattle.lists.specs.Lists.{Bytes, zeros, overwrite}
+use Rattle.lists.proofs.Over.{take-overwrite}
 use Rattle.refusals.specs.Numbers.{numberOf, InReading, InWriting}
 use Rattle.refusals.specs.declared.Refusal.{Refusal}
 use Rattle.network.specs.Net.{Net}
@@ -25,14 +25,14 @@ use Rattle.blif_meaning.specs.Model.{BlifRuns}
 use Rattle.blif_reading.specs.TextModel.{modelOfText}
 use Rattle.blif_writing.specs.Text.{textOf}
 use Rattle.blif_reading.specs.Read.{read, refused, readText}
-use Rattle.round_trip.specs.Conditions.{Good}
+use Rattle.round_trip.specs.Conditions.{RoundTripNet}
 use Rattle.blif_read.specs.Into.{Lengths, enough, answered, readInto}
 use Rattle.blif_read.specs.declared.ReadAnswer.the-variants as answer-read
 use Rattle.blif_read.proofs.Summary.{read-counts}
 use Rattle.blif_read.proofs.CellsRead.{read-decodes}
 use Rattle.blif_write.specs.Into.{writeInto, WriteOutcome}
 use Rattle.blif_write.specs.declared.WriteAnswer.the-variants as written
-use Rattle.round_trip.specs.Trip.{Meets}
+use Rattle.round_trip.specs.Trip.{RoundTripConditions}
 use Rattle.round_trip.proofs.Demand as demand
 use Rattle.round_trip.proofs.Summary as trip
 use Rattle.blif_reading.proofs.Summary as reading
@@ -100,14 +100,14 @@ module _ (l : Lent) (n : ℕ) {w : VumneathText} {out : Bytes} (h : WriteHanded 
   text-written z =
       let f = refused-writing .0 .0 z in
       let k : w .length ≡ length (textOf (netOf l)) = ap (λ (x : VumneathText). x .length) (h .answer ∙ ap (λ (o : WriteOutcome). textFor (o .answer)) (f .is)) in
-      let t : out ≡ over (textOf (netOf l)) (zeros n) = h .bytes ∙ ap (λ (o : WriteOutcome). o .out) (f .is) in
-      (λ i. take (k i) (t i)) ∙ take-over (textOf (netOf l)) (zeros n) (omega (arith, f .room, length-replicate {A = ℕ} n 0))
+      let t : out ≡ overwrite (textOf (netOf l)) (zeros n) = h .bytes ∙ ap (λ (o : WriteOutcome). o .out) (f .is) in
+      (λ i. take (k i) (t i)) ∙ take-overwrite (textOf (netOf l)) (zeros n) (omega (arith, f .room, length-replicate {A = ℕ} n 0))
 
 -- ---- demand 3
 
 -- the conditions hold: one call writes the network, the other reads exactly the bytes written, and the network in the cells has as many
 -- inputs and outputs and, for "every list of rows, the empty one too", equal outputs at every clock
-pub handed-back : (l : Lent) (n : ℕ) (m : Lengths) {w : VumneathText} {out : Bytes} {r : VumneathNetwork} {gs ps os wgs wps : List ℕ} → Words l → Meets l n m
+pub handed-back : (l : Lent) (n : ℕ) (m : Lengths) {w : VumneathText} {out : Bytes} {r : VumneathNetwork} {gs ps os wgs wps : List ℕ} → Words l → RoundTripConditions l n m
     → WriteHanded (writeInto l n) w out → ReadHanded (readInto (take (w .length) out) m) r gs ps os wgs wps → HandedBack (netOf l) w out r gs ps os
 handed-back l n m {w} {out} {r} {gs} {ps} {os} {wgs} {wps} words meets write read-of =
     let t = textOf (netOf l) in
@@ -133,8 +133,8 @@ handed-back l n m {w} {out} {r} {gs} {ps} {os} {wgs} {wps} words meets write rea
 -- ---- two networks
 
 -- a lent network that is written is one of demand 3's
-good : (l : Lent) (n : ℕ) → Runnable l → WrittenFrom l n → Good (netOf l)
-good l n c f = demand.lent-good l (c .words) (f .network) (c .free) (f .narrow) (c .plain)
+good : (l : Lent) (n : ℕ) → Runnable l → WrittenFrom l n → RoundTripNet (netOf l)
+good l n c f = demand.lent-round-trip l (c .words) (f .network) (c .free) (f .narrow) (c .plain)
 
 module _ (a b : Lent) (m n : ℕ) {v w : VumneathText} {out out′ : Bytes} (ra : Runnable a) (rb : Runnable b)
     (wa : WriteHanded (writeInto a m) v out) (wb : WriteHanded (writeInto b n) w out′) (za : v .refused ≡ 0) (zb : w .refused ≡ 0) where

@@ -15,12 +15,12 @@ use Rattle.lists.proofs.Tests.{and-left, and-right}
 use Rattle.lists.proofs.Same.{same-is}
 use Rattle.refusals.specs.Numbers.{numberOf}
 use Rattle.refusals.proofs.Numbers.{number-one}
-use Rattle.signal.specs.Signal.{Node, Const, Input, Gated, Signal}
+use Rattle.signal.specs.Signal.{Node, Const, Input, Var, Signal}
 use Rattle.gates.specs.Gate.{Form, And2, Xor2, And3, Xor3, Maj3, Mux3, AndN, OrN, NandN, NorN, XorN, XnorN, Buf, Gate, Comb, Dff, pins}
 use Rattle.gates.specs.Forms.{formNumber, flopNumber, formCell}
 use Rattle.network.specs.Net.{Net, netFrom}
 use Rattle.network.specs.Settle.{run}
-use Rattle.refusals.specs.Order.{_then_, when}
+use Rattle.refusals.specs.Order.{_orElse_, refuseIf}
 use Rattle.sort_order.specs.Order.{uses, useCount, recorded, order, sortOrder}
 use Rattle.sort_order.specs.Sorted.{sorted}
 use Rattle.blif_text.specs.Lines.{consFirst, split, dropCR, lines, cut, continues, before, joined, isBlank, nonEmpty, tokens}
@@ -28,7 +28,7 @@ use Rattle.blif_text.specs.Keywords.{keywordOf}
 use Rattle.blif_text.specs.Statements.{modelStmt, latchStmt, stmtOf, parsedLine, parsed, firstBad, stmts}
 use Rattle.blif_text.specs.Decls.{usedNames, cubes, decls, insOf, outsOf, defsOf, ins, outs, defs, coverOut, coverIns, defines, columns, output, isOne, declsOf}
 use Rattle.blif_writing.specs.Text.{spaced, line, textOf}
-use Rattle.blif_reading.specs.Read.{added, gateCount, pinCount, tooLarge, twice, naming, undefined, goodLine, coverFault, coverFaults, declFault, readFault, Result, read, refused, answer, builtFrom, readText}
+use Rattle.blif_reading.specs.Read.{added, gateCount, pinCount, tooLarge, definedTwice, naming, undefined, goodLine, coverFault, coverFaults, declFault, readFault, Result, read, refused, answer, builtFrom, readText}
 use Rattle.worked_cases.specs.Cases.{sameList, sameNode, sameSignal, sameGate, sameNet, sameResult, Check, reads, writes, readsBack, runs, netIn, isRead, holds, table}
 
 -- ---- what a test means
@@ -52,13 +52,13 @@ sameNode-is : (m n : Node) → sameNode m n ≡ true → m ≡ n
 unfolding sameNode
 sameNode-is Const Const e = refl
 sameNode-is (Input i) (Input j) e = ap Input (eqb-true i j e)
-sameNode-is (Gated g) (Gated h) e = ap Gated (eqb-true g h e)
+sameNode-is (Var g) (Var h) e = ap Var (eqb-true g h e)
 sameNode-is Const (Input j) e = absurd (false≢true e)
-sameNode-is Const (Gated h) e = absurd (false≢true e)
+sameNode-is Const (Var h) e = absurd (false≢true e)
 sameNode-is (Input i) Const e = absurd (false≢true e)
-sameNode-is (Input i) (Gated h) e = absurd (false≢true e)
-sameNode-is (Gated g) Const e = absurd (false≢true e)
-sameNode-is (Gated g) (Input j) e = absurd (false≢true e)
+sameNode-is (Input i) (Var h) e = absurd (false≢true e)
+sameNode-is (Var g) Const e = absurd (false≢true e)
+sameNode-is (Var g) (Input j) e = absurd (false≢true e)
 
 sameSignal-is : (s t : Signal) → sameSignal s t ≡ true → s ≡ t
 unfolding sameSignal
@@ -169,7 +169,7 @@ holds-means (runs t rows outs) e = ran (readText t) refl (and-left _ _ e) (and-r
 
 -- whether a check holds, with every definition open that reading a text and writing a network go through
 unfoldable pub computed : Check → Bool
-unfolding ℕ-discrete flatMap headD same hit uses useCount recorded order sortOrder sorted consFirst split dropCR lines cut continues before joined isBlank nonEmpty tokens modelStmt latchStmt stmtOf keywordOf parsedLine parsed firstBad stmts usedNames cubes decls insOf outsOf defsOf ins outs defs coverOut coverIns defines columns output isOne spaced line _then_ when added gateCount pinCount tooLarge twice naming undefined goodLine coverFault coverFaults declFault declsOf readFault answer builtFrom readText sameList sameNode sameSignal sameGate sameNet sameResult holds
+unfolding ℕ-discrete flatMap headD same hit uses useCount recorded order sortOrder sorted consFirst split dropCR lines cut continues before joined isBlank nonEmpty tokens modelStmt latchStmt stmtOf keywordOf parsedLine parsed firstBad stmts usedNames cubes decls insOf outsOf defsOf ins outs defs coverOut coverIns defines columns output isOne spaced line _orElse_ refuseIf added gateCount pinCount tooLarge definedTwice naming undefined goodLine coverFault coverFaults declFault declsOf readFault answer builtFrom readText sameList sameNode sameSignal sameGate sameNet sameResult holds
 computed c = holds c
 
 pub table-holds : T (all (all holds) table)

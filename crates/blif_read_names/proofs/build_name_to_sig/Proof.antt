@@ -4,14 +4,14 @@ use Prim.Native.Nat.{_-_}
 use native.Mathlib.Omega.{arith}
 use borrow.Author.Needs.{needs}
 use lib.ListN.{length}
-use Rattle.blif_read_names.specs.Naming.{Going, Steps}
+use Rattle.blif_read_names.specs.Naming.{NamingSoFar, Steps}
 use Rattle.blif_read_names.proofs.Walking.{going-start, going-done, going-next, going-stop}
 use Rattle.blif_read_names.proofs.build_name_to_sig.Statement.{statement}
 use Rattle.blif_read_names.proofs.build_name_to_sig.Tie as tie
 
 abbrev Inv-loop : tie.InvT-loop
 Inv-loop text tokens n index₀ out-names₀ blocks₀ w₀ index out-names blocks w =
-    Going text tokens n index out-names blocks w × (length index ≡ length index₀) × (length out-names ≡ length out-names₀) × (length blocks ≡ length blocks₀)
+    NamingSoFar text tokens n index out-names blocks w × (length index ≡ length index₀) × (length out-names ≡ length out-names₀) × (length blocks ≡ length blocks₀)
 
 abbrev μ-loop : tie.MeasureT-loop
 μ-loop text tokens n index₀ out-names₀ blocks₀ w₀ index out-names blocks w = n - w .at

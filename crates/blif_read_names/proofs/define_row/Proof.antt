@@ -16,8 +16,8 @@ row-at-requires c κs = search needs
 enum-told : tie.Need-enum-told
 enum-told c = search needs
 
-when-requires : tie.Need-when-requires
-when-requires c κs = search needs
+refuse-if-requires : tie.Need-refuse-if-requires
+refuse-if-requires c κs = search needs
 
 step-of-requires : tie.Need-step-of-requires
 step-of-requires c κs = search needs
@@ -25,8 +25,8 @@ step-of-requires c κs = search needs
 enum-told-2 : tie.Need-enum-told-2
 enum-told-2 c = search needs
 
-when-requires-2 : tie.Need-when-requires-2
-when-requires-2 c κs = search needs
+refuse-if-requires-2 : tie.Need-refuse-if-requires-2
+refuse-if-requires-2 c κs = search needs
 
 step-of-requires-2 : tie.Need-step-of-requires-2
 step-of-requires-2 c κs = search needs
@@ -101,11 +101,11 @@ enum-told-9 c = search needs
 
 returns : tie.Need-returns
 returns c =
-    subst (Steps _ _ _ _ _ _ _) (step-is _ (c .step-of .ensures) (c .before .when .ensures)) (go-model (c .before .before .before .before .before .before .before .before .before .before .pre .0) (row-as (c .before .before .before .before .row-at .ensures) (c .before .before .enum-told .given .1)))
+    subst (Steps _ _ _ _ _ _ _) (step-is _ (c .step-of .ensures) (c .before .refuse-if .ensures)) (go-model (c .before .before .before .before .before .before .before .before .before .before .pre .0) (row-as (c .before .before .before .before .row-at .ensures) (c .before .before .enum-told .given .1)))
 
 returns-2 : tie.Need-returns-2
 returns-2 c =
-    subst (Steps _ _ _ _ _ _ _) (step-is _ (c .step-of2 .ensures) (c .before .when2 .ensures)) (go-end (c .before .before .before .before .before .before .before .before .before .before .before .pre .0) (row-as (c .before .before .before .before .before .row-at .ensures) (c .before .before .before .enum-told2 .given .1)))
+    subst (Steps _ _ _ _ _ _ _) (step-is _ (c .step-of2 .ensures) (c .before .refuse-if2 .ensures)) (go-end (c .before .before .before .before .before .before .before .before .before .before .before .pre .0) (row-as (c .before .before .before .before .before .row-at .ensures) (c .before .before .before .enum-told2 .given .1)))
 
 same-length : tie.Need-same-length
 same-length c = search needs
@@ -163,10 +163,10 @@ define-row-spec =
     (tie.spec
     row-at-requires
     enum-told
-    when-requires
+    refuse-if-requires
     step-of-requires
     enum-told-2
-    when-requires-2
+    refuse-if-requires-2
     step-of-requires-2
     enum-told-3
     sub-next

@@ -3,7 +3,7 @@ use Prim.Native.Nat.{_*_}
 use native.Mathlib.Omega.{arith}
 use lib.ListN.{length-set}
 use borrow.Author.Needs.{needs}
-use Rattle.lists.proofs.OverAt.{over-three}
+use Rattle.lists.proofs.OverAt.{overwrite-three}
 use Rattle.blif_text.proofs.put_block.Statement.{statement}
 use Rattle.blif_text.proofs.put_block.Tie as tie
 use Rattle.blif_text.proofs.put_block.Reads as reads
@@ -55,7 +55,7 @@ same-length : tie.Need-same-length
 same-length c = search needs
 
 returns : tie.Need-returns
-returns c = over-three (c .before .before .before .args .j * 3) _ _ _ _
+returns c = overwrite-three (c .before .before .before .args .j * 3) _ _ _ _
 
 pub put-block-spec : {M : Type 1} → statement M
 put-block-spec =

@@ -31,17 +31,17 @@ same-length c = going-kept (c .before .before .loop .inv .going)
 returns-2 : tie.Need-returns-2 Inv-loop μ-loop
 returns-2 c = going-full (c .before .before .loop .inv .going) (c .if2 .taken)
 
-sub-cover-at : tie.Need-sub-cover-at Inv-loop μ-loop
-sub-cover-at c = search needs
+sub-write-cover-at : tie.Need-sub-write-cover-at Inv-loop μ-loop
+sub-write-cover-at c = search needs
 
-part-cover-at-start : tie.Need-part-cover-at-start Inv-loop μ-loop
-part-cover-at-start c = search needs
+part-write-cover-at-start : tie.Need-part-write-cover-at-start Inv-loop μ-loop
+part-write-cover-at-start c = search needs
 
-part-cover-at-end : tie.Need-part-cover-at-end Inv-loop μ-loop
-part-cover-at-end c = search needs
+part-write-cover-at-end : tie.Need-part-write-cover-at-end Inv-loop μ-loop
+part-write-cover-at-end c = search needs
 
-cover-at-requires : tie.Need-cover-at-requires Inv-loop μ-loop
-cover-at-requires c κs =
+write-cover-at-requires : tie.Need-write-cover-at-requires Inv-loop μ-loop
+write-cover-at-requires c κs =
     let pre = c .before .before .before .before .before .before .before .before .pre in
     let h = pre .0 .read _ (c .before .before .loop-test .taken) in (h, not-wide h (pre .1) (c .before .before .loop-test .taken))
 
@@ -49,7 +49,7 @@ add-end : tie.Need-add-end Inv-loop μ-loop
 add-end c =
     let good = c .before .before .before .before .before .before .before .before .before .before .before .good in
     let loop = c .before .before .before .before .before .before .loop in
-    let z = going-high (loop .inv .going) (c .before .before .before .before .if2 .left) (c .before .before .cover-at .ensures) in omega (arith, z, good .0 .1)
+    let z = going-high (loop .inv .going) (c .before .before .before .before .if2 .left) (c .before .before .write-cover-at .ensures) in omega (arith, z, good .0 .1)
 
 add-g : tie.Need-add-g Inv-loop μ-loop
 add-g c = search needs
@@ -61,7 +61,7 @@ loop-again : tie.Need-loop-again Inv-loop μ-loop
 loop-again c =
     let loop = c .before .before .before .before .before .before .loop in
     let loop-test = c .before .before .before .before .before .loop-test in
-    before-part (cover-parts _ _ _) (loop .inv) (loop-test .taken) (c .before .before .before .before .if2 .left) (c .before .before .cover-at .ensures)
+    before-part (cover-parts _ _ _) (loop .inv) (loop-test .taken) (c .before .before .before .before .if2 .left) (c .before .before .write-cover-at .ensures)
 
 same-length-2 : tie.Need-same-length-2 Inv-loop μ-loop
 same-length-2 c = going-kept (c .before .loop .inv .going)
@@ -80,10 +80,10 @@ append-covers-spec =
     loop-holds
     same-length
     returns-2
-    sub-cover-at
-    part-cover-at-start
-    part-cover-at-end
-    cover-at-requires
+    sub-write-cover-at
+    part-write-cover-at-start
+    part-write-cover-at-end
+    write-cover-at-requires
     add-end
     add-g
     loop-less

@@ -31,23 +31,23 @@ same-length c = going-kept (c .before .before .loop .inv .going)
 returns-2 : tie.Need-returns-2 Inv-loop μ-loop
 returns-2 c = going-full (c .before .before .loop .inv .going) (c .if2 .taken)
 
-sub-latch-at : tie.Need-sub-latch-at Inv-loop μ-loop
-sub-latch-at c = search needs
+sub-write-latch-at : tie.Need-sub-write-latch-at Inv-loop μ-loop
+sub-write-latch-at c = search needs
 
-part-latch-at-start : tie.Need-part-latch-at-start Inv-loop μ-loop
-part-latch-at-start c = search needs
+part-write-latch-at-start : tie.Need-part-write-latch-at-start Inv-loop μ-loop
+part-write-latch-at-start c = search needs
 
-part-latch-at-end : tie.Need-part-latch-at-end Inv-loop μ-loop
-part-latch-at-end c = search needs
+part-write-latch-at-end : tie.Need-part-write-latch-at-end Inv-loop μ-loop
+part-write-latch-at-end c = search needs
 
-latch-at-requires : tie.Need-latch-at-requires Inv-loop μ-loop
-latch-at-requires c κs = c .before .before .before .before .before .before .before .before .pre .read _ (c .before .before .loop-test .taken)
+write-latch-at-requires : tie.Need-write-latch-at-requires Inv-loop μ-loop
+write-latch-at-requires c κs = c .before .before .before .before .before .before .before .before .pre .read _ (c .before .before .loop-test .taken)
 
 add-end : tie.Need-add-end Inv-loop μ-loop
 add-end c =
     let good = c .before .before .before .before .before .before .before .before .before .before .before .good in
     let loop = c .before .before .before .before .before .before .loop in
-    let z = going-high (loop .inv .going) (c .before .before .before .before .if2 .left) (c .before .before .latch-at .ensures) in omega (arith, z, good .0 .1)
+    let z = going-high (loop .inv .going) (c .before .before .before .before .if2 .left) (c .before .before .write-latch-at .ensures) in omega (arith, z, good .0 .1)
 
 add-g : tie.Need-add-g Inv-loop μ-loop
 add-g c = search needs
@@ -59,7 +59,7 @@ loop-again : tie.Need-loop-again Inv-loop μ-loop
 loop-again c =
     let loop = c .before .before .before .before .before .before .loop in
     let loop-test = c .before .before .before .before .before .loop-test in
-    before-part (latch-parts _ _ _) (loop .inv) (loop-test .taken) (c .before .before .before .before .if2 .left) (c .before .before .latch-at .ensures)
+    before-part (latch-parts _ _ _) (loop .inv) (loop-test .taken) (c .before .before .before .before .if2 .left) (c .before .before .write-latch-at .ensures)
 
 same-length-2 : tie.Need-same-length-2 Inv-loop μ-loop
 same-length-2 c = going-kept (c .before .loop .inv .going)
@@ -78,10 +78,10 @@ append-latches-spec =
     loop-holds
     same-length
     returns-2
-    sub-latch-at
-    part-latch-at-start
-    part-latch-at-end
-    latch-at-requires
+    sub-write-latch-at
+    part-write-latch-at-start
+    part-write-latch-at-end
+    write-latch-at-requires
     add-end
     add-g
     loop-less

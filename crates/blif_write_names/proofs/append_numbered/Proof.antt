@@ -1,6 +1,6 @@
 -- `append_numbered` writes a letter, the number and what marks an inversion. Assumes nothing.
 use Rattle.blif_write_names.proofs.Laws.{and-append, as-text}
-use Rattle.blif_write_names.proofs.Numbers.{turned-name, plain-name}
+use Rattle.blif_write_names.proofs.Numbers.{invert-name, plain-name}
 use borrow.Author.Needs.{needs}
 use Rattle.blif_write_names.proofs.append_numbered.Statement.{statement}
 use Rattle.blif_write_names.proofs.append_numbered.Tie as tie
@@ -26,7 +26,7 @@ returns c =
     let append-byte = c .before .before .before .before .before .before .before .before .before .before .before .before .append-byte in
     let append-number = c .before .before .before .before .before .before .before .before .append-number in
     let if1 = c .before .before .before .before .before .if1 in
-    as-text (turned-name (args .letter) (args .n) (args .inverted) (if1 .taken)) (and-append (and-append (append-byte .ensures) (append-number .ensures)) (c .before .before .append .ensures))
+    as-text (invert-name (args .letter) (args .n) (args .inverted) (if1 .taken)) (and-append (and-append (append-byte .ensures) (append-number .ensures)) (c .before .before .append .ensures))
 
 same-length-2 : tie.Need-same-length-2
 same-length-2 c = search needs

@@ -3,7 +3,7 @@ use Prim.Native.Nat.{_*_}
 use native.Mathlib.Omega.{arith}
 use lib.ListN.{length-set}
 use borrow.Author.Needs.{needs}
-use Rattle.lists.proofs.OverAt.{over-three}
+use Rattle.lists.proofs.OverAt.{overwrite-three}
 use Rattle.network.proofs.put_record.Statement.{statement}
 use Rattle.network.proofs.put_record.Tie as tie
 
@@ -50,7 +50,7 @@ same-length : tie.Need-same-length
 same-length c = search needs
 
 returns : tie.Need-returns
-returns c = over-three (c .args .g * 3) _ _ _ _
+returns c = overwrite-three (c .args .g * 3) _ _ _ _
 
 pub put-record-spec : {M : Type 1} → statement M
 put-record-spec =

@@ -9,7 +9,7 @@ use borrow.Author.Needs.{needs}
 use Rattle.signal.specs.Cell.{nodeOf}
 use Rattle.signal.specs.Signal.{gateNode}
 use Rattle.network.specs.Cells.{maxGates}
-use Rattle.sort.proofs.Stack.{lowered-none, lowered-stay, lowered-push, down-push}
+use Rattle.sort.proofs.Stack.{lowered-none, lowered-stay, lowered-push, fromTop-push}
 use Rattle.sort.proofs.lower_use.Statement.{statement}
 use Rattle.sort.proofs.lower_use.Tie as tie
 
@@ -86,7 +86,7 @@ returns-3 c =
     let p = c .before .before .before in
     let s = p .before .before .before .before .before in
     lowered-push _ (is p) (p .var .ensures) (omega (arith, fits p)) (c .if2 .left)
-    (down-push (s .args .stack .now) (s .args .top) (p .var .result) (omega (arith, fits p)))
+    (fromTop-push (s .args .stack .now) (s .args .top) (p .var .result) (omega (arith, fits p)))
 
 pub lower-use-spec : {M : Type 1} → statement M
 lower-use-spec =

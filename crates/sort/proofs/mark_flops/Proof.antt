@@ -5,7 +5,7 @@ use Prim.Native.Nat.{ℕ, _-_, _≤_}
 use native.Mathlib.Omega.{arith}
 use lib.ListN.{length, length-replicate}
 use Rattle.network.specs.Cells.{maxGates}
-use Rattle.sort.specs.Steps.{formComb, Flopped}
+use Rattle.sort.specs.Steps.{formComb, FlopsPlaced}
 use Rattle.sort.proofs.Starting.{flopped-none}
 use Rattle.sort.proofs.mark_flops.Statement.{statement}
 use Rattle.sort.proofs.mark_flops.Tie as tie
@@ -15,7 +15,7 @@ record Marking (gates : List ℕ) (n : ℕ) (o₀ m o : List ℕ) (k g : ℕ) : 
   within : g ≤ n
   long : length m ≡ maxGates
   same : length o ≡ length o₀
-  flopped : Flopped (formComb gates) g o₀ m o k
+  flopped : FlopsPlaced (formComb gates) g o₀ m o k
 
 abbrev Inv-loop : tie.InvT-loop
 Inv-loop gates n marks₀ order₀ k₀ g₀ marks order k g = Marking gates n order₀ marks order k g

@@ -2,7 +2,7 @@
 use mathlib.Core.Path.{sym, _∙_}
 use native.Mathlib.Omega.{arith}
 use Rattle.sort_order.proofs.Walk.{budget}
-use Rattle.sort.specs.Steps.{cellGraph, down}
+use Rattle.sort.specs.Steps.{cellGraph, fromTop}
 use Rattle.sort.proofs.Visiting.{Walking, walking-start, walking-next, walking-end, next-budget}
 use Rattle.sort.proofs.visit_all.Statement.{statement}
 use Rattle.sort.proofs.visit_all.Tie as tie
@@ -11,7 +11,7 @@ abbrev Inv-loop : tie.InvT-loop
 Inv-loop gates pins n counts₀ marks₀ stack₀ top order₀ w₀ counts marks stack order w = Walking (cellGraph gates pins n) order₀ counts marks stack (w .top) order (w .at)
 
 abbrev μ-loop : tie.MeasureT-loop
-μ-loop gates pins n counts₀ marks₀ stack₀ top order₀ w₀ counts marks stack order w = budget (cellGraph gates pins n) counts (down (w .top) stack)
+μ-loop gates pins n counts₀ marks₀ stack₀ top order₀ w₀ counts marks stack order w = budget (cellGraph gates pins n) counts (fromTop (w .top) stack)
 
 loop-holds : tie.Need-loop-holds Inv-loop μ-loop
 loop-holds c =

@@ -1,4 +1,4 @@
--- `cover_at` reads the gate unless its form is the flip-flop's. Assumes nothing.
+-- `write_cover_at` reads the gate unless its form is the flip-flop's. Assumes nothing.
 use mathlib.Core.Path.{_∙_, ap}
 use Rattle.network.proofs.GateRead.{decoded-within}
 use Rattle.blif_write_names.proofs.Laws.{as-wrote, wrote-nothing}
@@ -7,8 +7,8 @@ use Rattle.blif_write.specs.Parts.{coverText}
 use Rattle.blif_write.proofs.Walks.{read-bad, read-good}
 use Rattle.blif_write.proofs.Told.{held-run, cover-none}
 use borrow.Author.Needs.{needs}
-use Rattle.blif_write.proofs.cover_at.Statement.{statement}
-use Rattle.blif_write.proofs.cover_at.Tie as tie
+use Rattle.blif_write.proofs.write_cover_at.Statement.{statement}
+use Rattle.blif_write.proofs.write_cover_at.Tie as tie
 
 form-at-requires : tie.Need-form-at-requires
 form-at-requires c κs = held-run (c .before .before .before .pre .0) .cells
@@ -51,8 +51,8 @@ returns-3 c =
     let the-gate = c .before .before .before .before .before .gate in
     as-wrote (ap (coverText (args .g)) (read-good (args .gates .now) (args .pins .now) (args .g) (gate-at .ensures) (the-gate .given .1))) (c .before .before .write-cover .ensures)
 
-pub cover-at-spec : {M : Type 1} → statement M
-cover-at-spec =
+pub write-cover-at-spec : {M : Type 1} → statement M
+write-cover-at-spec =
     tie.close
     (tie.spec
     form-at-requires

@@ -1,12 +1,12 @@
--- `latch_at` reads the gate where its form is the flip-flop's. Assumes nothing.
+-- `write_latch_at` reads the gate where its form is the flip-flop's. Assumes nothing.
 use mathlib.Core.Path.{_∙_, ap}
 use Rattle.blif_write_names.proofs.Laws.{as-wrote, wrote-nothing}
 use Rattle.blif_write.specs.Parts.{latchText}
 use Rattle.blif_write.proofs.Walks.{read-bad, read-good, latch-any}
 use Rattle.blif_write.proofs.Told.{held-run, latch-none}
 use borrow.Author.Needs.{needs}
-use Rattle.blif_write.proofs.latch_at.Statement.{statement}
-use Rattle.blif_write.proofs.latch_at.Tie as tie
+use Rattle.blif_write.proofs.write_latch_at.Statement.{statement}
+use Rattle.blif_write.proofs.write_latch_at.Tie as tie
 
 form-at-requires : tie.Need-form-at-requires
 form-at-requires c κs = held-run (c .before .before .before .pre) .cells
@@ -41,8 +41,8 @@ returns-3 c =
     let the-gate = c .before .before .before .before .before .gate in
     as-wrote (latch-any (args .g) (the-gate .given .0 .0) (args .pins .now) ∙ ap (latchText (args .g)) (read-good (args .gates .now) (args .pins .now) (args .g) (gate-at .ensures) (the-gate .given .1))) (c .before .before .write-latch .ensures)
 
-pub latch-at-spec : {M : Type 1} → statement M
-latch-at-spec =
+pub write-latch-at-spec : {M : Type 1} → statement M
+write-latch-at-spec =
     tie.close
     (tie.spec
     form-at-requires
