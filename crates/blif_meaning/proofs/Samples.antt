@@ -3,12 +3,12 @@ use mathlib.Core.Path.{_≡_, refl, sym, subst}
 use mathlib.Core.Bool.{Bool, true, false, not, cond}
 use mathlib.Core.List.{List, [], _∷_, List·Memᴰ, List·Memᴰ·cases-cons, List·Memᴰ·not-nil}
 use mathlib.Core.Logic.{⊎-elim}
-use mathlib.Core.Option.{none, Option·none-ne-some}
+use mathlib.Core.Option.{Option·none-ne-some}
 use Prim.Native.Nat.{ℕ}
 use native.Mathlib.Omega.{arith}
 use lib.Dec.{eqb}
 use Rattle.network.specs.Clock.{done, tick}
-use Rattle.blif_meaning.specs.Model.{Line, Feed, Block, Latch, Cover, target, blockBit, coverBit, nextHeld, BlifFits, BlifClock, BlifRuns}
+use Rattle.blif_meaning.specs.Model.{Line, LatchDef, Block, Latch, Cover, plainLatch, target, blockBit, coverBit, nextHeld, BlifFits, BlifClock, BlifRuns}
 use Rattle.blif_meaning.specs.Samples.{sampleCover, offCover, toggle}
 
 -- 0111 meets the second and the third row, 1001 none
@@ -47,8 +47,8 @@ toggle-clock b = record {
   steps = toggle-steps;
 }
   where
-    toggle-steps : (f : Feed ℕ) (q : ℕ) → List·Memᴰ (Latch f q) (toggle .blocks) → not b ≡ nextHeld (values b) b f
-    toggle-steps f q m = ⊎-elim (λ e. let p : f ≡ record { input = 1; enable = none; reset = none } = cc in rw p refl)
+    toggle-steps : (l : LatchDef ℕ) → List·Memᴰ (Latch l) (toggle .blocks) → not b ≡ nextHeld (values b) b l
+    toggle-steps l m = ⊎-elim (λ e. let p : l ≡ plainLatch 1 0 = cc in rw p refl)
         (λ n. ⊎-elim (λ e. absurd (let z : _≡_ {A = ℕ} 0 1 = cc in omega arith)) (λ o. absurd (List·Memᴰ·not-nil o)) (List·Memᴰ·cases-cons n)) (List·Memᴰ·cases-cons m)
 
 -- from zero: 0, 1, 0

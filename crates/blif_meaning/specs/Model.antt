@@ -19,18 +19,20 @@ pub record Line : Type 0 where
   -- the output plane
   pub out : Bool
 
--- what feeds a latch: "input is the data input to the latch"; a `.flop` may have an enable `E` and a reset `R` too
-pub record Feed (Name : Type 0) : Type 0 where
+-- a latch: "input is the data input to the latch", "output is the output of the latch"; a `.flop` may have an enable `E` and a reset `R` too
+pub record LatchDef (Name : Type 0) : Type 0 where
   -- the data input
   pub input : Name
+  -- the output
+  pub output : Name
   -- `E`, if it is given
   pub enable : Option Name
   -- `R`, if it is given
   pub reset : Option Name
 
--- a latch with what feeds it and its output, or a cover with its inputs, its output and its rows
+-- a latch, or a cover with its inputs, its output and its rows
 pub data Block (Name : Type 0) : Type 0 where
-  Latch : Feed Name → Name → Block Name
+  Latch : LatchDef Name → Block Name
   Cover : List Name → Name → List Line → Block Name
 
 -- a model: its inputs and outputs in order, its latches and covers
@@ -66,14 +68,18 @@ coverBit [] bs = false
 coverBit (l ∷ ls) bs = cond (l .out) (cubesBit (l ∷ ls) bs) (not (cubesBit (l ∷ ls) bs))
 
 module _ {Name : Type 0} where
+  -- a latch without enable and reset, from its input and its output
+  abbrev pub plainLatch : Name → Name → LatchDef Name
+  plainLatch d q = record { input = d; output = q; enable = none; reset = none }
+
   -- the name that a latch or a cover defines
   abbrev pub target : Block Name → Name
-  target (Latch f q) = q
+  target (Latch l) = l .output
   target (Cover xs y ls) = y
 
   -- a latch's output is its held value, a cover's its function of its inputs
   abbrev pub blockBit : (Name → Bool) → Bool → Block Name → Bool
-  blockBit env h (Latch f q) = h
+  blockBit env h (Latch l) = h
   blockBit env h (Cover xs y ls) = coverBit ls (map env xs)
 
   -- the bit of a name that may be left out
@@ -83,8 +89,8 @@ module _ {Name : Type 0} where
 
   -- what a latch holds next: its input's value; of a `.flop`, a reset of one gives zero, else an enable of one takes the input, else
   -- the value is held
-  abbrev pub nextHeld : (Name → Bool) → Bool → Feed Name → Bool
-  nextHeld env h f = cond (optBit env false (f .reset)) false (cond (optBit env true (f .enable)) (env (f .input)) h)
+  abbrev pub nextHeld : (Name → Bool) → Bool → LatchDef Name → Bool
+  nextHeld env h l = cond (optBit env false (l .reset)) false (cond (optBit env true (l .enable)) (env (l .input)) h)
 
   -- the names' values at one clock fit the input row and the latches' held values
   pub record BlifFits (m : Model Name) (row : List Bool) (held env : Name → Bool) : Type 0 where
@@ -102,7 +108,7 @@ module _ {Name : Type 0} where
     -- the outputs in order
     pub answers : out ≡ map env (m .outputs)
     -- each latch takes what it holds next
-    pub steps : (f : Feed Name) (q : Name) → List·Memᴰ (Latch f q) (m .blocks) → next q ≡ nextHeld env (held q) f
+    pub steps : (l : LatchDef Name) → List·Memᴰ (Latch l) (m .blocks) → next (l .output) ≡ nextHeld env (held (l .output)) l
 
   -- the outputs that the model gives for these rows, from all latches at 0
   abbrev pub BlifRuns : Model Name → List (List Bool) → List (List Bool) → Type 0

@@ -1,9 +1,8 @@
 -- Small covers and a model to compute the meaning on. Assumes nothing: these are definitions.
 use mathlib.Core.Bool.{true, false}
 use mathlib.Core.List.{List, [], _∷_}
-use mathlib.Core.Option.{none}
 use Prim.Native.Nat.{ℕ}
-use Rattle.blif_meaning.specs.Model.{C0, C1, Dash, Line, Latch, Cover, Model}
+use Rattle.blif_meaning.specs.Model.{C0, C1, Dash, Line, Latch, Cover, Model, plainLatch}
 
 -- the Berkeley text's sample of a logic gate: `1--0 1`, `-1-1 1`, `0-11 1`
 abbrev pub sampleCover : List Line
@@ -22,5 +21,5 @@ abbrev pub toggle : Model ℕ
 toggle = record {
   inputs = [];
   outputs = 0 ∷ [];
-  blocks = Latch (record { input = 1; enable = none; reset = none }) 0 ∷ Cover (0 ∷ []) 1 (record { cols = C0 ∷ []; out = true } ∷ []) ∷ [];
+  blocks = Latch (plainLatch 1 0) ∷ Cover (0 ∷ []) 1 (record { cols = C0 ∷ []; out = true } ∷ []) ∷ [];
 }

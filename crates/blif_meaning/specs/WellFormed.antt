@@ -8,7 +8,7 @@ use mathlib.Core.Option.{Option, none, some}
 use Prim.Native.Nat.{ℕ}
 use lib.ListN.{length, getElem?}
 use Rattle.lists.specs.Lists.{Dup}
-use Rattle.blif_meaning.specs.Model.{Line, Block, Latch, Cover, Model, target}
+use Rattle.blif_meaning.specs.Model.{Line, LatchDef, Block, Latch, Cover, Model, target}
 
 module _ {Name : Type 0} where
   -- the names that the model defines: inputs, then latch and cover outputs
@@ -20,9 +20,13 @@ module _ {Name : Type 0} where
   optName none = []
   optName (some x) = x ∷ []
 
+  -- the names that a latch uses
+  abbrev pub latchUses : LatchDef Name → List Name
+  latchUses l = l .input ∷ (optName (l .enable) ++ optName (l .reset))
+
   -- the names that a block uses
   abbrev pub sources : Block Name → List Name
-  sources (Latch f q) = f .input ∷ (optName (f .enable) ++ optName (f .reset))
+  sources (Latch l) = latchUses l
   sources (Cover xs y ls) = xs
 
   -- the name is an input, or a latch or a cover defines it
@@ -43,7 +47,7 @@ GoodLines n o (l ∷ ls) = (length (l .cols) ≡ n) × (l .out ≡ o) × GoodLin
 
 -- a cover with good lines; a latch is always good
 abbrev pub GoodBlock : {Name : Type 0} → Block Name → Type 0
-GoodBlock (Latch f q) = Unit {0}
+GoodBlock (Latch l) = Unit {0}
 GoodBlock (Cover xs y ls) = (o : Bool) × GoodLines (length xs) o ls
 
 -- a model in which every name that is used has just one definition, and every cover a function

@@ -123,7 +123,7 @@ module _ {text tokens : List ℕ} {n : ℕ} {index outNames blocks : List ℕ} {
 placed-within : (ds : List Def) → sumOf placedCount ds ≤ sumOf pinCount ds
 unfolding pinCount
 placed-within [] = omega arith
-placed-within (latch d q ∷ ds) = omega (arith, placed-within ds)
+placed-within (latch l ∷ ds) = omega (arith, placed-within ds)
 placed-within (cover ns ls ∷ ds) =
     let a : length ns - 1 ≤ (length ls + 1) * (length ns - 1 + 2) = wide (length ls) (length ns - 1) in
     omega (arith, a, placed-within ds)

@@ -33,7 +33,7 @@ pinsOf x = length (pins x)
 
 -- "A latch is Dff(input, one, zero)", which stays as it was placed
 abbrev pub latchPins : Def → ℕ
-latchPins (latch d q) = 3
+latchPins (latch l) = 3
 latchPins (cover ns ls) = 0
 
 line-pins : (ss : List Signal) (ts : List Bytes) → length (columns ts) ≤ length ss → pinsOf (lineGate ss (lineOf ts)) ≡ linePins ts
@@ -59,7 +59,7 @@ module _ (ss : List Signal) where
 
 module _ (signalOf : Bytes → Signal) where
   def-pins : (k : ℕ) (d : Def) → coverFault d ≡ Fine → pinsOf (blockGate signalOf k (blockOf d)) + sumOf pinsOf (newGates signalOf (blockOf d)) ≡ builtPins d + latchPins d
-  def-pins k (latch d q) e = refl
+  def-pins k (latch l) e = refl
   def-pins k (cover ns ls) e =
       let wide : length ns - 1 ≡ length (map signalOf (coverIns ns)) = sym (placed-long signalOf (cover ns ls)) in
       omega (arith, cover-pins (map signalOf (coverIns ns)) k ls (subst (λ (n : ℕ). all (goodLine n) ls ≡ true) wide (cover-good ns ls e)))

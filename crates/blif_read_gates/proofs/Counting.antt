@@ -32,7 +32,7 @@ use Rattle.blif_read_gates.proofs.BlockLaws.{cover-good}
 -- the pins of the gate placed first
 pub placed-long : (signalOf : Bytes → Signal) (d : Def) → length (pins (placed signalOf d)) ≡ placedCount d
 unfolding coverIns
-placed-long signalOf (latch d q) = refl
+placed-long signalOf (latch l) = refl
 placed-long signalOf (cover ns ls) = length-map (take (length ns - 1) ns) signalOf ∙ length-take-le (length ns - 1) ns (omega arith)
 
 -- ---- sums
@@ -52,7 +52,7 @@ sum-next f l j x e = ap (sumOf f) (take-next l j x e) ∙ sum-append f (take j l
 
 pins-one : (d : Def) → placedCount d + addedPins d ≡ pinCount d
 unfolding pinCount
-pins-one (latch d q) = refl
+pins-one (latch l) = refl
 pins-one (cover ns ls) = let m : ℕ = length ns - 1 in omega (arith, add-mul (length ls) 1 (m + 2))
 
 -- the pins that are counted: those of the gates placed first, and what covers may add
@@ -62,7 +62,7 @@ pins-split (d ∷ ds) = omega (arith, pins-one d, pins-split ds)
 
 gates-one : (d : Def) → 1 + addedOf d ≡ gateCount d
 unfolding gateCount
-gates-one (latch d q) = refl
+gates-one (latch l) = refl
 gates-one (cover ns ls) = refl
 
 -- the gates that are counted
@@ -80,7 +80,7 @@ no-fault (x ∷ ds) (suc j) d f e = no-fault ds j d (orElse-right (coverFault x)
 -- ---- pins
 
 added-few : (d : Def) → coverFault d ≡ Fine → builtPins d ≤ addedPins d
-added-few (latch d q) e = omega arith
+added-few (latch l) e = omega arith
 added-few (cover ns ls) e = cover-few (length ns - 1) ls (cover-good ns ls e)
 
 -- the first j definitions add no more pins than they may
@@ -103,7 +103,7 @@ lines-count ss (l ∷ m ∷ ls) = ap (λ (n : ℕ). suc (suc n)) (length-map ls 
 module _ (signalOf : Bytes → Signal) where
   -- the gates that a definition adds
   more-long : (d : Def) → length (newGates signalOf (blockOf d)) ≡ addedOf d
-  more-long (latch d q) = refl
+  more-long (latch l) = refl
   more-long (cover ns ls) = lines-count (map signalOf (coverIns ns)) (map lineOf ls) ∙ ap added (length-map ls lineOf)
 
   -- and those of all

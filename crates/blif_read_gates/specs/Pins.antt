@@ -31,5 +31,5 @@ coverPins (l ∷ m ∷ ls) = length (l ∷ m ∷ ls) + sumOf linePins (l ∷ m �
 
 -- a latch's gate stays as it was placed; a cover's And is replaced
 abbrev pub builtPins : Def → ℕ
-builtPins (latch d q) = 0
+builtPins (latch l) = 0
 builtPins (cover ns ls) = coverPins ls

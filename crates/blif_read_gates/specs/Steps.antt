@@ -177,12 +177,12 @@ pub record CoverBuilt (ls : List (List Bytes)) (j next at : ℕ) (gates pinsIn g
 
 -- how many gates a definition adds to those placed first
 abbrev pub addedOf : Def → ℕ
-addedOf (latch d q) = 0
+addedOf (latch l) = 0
 addedOf (cover ns ls) = added (length ls)
 
 -- how many pins it may add to those placed first
 abbrev pub addedPins : Def → ℕ
-addedPins (latch d q) = 0
+addedPins (latch l) = 0
 addedPins (cover ns ls) = length ls * (length ns - 1 + 2) + 2
 
 -- room for the gates of a definition that was placed as gate j

@@ -7,6 +7,7 @@ use native.Mathlib.Omega.{arith}
 use lib.ListN.{length, getD, take}
 use lib.Seq.{slice, length-slice}
 use Rattle.lists.specs.Lists.{Bytes}
+use Rattle.blif_meaning.specs.Model.{plainLatch}
 use Rattle.blif_text.specs.Decls.{latch, cover, Decl, model, end, inputs, outputs, gate, decls}
 use Rattle.blif_text.specs.Places.{tokenOf}
 use Rattle.blif_text.specs.Walk.{rowsFrom, stmtsFrom, Inside, StmtsAt}
@@ -74,7 +75,7 @@ module _ {text tokens : List ℕ} {n at r : ℕ} where
   outputs-decls w = ap decls (w .starts)
 
   pub latch-decls : {first : ℕ} → RowIs text tokens n at r (place.Latch first)
-      → decls (stmtsFrom text tokens n at) ≡ gate (latch (tokenOf text (getD tokens (at + 1) 0)) (tokenOf text (getD tokens (at + 2) 0))) ∷ decls (stmtsFrom text tokens n r)
+      → decls (stmtsFrom text tokens n at) ≡ gate (latch (plainLatch (tokenOf text (getD tokens (at + 1) 0)) (tokenOf text (getD tokens (at + 2) 0)))) ∷ decls (stmtsFrom text tokens n r)
   unfolding decls
   latch-decls w = ap decls (w .starts .0)
 

@@ -8,6 +8,7 @@ use lib.Seq.{slice, length-slice, getD-drop, getD-take}
 use Rattle.lists.specs.Lists.{Bytes, sumOf, known}
 use Rattle.lists.proofs.Places.{getD-any}
 use Rattle.lists.proofs.Tests.{by-order}
+use Rattle.blif_meaning.specs.Model.{LatchDef, plainLatch}
 use Rattle.blif_text.specs.Decls.{Def, latch, cover, inputs, gate, decls, defs, coverOut, defines}
 use Rattle.blif_text.specs.Places.{tokenOf, tokensOf}
 use Rattle.blif_text.specs.Walk.{rowsFrom, stmtsFrom, RowsAt, StmtsAt}
@@ -35,7 +36,7 @@ use Rattle.blif_read_names.proofs.Defining.{names-more, latch-decls, co
 pub defs-few : (gs : List Def) → length gs ≤ sumOf gateCount gs
 unfolding gateCount
 defs-few [] = omega arith
-defs-few (latch d q ∷ gs) = omega (arith, defs-few gs)
+defs-few (latch l ∷ gs) = omega (arith, defs-few gs)
 defs-few (cover ns ls ∷ gs) = omega (arith, defs-few gs)
 
 -- the last name of a cover
@@ -55,9 +56,9 @@ cover-last text tokens at r h k =
     ∙ ap (λ (x : ℕ). getD tokens x 0) j)
 
 -- the name that a latch defines
-latch-defines : (d q : Bytes) → q ≡ defines (latch d q)
+latch-defines : (l : LatchDef Bytes) → l .output ≡ defines (latch l)
 unfolding defines
-latch-defines d q = refl
+latch-defines l = refl
 
 -- the name that a cover defines
 cover-defines : (ns : List Bytes) (ls : List (List Bytes)) → coverOut ns ≡ defines (cover ns ls)
@@ -96,9 +97,9 @@ module _ {text tokens : List ℕ} {n : ℕ} {index out blocks : List ℕ} {v : W
         let j : at + 1 + 1 ≡ at + 2 = omega arith in
         subst (Steps text tokens n index′ out blocks′ v) (sym (s .walk))
         (go-gate (row .low) (row .rest) (latch-decls row)
-        (naming-latch (v .seen) (namesIn text index (v .inputs + v .gates)) (decls (stmtsFrom text tokens n r)) d q
+        (naming-latch (v .seen) (namesIn text index (v .inputs + v .gates)) (decls (stmtsFrom text tokens n r)) (plainLatch d q)
         ∙ ap (λ (b : Checked). b orElse naming (v .seen) (namesIn text index (v .inputs + v .gates) ++ (q ∷ [])) (decls (stmtsFrom text tokens n r))) (sym (s .gate .refused)))
-        (latch-defines d q) (ap (λ (k : ℕ). latch d (tokenOf text (getD tokens k 0))) j)
+        (latch-defines (plainLatch d q)) (ap (λ (k : ℕ). latch (plainLatch d (tokenOf text (getD tokens k 0)))) j)
         (record {
           latchNames = λ z. omega (arith, row .starts .1, row .rest .rows .high);
           coverNames = omega (arith, row .starts .1, row .rest .rows .high);

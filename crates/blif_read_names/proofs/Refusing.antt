@@ -5,6 +5,7 @@ use mathlib.Core.List.{List, [], _∷_, _++_}
 use native.Mathlib.Omega.{arith}
 use lib.ListN.{length}
 use Rattle.lists.specs.Lists.{Bytes, known}
+use Rattle.blif_meaning.specs.Model.{LatchDef}
 use Rattle.blif_text.specs.Decls.{latch, cover, Decl, model, end, inputs, outputs, gate, coverOut}
 use Rattle.refusals.specs.Order.{_orElse_, refuseIf}
 use Rattle.refusals.specs.declared.Refusal.the-variants as refusal
@@ -28,9 +29,10 @@ module _ (seen : Bool) (earlier : List Bytes) (ds : List Decl) where
   unfolding naming
   naming-outputs ns = refl
 
-  pub naming-latch : (d q : Bytes) → naming seen earlier (gate (latch d q) ∷ ds) ≡ (refuseIf (known q earlier) refusal.DefinedTwice orElse naming seen (earlier ++ (q ∷ [])) ds)
+  pub naming-latch : (l : LatchDef Bytes)
+      → naming seen earlier (gate (latch l) ∷ ds) ≡ (refuseIf (known (l .output) earlier) refusal.DefinedTwice orElse naming seen (earlier ++ (l .output ∷ [])) ds)
   unfolding naming
-  naming-latch d q = refl
+  naming-latch l = refl
 
   pub naming-empty : (ns : List Bytes) (ls : List (List Bytes)) → length ns ≡ 0 → naming seen earlier (gate (cover ns ls) ∷ ds) ≡ Refused refusal.NamesEmpty
   unfolding naming

@@ -13,6 +13,7 @@ use Rattle.lists.proofs.Laying.{one-store}
 use Rattle.gates.specs.Gate.{AndN}
 use Rattle.gates.specs.Forms.{formNumber, flopNumber}
 use Rattle.network.specs.Cells.{gateWidth}
+use Rattle.blif_meaning.specs.Model.{plainLatch}
 use Rattle.blif_text.specs.Places.{tokenOf, tokensOf}
 use Rattle.blif_text.specs.Walk.{rowsFrom, Inside}
 use Rattle.blif_text.specs.Decls.{Def, latch, cover, coverIns, usedNames}
@@ -137,7 +138,7 @@ module _ {text tokens : List ℕ} {n : ℕ} {blocks : List ℕ} {f c : ℕ} (j :
   def-is : defAt text tokens n blocks j ≡ defFrom text tokens n f c (lineCount blocks j)
   def-is = ap₂ (λ (a k : ℕ). defFrom text tokens n a k (lineCount blocks j)) (sym ef) (sym ec)
 
-  latch-is : c ≡ 0 → defAt text tokens n blocks j ≡ latch (tokenOf text (getD tokens f 0)) (tokenOf text (getD tokens (f + 1) 0))
+  latch-is : c ≡ 0 → defAt text tokens n blocks j ≡ latch (plainLatch (tokenOf text (getD tokens f 0)) (tokenOf text (getD tokens (f + 1) 0)))
   latch-is z = def-is ∙ ap (λ (k : ℕ). defFrom text tokens n f k (lineCount blocks j)) z
 
   cover-is : (c ≡ 0 → ⊥) → defAt text tokens n blocks j ≡ cover (tokensOf text (slice f (f + c) tokens)) (take (lineCount blocks j) (rowsFrom text tokens n (f + c)))

@@ -2,7 +2,7 @@
 use mathlib.Core.Path.{_≡_, refl, sym, ap, ap₂, _∙_}
 use mathlib.Core.Bool.{Bool, true, false, _&&_, false≢true}
 use mathlib.Core.List.{List, [], _∷_, _++_, map, flatMap, map-append}
-use mathlib.Core.Option.{some}
+use mathlib.Core.Option.{Option, none, some}
 use Prim.Native.Nat.{ℕ, _+_, _-_, _*_, _≤_, _<_}
 use native.Mathlib.Omega.{arith}
 use native.Mathlib.Nat.{sub-zero}
@@ -13,17 +13,19 @@ use Rattle.lists.proofs.Tests.{and-left, and-right}
 use Rattle.lists.proofs.OverAt.{length-overwriteAt}
 use Rattle.lists.proofs.Places.{map-map, place-lt}
 use Rattle.lists.proofs.Range.{all-append, map-range, length-range, range-cons, range-end}
-use Rattle.signal.specs.Signal.{Signal}
+use Rattle.signal.specs.Signal.{Signal, zeroS, oneS}
 use Rattle.signal.specs.Cell.{sigCell}
 use Rattle.gates.specs.Gate.{Gate, pins}
 use Rattle.gates.specs.Forms.{formCell}
 use Rattle.network.specs.Cells.{gateWidth, maxGates, maxPins}
 use Rattle.blif_text.specs.Decls.{Def, latch, cover, coverIns, usedNames}
 use Rattle.blif_text.specs.Blocks.{Blocks}
+use Rattle.blif_meaning.specs.WellFormed.{optName}
+use Rattle.blif_reading.specs.Build.{optSig}
 use Rattle.blif_reading.specs.Working.{GateIn, placed, placedCount, WorkRoom}
 use Rattle.blif_reading.proofs.WorkingLaws.{record-kept, run-kept, used-more, gate-written}
 use Rattle.blif_read_signals.specs.Resolve.{isFound, allFound, placedTo, Signals, PlacedBy}
-use Rattle.blif_read_signals.specs.Steps.{GateRoom, placedForm, placedRun, DefPlaced}
+use Rattle.blif_read_signals.specs.Steps.{GateRoom, placedForm, optCell, placedRun, DefPlaced}
 use Rattle.blif_read_signals.specs.declared.Placed.{Placed}
 use Rattle.blif_read_signals.specs.declared.Placed.the-variants as answer
 use Rattle.refusals.specs.declared.Refusal.{Refusal}
@@ -39,19 +41,33 @@ found-cells sig signalOf s (x ∷ ns) f =
     let b : Bool = all isFound (map sig ns) in
     ap₂ (λ (a : ℕ) (l : List ℕ). a ∷ l) (s x (and-left (isFound (sig x)) b f)) (found-cells sig signalOf s ns (and-right (isFound (sig x)) b f))
 
+-- and so is one that may be left out
+found-cell : (sig : Bytes → ℕ) (signalOf : Bytes → Signal) → Signals sig signalOf → (t : Signal) (o : Option Bytes) → all isFound (map sig (optName o)) ≡ true
+    → optCell sig (sigCell t) o ≡ sigCell (optSig signalOf t o)
+found-cell sig signalOf s t none f = refl
+found-cell sig signalOf s t (some x) f = s x (and-left (isFound (sig x)) true f)
+
 run-is : (sig : Bytes → ℕ) (signalOf : Bytes → Signal) → Signals sig signalOf → (d : Def) → all isFound (map sig (usedNames d)) ≡ true
     → placedRun sig d ≡ map sigCell (pins (placed signalOf d))
 unfolding usedNames
-run-is sig signalOf s (latch d q) f = ap (λ (a : ℕ). a ∷ 1 ∷ 0 ∷ []) (s d (and-left (isFound (sig d)) true f))
+run-is sig signalOf s (latch l) f =
+    let es : List ℕ = map sig (optName (l .enable)) in
+    let rs : List ℕ = map sig (optName (l .reset)) in
+    let o : (all isFound es && all isFound rs) ≡ true =
+    sym (ap (all isFound) (map-append sig (optName (l .enable)) (optName (l .reset))) ∙ all-append isFound es rs) ∙ and-right (isFound (sig (l .input))) _ f in
+    let d = s (l .input) (and-left (isFound (sig (l .input))) _ f) in
+    let e = found-cell sig signalOf s oneS (l .enable) (and-left (all isFound es) (all isFound rs) o) in
+    let r = found-cell sig signalOf s zeroS (l .reset) (and-right (all isFound es) (all isFound rs) o) in
+    λ i. d i ∷ e i ∷ r i ∷ []
 run-is sig signalOf s (cover ns ls) f = found-cells sig signalOf s (coverIns ns) f
 
 form-is : (signalOf : Bytes → Signal) (d : Def) → placedForm d ≡ formCell (placed signalOf d)
-form-is signalOf (latch d q) = refl
+form-is signalOf (latch l) = refl
 form-is signalOf (cover ns ls) = refl
 
 run-length : (sig : Bytes → ℕ) (d : Def) → length (placedRun sig d) ≡ placedCount d
 unfolding coverIns
-run-length sig (latch d q) = refl
+run-length sig (latch l) = refl
 run-length sig (cover ns ls) =
     let e : length (map sig (coverIns ns)) ≡ length (coverIns ns) = length-map (coverIns ns) sig in
     omega (arith, e, length-take (length ns - 1) ns)

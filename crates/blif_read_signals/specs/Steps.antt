@@ -2,6 +2,7 @@
 use mathlib.Core.Path.{_≡_}
 use mathlib.Core.Bool.{true}
 use mathlib.Core.List.{List, [], _∷_, map}
+use mathlib.Core.Option.{Option, none, some}
 use Prim.Native.Nat.{ℕ, _+_, _*_, _≤_, _<_}
 use lib.ListN.{length, getD}
 use Rattle.lists.specs.Lists.{Bytes, all, overwriteAt}
@@ -41,12 +42,17 @@ pub record GatePlaced (sig : Bytes → ℕ) (form : ℕ) (names : List Bytes) (r
 
 -- the form number of the gate first placed for a definition: a Dff, or a Nary And
 abbrev pub placedForm : Def → ℕ
-placedForm (latch d q) = flopNumber
+placedForm (latch l) = flopNumber
 placedForm (cover ns ls) = formNumber AndN
 
--- the cells of its pins: a latch's enable is one, its reset zero
+-- the cell of a name that may be left out
+abbrev pub optCell : (Bytes → ℕ) → ℕ → Option Bytes → ℕ
+optCell sig c none = c
+optCell sig c (some x) = sig x
+
+-- the cells of its pins: a latch's enable is one and its reset zero where they are left out
 abbrev pub placedRun : (Bytes → ℕ) → Def → List ℕ
-placedRun sig (latch d q) = sig d ∷ 1 ∷ 0 ∷ []
+placedRun sig (latch l) = sig (l .input) ∷ optCell sig 1 (l .enable) ∷ optCell sig 0 (l .reset) ∷ []
 placedRun sig (cover ns ls) = map sig (coverIns ns)
 
 -- the gate of a definition was placed

@@ -9,6 +9,7 @@ use lib.Seq.{slice, slice-cons, slice-empty, length-slice}
 use Rattle.lists.specs.Lists.{Bytes}
 use Rattle.refusals.specs.declared.Checked.the-variants.{Fine}
 use Rattle.refusals.proofs.Order.{refused-ne-fine}
+use Rattle.blif_meaning.specs.Model.{plainLatch}
 use Rattle.blif_text.specs.Statements.{Stmt, Parsed, ok, bad, modelStmt, latchStmt, firstBad, stmts, byKeyword}
 use Rattle.blif_text.specs.Rows.{rowStmt}
 use Rattle.blif_text.specs.Places.{tokenOf, tokensOf, grouped}
@@ -33,7 +34,7 @@ Has (ok Stmt.exdc) k ts = Unit {0}
 Has (ok (Stmt.inputs ns)) k ts = ns ≡ ts
 Has (ok (Stmt.outputs ns)) k ts = ns ≡ ts
 Has (ok (Stmt.names ns)) k ts = ns ≡ ts
-Has (ok (Stmt.latch d q)) k ts = (us : List Bytes) × (ts ≡ d ∷ q ∷ us)
+Has (ok (Stmt.latch l)) k ts = (us : List Bytes) × (ts ≡ l .input ∷ l .output ∷ us)
 Has (ok (Stmt.cube us)) k ts = us ≡ k ∷ ts
 Has (bad r) k ts = Unit {0}
 
@@ -115,12 +116,12 @@ module _ {text cells : List ℕ} {n at r : ℕ} (c : StmtsAt text cells n at) (h
 
   -- they are the first two
   latch-is : (d q : Bytes) (us : List Bytes) → names text cells at r ≡ d ∷ q ∷ us → at + 3 ≤ r
-      → Stmt.latch d q ∷ stmtsFrom text cells n r ≡ Stmt.latch (tokenOf text (getD cells (at + 1) 0)) (tokenOf text (getD cells (at + 2) 0)) ∷ stmtsFrom text cells n r
+      → Stmt.latch (plainLatch d q) ∷ stmtsFrom text cells n r ≡ Stmt.latch (plainLatch (tokenOf text (getD cells (at + 1) 0)) (tokenOf text (getD cells (at + 2) 0))) ∷ stmtsFrom text cells n r
   latch-is d q us e l =
       let p = sym (two-names l) ∙ e in
       let x : tokenOf text (getD cells (at + 1) 0) ≡ d = cc in
       let y : tokenOf text (getD cells (at + 2) 0) ≡ q = cc in
-      cc
+      λ i. Stmt.latch (plainLatch (sym x i) (sym y i)) ∷ stmtsFrom text cells n r
 
   -- of the row's statement
   has : {s : Statement} → s ≡ statementAt text cells at r → Has (parsedFrom text cells s) first (names text cells at r)

@@ -6,6 +6,7 @@ use Prim.Native.Nat.{ℕ, _+_, _≤_, _<_}
 use lib.ListN.{length, getD, take}
 use lib.Seq.{slice}
 use Rattle.lists.specs.Lists.{Bytes, sumOf}
+use Rattle.blif_meaning.specs.Model.{plainLatch}
 use Rattle.blif_text.specs.Statements.{Stmt}
 use Rattle.blif_text.specs.Decls.{cubes, decls}
 use Rattle.blif_text.specs.Places.{tokenOf, tokensOf}
@@ -27,7 +28,7 @@ Starts text tokens n at end (place.Inputs run) = stmtsFrom text tokens n at ≡ 
 Starts text tokens n at end (place.Outputs run) = stmtsFrom text tokens n at ≡ Stmt.outputs (names text tokens at end) ∷ stmtsFrom text tokens n end
 Starts text tokens n at end (place.Names run) = stmtsFrom text tokens n at ≡ Stmt.names (names text tokens at end) ∷ stmtsFrom text tokens n end
 Starts text tokens n at end (place.Latch first) =
-    (stmtsFrom text tokens n at ≡ Stmt.latch (tokenOf text (getD tokens (at + 1) 0)) (tokenOf text (getD tokens (at + 2) 0)) ∷ stmtsFrom text tokens n end)
+    (stmtsFrom text tokens n at ≡ Stmt.latch (plainLatch (tokenOf text (getD tokens (at + 1) 0)) (tokenOf text (getD tokens (at + 2) 0))) ∷ stmtsFrom text tokens n end)
     × (at + 3 ≤ end)
 Starts text tokens n at end (place.Cube run) = stmtsFrom text tokens n at ≡ Stmt.cube (tokensOf text (slice at end tokens)) ∷ stmtsFrom text tokens n end
 Starts text tokens n at end (place.Refused r) = ⊥

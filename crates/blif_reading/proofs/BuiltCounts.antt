@@ -118,7 +118,7 @@ lines-added ss (l ∷ m ∷ ls) =
 module _ (signalOf : Bytes → Signal) where
   def-pins : (k : ℕ) (g : Def) → pinsOf (blockGate signalOf k (blockOf g)) + sumOf pinsOf (newGates signalOf (blockOf g)) ≤ pinCount g
   unfolding pinCount coverIns
-  def-pins k (latch d q) = omega arith
+  def-pins k (latch l) = omega arith
   def-pins k (cover ns ls) =
       let n : length (map signalOf (coverIns ns)) ≡ length ns - 1 = length-map (coverIns ns) signalOf ∙ length-take (length ns - 1) ns ∙ omega arith in
       let m : length (map lineOf ls) ≡ length ls = length-map ls lineOf in
@@ -128,15 +128,15 @@ module _ (signalOf : Bytes → Signal) where
 
   def-gates : (g : Def) → 1 + length (newGates signalOf (blockOf g)) ≡ gateCount g
   unfolding gateCount
-  def-gates (latch d q) = refl
+  def-gates (latch l) = refl
   def-gates (cover ns ls) = ap (λ (x : ℕ). 1 + x) (lines-added (map signalOf (coverIns ns)) (map lineOf ls) ∙ ap added (length-map ls lineOf))
 
   main-formed : (k : ℕ) (g : Def) → formed (blockGate signalOf k (blockOf g)) ≡ true
-  main-formed k (latch d q) = refl
+  main-formed k (latch l) = refl
   main-formed k (cover ns ls) = cover-formed k (map signalOf (coverIns ns)) (map lineOf ls)
 
   more-formed : (g : Def) → AllFormed (newGates signalOf (blockOf g))
-  more-formed (latch d q) = every-nil
+  more-formed (latch l) = every-nil
   more-formed (cover ns ls) = lines-formed (map signalOf (coverIns ns)) (map lineOf ls)
 
   -- ---- all gates

@@ -52,7 +52,7 @@ module _ {Name : Type 0} (signalOf : Name → Signal) (rank : Name → ℕ) wher
     right-comb j (Dff s) h = tt
 
     abbrev Above : Block Name → Type 0
-    Above (Latch f q) = Unit {0}
+    Above (Latch l) = Unit {0}
     Above (Cover xs y ls) = (l : Line) (x : Name) → List·Memᴰ l ls → List·Memᴰ x (litNames (l .cols) xs) → rank x < rank y
 
     record Okay (j : ℕ) (b : Block Name) : Type 0 where
@@ -61,7 +61,7 @@ module _ {Name : Type 0} (signalOf : Name → Signal) (rank : Name → ℕ) wher
       at : ρ j ≡ suc (2 * rank (target b))
 
     main-right : (k j : ℕ) (b : Block Name) → Okay j b → ((i : ℕ) → i < length (newGates signalOf b) → ρ (k + i) ≡ 2 * rank (target b)) → Right j (blockGate signalOf k b)
-    main-right k j (Latch f q) o r = tt
+    main-right k j (Latch l) o r = tt
     main-right k j (Cover xs y ls) o r =
         let v : ρ j ≡ suc (2 * rank y) = o .at in
         right-comb j (coverGate k (map signalOf xs) ls)
@@ -91,7 +91,7 @@ module _ {Name : Type 0} (signalOf : Name → Signal) (rank : Name → ℕ) wher
     )
 
     more-right : (j i : ℕ) (b : Block Name) → Okay i b → ((n : ℕ) → n < length (newGates signalOf b) → ρ (j + n) ≡ 2 * rank (target b)) → Each Right j (newGates signalOf b)
-    more-right j i (Latch f q) o r = tt
+    more-right j i (Latch l) o r = tt
     more-right j i (Cover xs y []) o r = tt
     more-right j i (Cover xs y (l ∷ [])) o r = tt
     more-right j i (Cover xs y (l ∷ m ∷ ls)) o r =
@@ -141,7 +141,7 @@ module _ {Name : Type 0} (m : Model Name) (signalOf : Name → Signal) (ok : Loo
       subst (λ (y : Name). Under signalOf (rm .rankOf) ρ B (signalOf y .node)) t (subst (λ (s : Signal). Under signalOf (rm .rankOf) ρ B (s .node)) (sym (ok .blockAt j b e)) (omega arith))
 
   above-of : (b : Block Name) → List·Memᴰ b (m .blocks) → Above signalOf (rm .rankOf) ρ b
-  above-of (Latch f q) w = tt
+  above-of (Latch l) w = tt
   above-of (Cover xs y ls) w = λ l x v u. rm .above xs y ls l x w v u
 
   okays : Each (Okay signalOf (rm .rankOf) ρ) 0 (m .blocks)

@@ -11,7 +11,7 @@ use Rattle.signal.specs.Signal.{Node, Const, Input, Var, Signal, oneS, zeroS}
 use Rattle.gates.specs.Gate.{Gate}
 use Rattle.network.specs.Net.{GateIs}
 use Rattle.network.specs.Clock.{Clock, sigBit}
-use Rattle.blif_meaning.specs.Model.{Line, Feed, Block, Latch, Cover, Model, target, optBit, blockBit, coverBit, BlifClock}
+use Rattle.blif_meaning.specs.Model.{Line, LatchDef, Block, Latch, Cover, Model, target, optBit, blockBit, coverBit, BlifClock}
 use Rattle.blif_reading.specs.Build.{optSig, lineGate, lineGates, blockGate, newGates, blockGates, allNewGates, build}
 use Rattle.blif_meaning.specs.WellFormed.{Closed, GoodBlock}
 use Rattle.blif_reading.proofs.Lookups.{Looks}
@@ -98,9 +98,9 @@ module _ {Name : Type 0} (m : Model Name) (signalOf : Name → Signal) (ok : Loo
     cover-seg k ss (l ∷ n ∷ ls) p = lines-seg k ss (l ∷ n ∷ ls) p
 
     block-back : (j : ℕ) (b : Block Name) → getElem? (m .blocks) j ≡ some b → env (target b) ≡ blockBit env (heldB (target b)) b
-    block-back j (Latch d q) e =
-        let p : Placed signalOf (length (m .blocks)) (m .blocks) j (Latch d q) = at-place m signalOf j (Latch d q) e in
-        ap σ (ok .blockAt j (Latch d q) e) ∙ c .fits j (blockGate signalOf (length (m .blocks) + p .d) (Latch d q)) (main-is m signalOf j (Latch d q) p) ∙ h j d q e
+    block-back j (Latch l) e =
+        let p : Placed signalOf (length (m .blocks)) (m .blocks) j (Latch l) = at-place m signalOf j (Latch l) e in
+        ap σ (ok .blockAt j (Latch l) e) ∙ c .fits j (blockGate signalOf (length (m .blocks) + p .d) (Latch l)) (main-is m signalOf j (Latch l) p) ∙ h j l e
     block-back j (Cover xs y ls) e =
         let b : Block Name = Cover xs y ls in
         let p : Placed signalOf (length (m .blocks)) (m .blocks) j b = at-place m signalOf j b e in
@@ -116,19 +116,19 @@ module _ {Name : Type 0} (m : Model Name) (signalOf : Name → Signal) (ok : Loo
     back-clock : (t : Name → Bool) × BlifClock m heldB row out t × HoldsBack nextN t
     back-clock =
         let next : Name → Bool = λ y. gateOr nextN (signalOf y .node) in
-        let at : (j : ℕ) (d : Feed Name) (q : Name) → getElem? (m .blocks) j ≡ some (Latch d q) → next q ≡ nextN j = λ j d q e. ap (λ (s : Signal). gateOr nextN (s .node)) (ok .blockAt j (Latch d q) e) in (
+        let at : (j : ℕ) (l : LatchDef Name) → getElem? (m .blocks) j ≡ some (Latch l) → next (l .output) ≡ nextN j = λ j l e. ap (λ (s : Signal). gateOr nextN (s .node)) (ok .blockAt j (Latch l) e) in (
           next,
           record {
             env = env;
             fits = record { ins = λ i x e. ap σ (ok .inputAt i x e); blocks = λ b w. let t = mem-place (m .blocks) b w in block-back (t .0) b (t .1) };
             answers = c .answers ∙ env-map (m .outputs);
-            steps = λ d q w.
-                let t = mem-place (m .blocks) (Latch d q) w in
-                let p : Placed signalOf (length (m .blocks)) (m .blocks) (t .0) (Latch d q) = at-place m signalOf (t .0) (Latch d q) (t .1) in
-                at (t .0) d q (t .1) ∙ c .steps (t .0) (blockGate signalOf (length (m .blocks) + p .d) (Latch d q)) (main-is m signalOf (t .0) (Latch d q) p)
-                ∙ (λ i. cond (opt-same (d .reset) zeroS false refl i) false (cond (opt-same (d .enable) oneS true refl i) (env (d .input)) (h (t .0) d q (t .1) i)));
+            steps = λ l w.
+                let t = mem-place (m .blocks) (Latch l) w in
+                let p : Placed signalOf (length (m .blocks)) (m .blocks) (t .0) (Latch l) = at-place m signalOf (t .0) (Latch l) (t .1) in
+                at (t .0) l (t .1) ∙ c .steps (t .0) (blockGate signalOf (length (m .blocks) + p .d) (Latch l)) (main-is m signalOf (t .0) (Latch l) p)
+                ∙ (λ i. cond (opt-same (l .reset) zeroS false refl i) false (cond (opt-same (l .enable) oneS true refl i) (env (l .input)) (h (t .0) l (t .1) i)));
           },
-          λ j d q e. sym (at j d q e),
+          λ j l e. sym (at j l e),
         )
 
   pub read-back-simulates : Simulates HoldsBack (Clock (build signalOf m)) (BlifClock m)

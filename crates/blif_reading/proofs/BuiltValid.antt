@@ -47,10 +47,10 @@ module _ {Name : Type 0} (signalOf : Name → Signal) (ins total : ℕ) where
   opt-in (some x) s p h = h x (List·Memᴰ·head refl)
 
   main-in : (k : ℕ) (b : Block Name) → NamesIn b → ((i : ℕ) → i < length (newGates signalOf b) → k + i < total) → GateIn (blockGate signalOf k b)
-  main-in k (Latch d q) h r =
-      all-cons In tt (signalOf (d .input)) (optSig signalOf oneS (d .enable) ∷ optSig signalOf zeroS (d .reset) ∷ []) (h (d .input) (List·Memᴰ·head refl))
-      (all-cons In tt (optSig signalOf oneS (d .enable)) (optSig signalOf zeroS (d .reset) ∷ []) (opt-in (d .enable) oneS tt (λ x m. h x (List·Memᴰ·tail (Memᴰ·append-left (optName (d .reset)) m))))
-      (all-cons In tt (optSig signalOf zeroS (d .reset)) [] (opt-in (d .reset) zeroS tt (λ x m. h x (List·Memᴰ·tail (Memᴰ·append-right (optName (d .enable)) m)))) (all-nil In tt)))
+  main-in k (Latch l) h r =
+      all-cons In tt (signalOf (l .input)) (optSig signalOf oneS (l .enable) ∷ optSig signalOf zeroS (l .reset) ∷ []) (h (l .input) (List·Memᴰ·head refl))
+      (all-cons In tt (optSig signalOf oneS (l .enable)) (optSig signalOf zeroS (l .reset) ∷ []) (opt-in (l .enable) oneS tt (λ x m. h x (List·Memᴰ·tail (Memᴰ·append-left (optName (l .reset)) m))))
+      (all-cons In tt (optSig signalOf zeroS (l .reset)) [] (opt-in (l .reset) zeroS tt (λ x m. h x (List·Memᴰ·tail (Memᴰ·append-right (optName (l .enable)) m)))) (all-nil In tt)))
   main-in k (Cover xs y ls) h r = cover-all In tt k (map signalOf xs) ls (λ l w. literals-all In tt signalOf (l .cols) xs (λ x m. h x (lit-source (l .cols) xs x m))) r
 
   blockGates-in : (k : ℕ) (bs : List (Block Name)) → AllNames bs → k + length (allNewGates signalOf bs) ≤ total → AllIn (blockGates signalOf k bs)
@@ -64,7 +64,7 @@ module _ {Name : Type 0} (signalOf : Name → Signal) (ins total : ℕ) where
   lines-in xs (l ∷ ls) h = (line-all In tt (map signalOf xs) l (literals-all In tt signalOf (l .cols) xs (λ x m. h x (lit-source (l .cols) xs x m))), lines-in xs ls h)
 
   more-in : (b : Block Name) → NamesIn b → AllIn (newGates signalOf b)
-  more-in (Latch d q) h = tt
+  more-in (Latch l) h = tt
   more-in (Cover xs y []) h = tt
   more-in (Cover xs y (l ∷ [])) h = tt
   more-in (Cover xs y (l ∷ k ∷ ls)) h = lines-in xs (l ∷ k ∷ ls) h

@@ -36,9 +36,9 @@ module _ {Name : Type 0} (dec : (x y : Name) → Dec (x ≡ y)) where
     pub built-means : (rows outs : List (List Bool)) → BlifRuns m rows outs ↔ NetRuns (builtOf m) rows outs
     built-means rows outs = (
       runs-along (Holds m (lookup dec m) looked (acc .formed .closed) (acc .formed .good)) (BlifClock m) (Clock (builtOf m))
-          (read-simulates m (lookup dec m) looked (acc .formed .closed) (acc .formed .good)) (λ (x : Name). false) zeroBits rows outs (λ j f q e. refl),
+          (read-simulates m (lookup dec m) looked (acc .formed .closed) (acc .formed .good)) (λ (x : Name). false) zeroBits rows outs (λ j l e. refl),
       runs-along (HoldsBack m (lookup dec m) looked (acc .formed .closed) (acc .formed .good)) (Clock (builtOf m)) (BlifClock m)
-          (read-back-simulates m (lookup dec m) looked (acc .formed .closed) (acc .formed .good)) zeroBits (λ (x : Name). false) rows outs (λ j f q e. refl),
+          (read-back-simulates m (lookup dec m) looked (acc .formed .closed) (acc .formed .good)) zeroBits (λ (x : Name). false) rows outs (λ j l e. refl),
     )
 
     -- so for every list of rows the model has just one list of outputs

@@ -15,7 +15,7 @@ use Rattle.signal.specs.Signal.{Signal, oneS, zeroS}
 use Rattle.gates.specs.Gate.{Gate}
 use Rattle.network.specs.Net.{Net}
 use Rattle.network.specs.Clock.{Fits, Clock, sigBit, gateBit}
-use Rattle.blif_meaning.specs.Model.{Line, Feed, Block, Latch, Cover, Model, target, optBit, blockBit, coverBit, BlifClock}
+use Rattle.blif_meaning.specs.Model.{Line, LatchDef, Block, Latch, Cover, Model, target, optBit, blockBit, coverBit, BlifClock}
 use Rattle.blif_reading.specs.Build.{lineGate, optSig, blockGate, newGates, blockGates, allNewGates, build}
 use Rattle.blif_meaning.specs.WellFormed.{optName, sources, Defined, Closed, GoodBlock}
 use Rattle.blif_reading.proofs.Lookups.{Looks}
@@ -52,7 +52,7 @@ module _ (σ : Signal → Bool) (held : ℕ → Bool) where
 module _ {Name : Type 0} (signalOf : Name → Signal) (row : List Bool) (env : Name → Bool) (held : ℕ → Bool) where
   -- the bits of the gates of a block's lines
   abbrev blockBits : Block Name → List Bool
-  blockBits (Latch d q) = []
+  blockBits (Latch l) = []
   blockBits (Cover xs y ls) = linesBits (map env xs) ls
 
   abbrev extraBits : List (Block Name) → List Bool
@@ -63,7 +63,7 @@ module _ {Name : Type 0} (signalOf : Name → Signal) (row : List Bool) (env : N
   mainBits bs = map (λ (b : Block Name). env (target b)) bs
 
   block-length : (b : Block Name) → length (blockBits b) ≡ length (newGates signalOf b)
-  block-length (Latch d q) = refl
+  block-length (Latch l) = refl
   block-length (Cover xs y []) = refl
   block-length (Cover xs y (l ∷ [])) = refl
   block-length (Cover xs y (l ∷ m ∷ ls)) = length-map (l ∷ m ∷ ls) (lineBit (map env xs)) ∙ sym (length-map (l ∷ m ∷ ls) (lineGate (map signalOf xs)))
@@ -79,7 +79,7 @@ module _ {Name : Type 0} (signalOf : Name → Signal) (row : List Bool) (env : N
     known-map xs h = map-map (sigBit row β) signalOf xs ∙ map-on (λ (x : Name). sigBit row β (signalOf x)) env xs h
 
     block-fit : (k j : ℕ) (b : Block Name) → Okay j b → Seg β k (blockBits b) → env (target b) ≡ gateBit (sigBit row β) (held j) (blockGate signalOf k b)
-    block-fit k j (Latch d q) o s = o .fit
+    block-fit k j (Latch l) o s = o .fit
     block-fit k j (Cover xs y ls) o s =
         let e : map (sigBit row β) (map signalOf xs) ≡ map env xs = known-map xs (o .known) in
         o .fit ∙ ap (coverBit ls) (sym e)
@@ -97,7 +97,7 @@ module _ {Name : Type 0} (signalOf : Name → Signal) (row : List Bool) (env : N
     lines-match j ss (l ∷ ls) = (sym (line-bit row β (held j) ss l), lines-match (suc j) ss ls)
 
     more-match : (j i : ℕ) (b : Block Name) → Okay i b → Match (sigBit row β) held j (newGates signalOf b) (blockBits b)
-    more-match j i (Latch d q) o = tt
+    more-match j i (Latch l) o = tt
     more-match j i (Cover xs y []) o = tt
     more-match j i (Cover xs y (l ∷ [])) o = tt
     more-match j i (Cover xs y (l ∷ m ∷ ls)) o =
@@ -124,11 +124,11 @@ module _ {Name : Type 0} (m : Model Name) (signalOf : Name → Signal) (ok : Loo
     (good : (b : Block Name) → List·Memᴰ b (m .blocks) → GoodBlock b) where
   -- the flip-flop built for a latch holds what the latch holds
   abbrev pub Holds : (Name → Bool) → (ℕ → Bool) → Type 0
-  Holds heldB heldN = (j : ℕ) (d : Feed Name) (q : Name) → getElem? (m .blocks) j ≡ some (Latch d q) → heldN j ≡ heldB q
+  Holds heldB heldN = (j : ℕ) (l : LatchDef Name) → getElem? (m .blocks) j ≡ some (Latch l) → heldN j ≡ heldB (l .output)
 
   held-same : (heldB : Name → Bool) (heldN : ℕ → Bool) → Holds heldB heldN → (env : Name → Bool) (j : ℕ) (b : Block Name) → getElem? (m .blocks) j ≡ some b
       → blockBit env (heldB (target b)) b ≡ blockBit env (heldN j) b
-  held-same heldB heldN h env j (Latch d q) e = sym (h j d q e)
+  held-same heldB heldN h env j (Latch l) e = sym (h j l e)
   held-same heldB heldN h env j (Cover xs y ls) e = refl
 
   module _ (heldB nextB : Name → Bool) (heldN : ℕ → Bool) (row out : List Bool) (h : Holds heldB heldN) (c : BlifClock m heldB row out nextB) where
@@ -188,14 +188,14 @@ module _ {Name : Type 0} (m : Model Name) (signalOf : Name → Signal) (ok : Loo
 
     next-holds : Holds nextB next
     unfolding next
-    next-holds j d q e =
-        let b : Block Name = Latch d q in
+    next-holds j l e =
+        let b : Block Name = Latch l in
         let p : (k : ℕ) × (getElem? (blockGates signalOf (length (m .blocks)) (m .blocks)) j ≡ some (blockGate signalOf k b)) = blockGates-place signalOf (length (m .blocks)) (m .blocks) j b e in
         let w : List·Memᴰ b (m .blocks) = place-mem (m .blocks) j b e in
         nextOf-is net (sigBit row β) heldN j (blockGate signalOf (p .0) b) (place-left (blockGates signalOf (length (m .blocks)) (m .blocks)) (allNewGates signalOf (m .blocks)) j (blockGate signalOf (p .0) b) (p .1))
-        ∙ (λ i. cond (opt-known (d .reset) zeroS false refl (λ x v. closed .sourcesDefined b x w (List·Memᴰ·tail (Memᴰ·append-right (optName (d .enable)) v))) i) false
-        (cond (opt-known (d .enable) oneS true refl (λ x v. closed .sourcesDefined b x w (List·Memᴰ·tail (Memᴰ·append-left (optName (d .reset)) v))) i) (known-name (d .input) (closed .sourcesDefined b (d .input) w (List·Memᴰ·head refl)) i) (h j d q e i)))
-        ∙ sym (c .steps d q w)
+        ∙ (λ i. cond (opt-known (l .reset) zeroS false refl (λ x v. closed .sourcesDefined b x w (List·Memᴰ·tail (Memᴰ·append-right (optName (l .enable)) v))) i) false
+        (cond (opt-known (l .enable) oneS true refl (λ x v. closed .sourcesDefined b x w (List·Memᴰ·tail (Memᴰ·append-left (optName (l .reset)) v))) i) (known-name (l .input) (closed .sourcesDefined b (l .input) w (List·Memᴰ·head refl)) i) (h j l e i)))
+        ∙ sym (c .steps l w)
 
     read-clock : (t : ℕ → Bool) × Clock net heldN row out t × Holds nextB t
     unfolding next

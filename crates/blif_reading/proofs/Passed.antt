@@ -79,7 +79,8 @@ fresh-named (inputs ns ∷ ds) seen l e =
     fresh-append l ns (declared ds) (fresh-twice ns l (fine-refuseIf (definedTwice l ns) refusal.DefinedTwice (orElse-left (refuseIf (definedTwice l ns) refusal.DefinedTwice) (naming seen (l ++ ns) ds) e)))
     (fresh-named ds seen (l ++ ns) (orElse-right (refuseIf (definedTwice l ns) refusal.DefinedTwice) (naming seen (l ++ ns) ds) e))
 fresh-named (outputs ns ∷ ds) seen l e = fresh-named ds seen l e
-fresh-named (gate (latch d q) ∷ ds) seen l e =
+fresh-named (gate (latch d) ∷ ds) seen l e =
+    let q : Bytes = d .output in
     fresh-append l (q ∷ []) (declared ds) (fresh-one l q (fine-refuseIf (known q l) refusal.DefinedTwice (orElse-left (refuseIf (known q l) refusal.DefinedTwice) (naming seen (l ++ (q ∷ [])) ds) e)))
     (fresh-named ds seen (l ++ (q ∷ [])) (orElse-right (refuseIf (known q l) refusal.DefinedTwice) (naming seen (l ++ (q ∷ [])) ds) e))
 fresh-named (gate (cover [] ls) ∷ ds) seen l e = absurd (refused-ne-fine e)
@@ -134,7 +135,7 @@ dup-declared (gate g ∷ ds) d =
 
 pub target-of : (g : Def) → target (blockOf g) ≡ defines g
 unfolding defines
-target-of (latch d q) = refl
+target-of (latch l) = refl
 target-of (cover ns ls) = refl
 
 targets-of : (gs : List Def) → map target (map blockOf gs) ≡ map defines gs
@@ -143,7 +144,7 @@ targets-of (g ∷ gs) = ap₂ (λ (x : Bytes) (l : List Bytes). x ∷ l) (target
 
 sources-of : (g : Def) → sources (blockOf g) ≡ usedNames g
 unfolding usedNames
-sources-of (latch d q) = refl
+sources-of (latch l) = refl
 sources-of (cover ns ls) = refl
 
 -- ---- 11
@@ -212,7 +213,7 @@ ins-length ns = length-take (length ns - 1) ns ∙ omega arith
 
 pub good-of : (g : Def) → coverFault g ≡ Fine → GoodBlock (blockOf g)
 unfolding coverFault
-good-of (latch d q) e = tt
+good-of (latch l) e = tt
 good-of (cover ns ls) e =
     let a : Bool = not (all (goodLine (length ns - 1)) ls) in
     let b : Bool = any isOne ls && not (all isOne ls) in

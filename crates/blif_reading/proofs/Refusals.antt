@@ -82,13 +82,13 @@ naming-reads seen earlier (model ∷ ds) = orElse-reads _ _ (refuseIf-reads seen
 naming-reads seen earlier (end ∷ ds) = orElse-reads _ _ (refuseIf-reads (not seen) _ refl) (naming-reads seen earlier ds)
 naming-reads seen earlier (inputs ns ∷ ds) = orElse-reads _ _ (refuseIf-reads _ _ refl) (naming-reads seen _ ds)
 naming-reads seen earlier (outputs ns ∷ ds) = naming-reads seen earlier ds
-naming-reads seen earlier (gate (latch d q) ∷ ds) = orElse-reads _ _ (refuseIf-reads _ _ refl) (naming-reads seen _ ds)
+naming-reads seen earlier (gate (latch l) ∷ ds) = orElse-reads _ _ (refuseIf-reads _ _ refl) (naming-reads seen _ ds)
 naming-reads seen earlier (gate (cover [] ls) ∷ ds) = own refl
 naming-reads seen earlier (gate (cover (n ∷ ns) ls) ∷ ds) = orElse-reads _ _ (refuseIf-reads _ _ refl) (naming-reads seen _ ds)
 
 cover-reads : (d : Def) → Reads (coverFault d)
 unfolding coverFault
-cover-reads (latch d q) = fine
+cover-reads (latch l) = fine
 cover-reads (cover ns ls) =
     orElse-reads _ _ (refuseIf-reads _ _ refl) (refuseIf-reads _ _ refl)
 

@@ -8,7 +8,7 @@ use lib.ListN.{length}
 use Rattle.signal.specs.Signal.{Var, Signal, plain, zeroS, oneS, invert}
 use Rattle.gates.specs.Gate.{OrN, AndN, NandN, Buf, Gate, Comb, Dff}
 use Rattle.network.specs.Net.{Net}
-use Rattle.blif_meaning.specs.Model.{Col, C0, C1, Dash, Line, Block, Latch, Cover, Model}
+use Rattle.blif_meaning.specs.Model.{Col, C0, C1, Dash, Line, LatchDef, Block, Latch, Cover, Model}
 
 -- the literals of a row: 0 is the inverted input, 1 the input, "A dash adds no literal"
 abbrev pub literals : List Col → List Signal → List Signal
@@ -57,15 +57,18 @@ module _ {Name : Type 0} where
   optSig signalOf s (some x) = signalOf x
 
   module _ (signalOf : Name → Signal) where
-    -- the gate of a block: "A latch is Dff(input, one, zero)"; k is the number of the next gate of a line
+    -- the gate of a latch: "A latch is Dff(input, one, zero)", where enable and reset are left out
+    abbrev pub latchGate : LatchDef Name → Gate
+    latchGate l = Dff (record { dataIn = signalOf (l .input); enable = optSig signalOf oneS (l .enable); reset = optSig signalOf zeroS (l .reset) })
+
+    -- the gate of a block; k is the number of the next gate of a line
     abbrev pub blockGate : ℕ → Block Name → Gate
-    blockGate k (Latch f q) =
-        Dff (record { dataIn = signalOf (f .input); enable = optSig signalOf oneS (f .enable); reset = optSig signalOf zeroS (f .reset) })
+    blockGate k (Latch l) = latchGate l
     blockGate k (Cover xs y ls) = coverGate k (map signalOf xs) ls
 
     -- the new gates of a block
     abbrev pub newGates : Block Name → List Gate
-    newGates (Latch f q) = []
+    newGates (Latch l) = []
     newGates (Cover xs y ls) = lineGates (map signalOf xs) ls
 
     -- "Each `.latch` and `.names` is a gate in text order"

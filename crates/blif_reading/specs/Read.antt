@@ -31,12 +31,12 @@ added k = if ltb 1 k then k else 0
 
 -- "a `.latch` is one gate"; "a `.names` .. one gate, plus k gates when k is 2 or more"
 unfoldable pub gateCount : Def → ℕ
-gateCount (latch d q) = 1
+gateCount (latch l) = 1
 gateCount (cover ns ls) = 1 + added (length ls)
 
 -- "a `.latch` is .. three pins; a `.names` with n names before its last and k cube lines is (k + 1) × (n + 2) pins"
 unfoldable pub pinCount : Def → ℕ
-pinCount (latch d q) = 3
+pinCount (latch l) = 3
 pinCount (cover ns ls) = (length ls + 1) * (length ns - 1 + 2)
 
 -- a size is passed: "256 inputs; 256 outputs; 1,024 gates; 16,384 pins"
@@ -62,7 +62,7 @@ naming seen earlier (model ∷ ds) = refuseIf seen refusal.SecondModel orElse na
 naming seen earlier (end ∷ ds) = refuseIf (not seen) refusal.EndBeforeModel orElse naming seen earlier ds
 naming seen earlier (inputs ns ∷ ds) = refuseIf (definedTwice earlier ns) refusal.DefinedTwice orElse naming seen (earlier ++ ns) ds
 naming seen earlier (outputs ns ∷ ds) = naming seen earlier ds
-naming seen earlier (gate (latch d q) ∷ ds) = refuseIf (known q earlier) refusal.DefinedTwice orElse naming seen (earlier ++ (q ∷ [])) ds
+naming seen earlier (gate (latch l) ∷ ds) = refuseIf (known (l .output) earlier) refusal.DefinedTwice orElse naming seen (earlier ++ (l .output ∷ [])) ds
 naming seen earlier (gate (cover [] ls) ∷ ds) = Refused refusal.NamesEmpty
 naming seen earlier (gate (cover (n ∷ ns) ls) ∷ ds) =
     refuseIf (known (coverOut (n ∷ ns)) earlier) refusal.DefinedTwice orElse naming seen (earlier ++ (coverOut (n ∷ ns) ∷ [])) ds
@@ -88,7 +88,7 @@ goodLine n ts =
 
 -- "13 when its lines are all good but differ in output"
 unfoldable pub coverFault : Def → Checked
-coverFault (latch d q) = Fine
+coverFault (latch l) = Fine
 coverFault (cover ns ls) =
     refuseIf (not (all (goodLine (length ns - 1)) ls)) refusal.WrongCubeLine
     orElse refuseIf (any isOne ls && not (all isOne ls)) refusal.OutputsDiffer

@@ -6,13 +6,13 @@ use mathlib.Core.Option.{Option, some}
 use Prim.Native.Nat.{ℕ, _+_, _-_, _*_, _≤_}
 use lib.ListN.{length, getElem?}
 use Rattle.lists.specs.Lists.{Bytes, sumOf}
-use Rattle.signal.specs.Signal.{Signal, zeroS, oneS}
+use Rattle.signal.specs.Signal.{Signal}
 use Rattle.signal.specs.Cell.{sigCell}
-use Rattle.gates.specs.Gate.{AndN, Gate, Comb, Dff, pins}
+use Rattle.gates.specs.Gate.{AndN, Gate, Comb, pins}
 use Rattle.gates.specs.Forms.{formCell}
 use Rattle.network.specs.Cells.{gateWidth, maxGates, maxPins, formAt, firstAt, countAt, runAt}
 use Rattle.blif_text.specs.Decls.{Def, latch, cover, coverIns}
-use Rattle.blif_reading.specs.Build.{gatesFor}
+use Rattle.blif_reading.specs.Build.{latchGate, gatesFor}
 use Rattle.blif_reading.specs.TextModel.{blockOf}
 
 -- record h and its run of pins, within the first `used` pins, are those of the gate x
@@ -32,12 +32,12 @@ GatesIn gates pinsIn used xs = (h : ℕ) (x : Gate) → getElem? xs h ≡ some x
 
 -- the gate first placed for a definition: a latch's Dff, and for a cover an And of its inputs
 abbrev pub placed : (Bytes → Signal) → Def → Gate
-placed signalOf (latch d q) = Dff (record { dataIn = signalOf d; enable = oneS; reset = zeroS })
+placed signalOf (latch l) = latchGate signalOf l
 placed signalOf (cover ns ls) = Comb AndN (map signalOf (coverIns ns))
 
 -- how many pins it has
 abbrev pub placedCount : Def → ℕ
-placedCount (latch d q) = 3
+placedCount (latch l) = 3
 placedCount (cover ns ls) = length ns - 1
 
 -- the gates as built for definitions

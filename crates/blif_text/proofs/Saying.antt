@@ -12,6 +12,7 @@ use Rattle.lists.proofs.Tests.{and-left, and-right, and-false}
 use Rattle.lists.proofs.Every.{Every, every-nil, every-cons, every-append, every-of, every-test, every-no, any-append}
 use Rattle.refusals.specs.Order.{_orElse_}
 use Rattle.refusals.specs.declared.Checked.the-variants.{Fine}
+use Rattle.blif_meaning.specs.Model.{plainLatch}
 use Rattle.blif_text.specs.Lines.{cut, continues, joined, isBlank, nonEmpty, tokens}
 use Rattle.blif_text.specs.Keywords.{keywordOf}
 use Rattle.blif_text.specs.Statements.{Stmt, Parsed, ok, stmtOf, latchStmt, parsedLine, parsed, stmts, firstBad}
@@ -147,7 +148,7 @@ pub stmt-outputs : (ns : List Bytes) → stmtOf (bytes ".outputs") ns ≡ ok (St
 unfolding stmtOf keywordOf same
 stmt-outputs ns = refl
 
-pub stmt-latch : (d q : Bytes) (ts : List Bytes) → stmtOf (bytes ".latch") (d ∷ q ∷ ts) ≡ ok (Stmt.latch d q)
+pub stmt-latch : (d q : Bytes) (ts : List Bytes) → stmtOf (bytes ".latch") (d ∷ q ∷ ts) ≡ ok (Stmt.latch (plainLatch d q))
 unfolding stmtOf keywordOf same latchStmt
 stmt-latch d q ts = refl
 

@@ -9,6 +9,7 @@ use lib.Seq.{slice, slice-cons, length-take-le}
 use borrow.Author.Tests.{lt-ltb, le-ltb}
 use Rattle.lists.specs.Lists.{Bytes}
 use Rattle.refusals.specs.declared.Refusal.the-variants as refusal
+use Rattle.blif_meaning.specs.Model.{plainLatch}
 use Rattle.blif_text.specs.Statements.{ok, bad, modelStmt, latchStmt, byKeyword, stmtOf}
 use Rattle.blif_text.specs.Statements as stmt
 use Rattle.blif_text.specs.Rows.{rowStmt}
@@ -49,7 +50,7 @@ unfolding latchStmt
 latch-one d = refl
 
 -- with two or more
-latch-two : (d q : Bytes) (ts : List Bytes) → latchStmt (d ∷ q ∷ ts) ≡ ok (stmt.Stmt.latch d q)
+latch-two : (d q : Bytes) (ts : List Bytes) → latchStmt (d ∷ q ∷ ts) ≡ ok (stmt.Stmt.latch (plainLatch d q))
 unfolding latchStmt
 latch-two d q ts = refl
 
@@ -123,7 +124,7 @@ module _ (text cells : List ℕ) {at end : ℕ} (h : at < end) (r : end ≤ leng
       (λ m. rw (lt-ltb (end - at - 1) 1 m) (sym (ap modelStmt (tokens-none text cells (at + 1) end (omega arith) r) ∙ model-none)))
 
   -- `.latch` with two names
-  says-latch : 2 ≤ end - at - 1 → ok (stmt.Stmt.latch (tokenOf text (getD cells (at + 1) 0)) (tokenOf text (getD cells (at + 1 + 1) 0))) ≡ latchStmt names
+  says-latch : 2 ≤ end - at - 1 → ok (stmt.Stmt.latch (plainLatch (tokenOf text (getD cells (at + 1) 0)) (tokenOf text (getD cells (at + 1 + 1) 0)))) ≡ latchStmt names
   says-latch m =
       sym (ap latchStmt
       (tokens-cons text cells (at + 1) end (omega arith) r

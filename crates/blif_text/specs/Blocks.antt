@@ -6,6 +6,7 @@ use Prim.Native.Nat.{ℕ, zero, suc, _+_, _*_, _≤_, _<_}
 use lib.ListN.{length, getD, take}
 use lib.Seq.{slice}
 use Rattle.lists.specs.Lists.{Bytes, range}
+use Rattle.blif_meaning.specs.Model.{plainLatch}
 use Rattle.blif_text.specs.Decls.{Def, latch, cover}
 use Rattle.blif_text.specs.Places.{maxTokens, tokenOf, tokensOf}
 use Rattle.blif_text.specs.Walk.{rowsFrom, Inside, RowsAt}
@@ -28,7 +29,7 @@ lineCount blocks j = getD blocks (j * blockWidth + 2) 0
 
 -- a latch by its first name's token; or a cover, whose lines are the rows behind its names
 abbrev pub defFrom : Bytes → List ℕ → ℕ → ℕ → ℕ → ℕ → Def
-defFrom text tokens n first zero lines = latch (tokenOf text (getD tokens first 0)) (tokenOf text (getD tokens (first + 1) 0))
+defFrom text tokens n first zero lines = latch (plainLatch (tokenOf text (getD tokens first 0)) (tokenOf text (getD tokens (first + 1) 0)))
 defFrom text tokens n first (suc k) lines =
     cover (tokensOf text (slice first (first + suc k) tokens)) (take lines (rowsFrom text tokens n (first + suc k)))
 

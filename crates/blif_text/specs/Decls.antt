@@ -5,11 +5,13 @@ use mathlib.Core.List.{List, [], _∷_, flatMap}
 use Prim.Native.Nat.{_-_}
 use lib.ListN.{length, getD, take}
 use Rattle.lists.specs.Lists.{Bytes, same}
+use Rattle.blif_meaning.specs.Model.{LatchDef}
+use Rattle.blif_meaning.specs.WellFormed.{latchUses}
 use Rattle.blif_text.specs.Statements.{Stmt, parsed, stmts}
 
--- what defines a gate: a latch's input and output, or a cover's names and the tokens of its lines
+-- what defines a gate: a latch, or a cover's names and the tokens of its lines
 pub data Def : Type 0 where
-  latch : Bytes → Bytes → Def
+  latch : LatchDef Bytes → Def
   cover : List Bytes → List (List Bytes) → Def
 
 -- a declaration
@@ -27,7 +29,7 @@ cubes (Stmt.exdc ∷ ss) = []
 cubes (Stmt.inputs ns ∷ ss) = []
 cubes (Stmt.outputs ns ∷ ss) = []
 cubes (Stmt.names ns ∷ ss) = []
-cubes (Stmt.latch d q ∷ ss) = []
+cubes (Stmt.latch l ∷ ss) = []
 cubes (Stmt.cube ts ∷ ss) = ts ∷ cubes ss
 
 -- "`.exdc` stops naming and building"; cube lines "elsewhere .. are not looked at"; "statements after `.end` still count"
@@ -39,7 +41,7 @@ decls (Stmt.exdc ∷ ss) = []
 decls (Stmt.inputs ns ∷ ss) = inputs ns ∷ decls ss
 decls (Stmt.outputs ns ∷ ss) = outputs ns ∷ decls ss
 decls (Stmt.names ns ∷ ss) = gate (cover ns (cubes ss)) ∷ decls ss
-decls (Stmt.latch d q ∷ ss) = gate (latch d q) ∷ decls ss
+decls (Stmt.latch l ∷ ss) = gate (latch l) ∷ decls ss
 decls (Stmt.cube ts ∷ ss) = decls ss
 
 -- the declarations of a text
@@ -92,12 +94,12 @@ coverIns ns = take (length ns - 1) ns
 
 -- the name that a gate defines
 unfoldable pub defines : Def → Bytes
-defines (latch d q) = q
+defines (latch l) = l .output
 defines (cover ns ls) = coverOut ns
 
 -- the names that a gate uses
 unfoldable pub usedNames : Def → List Bytes
-usedNames (latch d q) = d ∷ []
+usedNames (latch l) = latchUses l
 usedNames (cover ns ls) = coverIns ns
 
 -- a cube line's columns: the first of two tokens, or none

@@ -9,6 +9,7 @@ use lib.ListN.{getD, take, drop}
 use Rattle.lists.specs.Lists.{Bytes}
 use Rattle.refusals.specs.declared.Refusal.the-variants as refusal
 use Rattle.refusals.specs.declared.Checked.{Checked}
+use Rattle.blif_meaning.specs.Model.{plainLatch}
 use Rattle.blif_text.specs.Keywords.{keywordOf}
 use Rattle.blif_text.specs.Statements.{Parsed, ok, bad, refusalOf}
 use Rattle.blif_text.specs.Statements as stmt
@@ -31,7 +32,7 @@ parsedFrom text cells place.Exdc = ok stmt.Stmt.exdc
 parsedFrom text cells (place.Inputs run) = ok (stmt.Stmt.inputs (runTokens text cells run))
 parsedFrom text cells (place.Outputs run) = ok (stmt.Stmt.outputs (runTokens text cells run))
 parsedFrom text cells (place.Names run) = ok (stmt.Stmt.names (runTokens text cells run))
-parsedFrom text cells (place.Latch first) = ok (stmt.Stmt.latch (tokenOf text (getD cells first 0)) (tokenOf text (getD cells (first + 1) 0)))
+parsedFrom text cells (place.Latch first) = ok (stmt.Stmt.latch (plainLatch (tokenOf text (getD cells first 0)) (tokenOf text (getD cells (first + 1) 0))))
 parsedFrom text cells (place.Cube run) = ok (stmt.Stmt.cube (runTokens text cells run))
 parsedFrom text cells (place.Refused r) = bad r
 

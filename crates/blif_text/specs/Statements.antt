@@ -6,6 +6,7 @@ use Rattle.refusals.specs.declared.Refusal.{Refusal}
 use Rattle.refusals.specs.declared.Refusal.the-variants as refusal
 use Rattle.refusals.specs.declared.Checked.{Checked}
 use Rattle.refusals.specs.declared.Checked.the-variants.{Fine, Refused}
+use Rattle.blif_meaning.specs.Model.{LatchDef, plainLatch}
 use Rattle.blif_text.specs.Lines.{lines, joined, tokens}
 use Rattle.blif_text.specs.Keywords.{keywordOf}
 use Rattle.blif_text.specs.declared.Keyword.{Keyword}
@@ -15,7 +16,7 @@ use Rattle.blif_text.specs.declared.Keyword.the-variants as key
 pub data Stmt : Type 0 where
   model end exdc : Stmt
   inputs outputs names : List Bytes → Stmt
-  latch : Bytes → Bytes → Stmt
+  latch : LatchDef Bytes → Stmt
   cube : List Bytes → Stmt
 
 -- a statement, or its refusal
@@ -28,11 +29,12 @@ unfoldable pub modelStmt : List Bytes → Parsed
 modelStmt [] = bad refusal.MissingName
 modelStmt (n ∷ ts) = ok model
 
--- "4 when .. `.latch` has fewer than two"; its input and its output; "Extra tokens after .. `.latch` .. are ignored"
+-- "4 when .. `.latch` has fewer than two"; its input and its output; "Extra tokens after .. `.latch` .. are ignored", and so "a latch's
+-- type, control and start value are ignored"
 unfoldable pub latchStmt : List Bytes → Parsed
 latchStmt [] = bad refusal.MissingName
 latchStmt (d ∷ []) = bad refusal.MissingName
-latchStmt (d ∷ q ∷ ts) = ok (latch d q)
+latchStmt (d ∷ q ∷ ts) = ok (latch (plainLatch d q))
 
 -- the statement of a first token k with this keyword, and the other tokens; "5 when the construct is unsupported"
 abbrev pub byKeyword : Keyword → Bytes → List Bytes → Parsed

@@ -1,8 +1,8 @@
 -- The texts of blocks, grouped as the code writes them. Assumes nothing.
 use mathlib.Core.Path.{_≡_, refl, sym, _∙_, ap, ap₂}
-use mathlib.Core.Bool.{Bool, true, false, not, _&&_, cond}
+use mathlib.Core.Bool.{Bool, true, false, not, _&&_, _||_, cond, or-true}
 use mathlib.Core.List.{List, [], _∷_, _++_, map, flatMap, append-assoc, append-nil}
-use mathlib.Core.Option.{Option, none, some}
+use mathlib.Core.Option.{none, some}
 use Prim.Native.Nat.{ℕ, _^_, _<_}
 use native.Mathlib.Omega.{arith}
 use lib.ListN.{length, getD, drop, length-map, drop-of-length-le}
@@ -14,13 +14,13 @@ use Rattle.signal.specs.Cell.{sigCell, nodeOf, sigOf, gateCell, inputCell}
 use Rattle.signal.proofs.Cells.{signal-again, small-node, gate-cell, input-cell}
 use Rattle.gates.specs.declared.NaryType.{NaryType}
 use Rattle.gates.specs.Forms.{naryForm}
-use Rattle.blif_meaning.specs.Model.{Line, Cover}
+use Rattle.blif_meaning.specs.Model.{Line, LatchDef, Cover, plainLatch}
 use Rattle.blif_writing.specs.Names.{nameBytes}
 use Rattle.blif_writing.specs.WrittenModel.{coverRow, colOf, linesOf, formBlock, isConst, unless, gateName, bare, bufBlock}
-use Rattle.blif_writing.specs.Text.{spaced, line, cubeLine, field, latchLine, flopLine, storedLine}
+use Rattle.blif_writing.specs.Text.{spaced, line, cubeLine, field, latchLine, flopLine, given}
 use Rattle.blif_write_cubes.specs.Lines.{linesText}
 use Rattle.blif_write_names.proofs.Parts.{Parts}
-use Rattle.blif_write_gates.specs.Blocks.{blockText, fieldText, flopText, storedText}
+use Rattle.blif_write_gates.specs.Blocks.{blockText, fieldText, storedLatch, flopText, storedText}
 
 -- ---- signals that the code makes
 
@@ -48,9 +48,9 @@ cubes-text (l ∷ ls) = ap (λ (t : Bytes). line (cubeLine l) ++ t) (cubes-text 
 
 -- ---- flip-flops
 
-pub plain-text : (d q : Bytes) → ((bytes ".latch" ++ (32 ∷ d)) ++ (32 ∷ q)) ++ bytes " 0\n" ≡ line (latchLine d q)
+pub plain-text : (l : LatchDef Bytes) → ((bytes ".latch" ++ (32 ∷ l .input)) ++ (32 ∷ l .output)) ++ bytes " 0\n" ≡ line (latchLine l)
 unfolding line spaced flatMap
-plain-text d q = simp append-assoc
+plain-text l = simp append-assoc
 
 field-text : (v : Bool) (key : Bytes) (s : Signal) → fieldText v (32 ∷ key) s ≡ field key (unless nameBytes v s)
 unfolding fieldText spaced flatMap
@@ -80,40 +80,37 @@ flop-text d e r g =
     ∙ to-right (bytes ".flop D=") (nameBytes d) (bytes " Q=") q (bytes " init=0") x y (bytes "\n")
     ∙ from-right (bytes ".flop") (bytes " D=") (nameBytes d) (bytes " Q=") q (bytes " init=0") x y (bytes "\n")
 
+-- a name is given unless the signal is the constant
+given-unless : (v : Bool) (s : Signal) → given (unless nameBytes v s) ≡ not (isConst v s)
+given-unless v s = go (isConst v s)
+  where
+    go : (b : Bool) → given (cond b none (some (nameBytes s))) ≡ not b
+    go true = refl
+    go false = refl
+
+-- whether the line is that of a `.flop`
+stored-is : (d e r : Signal) (g : ℕ) {x y : Bool} → isConst true e ≡ x → isConst false r ≡ y
+    → storedText d e r g ≡ line (cond (not x || not y) (flopLine (storedLatch d e r g)) (latchLine (storedLatch d e r g)))
+unfolding storedText
+stored-is d e r g h k =
+    ap₂ (λ (x y : Bool). line (cond (x || y) (flopLine (storedLatch d e r g)) (latchLine (storedLatch d e r g))))
+    (given-unless true e ∙ ap not h)
+    (given-unless false r ∙ ap not k)
+
 -- an enable other than one, or a reset other than zero, is written
 pub stored-enabled : (d e r : Signal) (g : ℕ) → isConst true e ≡ false → flopText d e r g ≡ storedText d e r g
-unfolding flopText storedText
-stored-enabled d e r g h =
-    ap line
-    (ap (λ (x : Option Bytes). flopLine (nameBytes d) x (unless nameBytes false r) (gateName nameBytes g)) is
-    ∙ ap (λ (x : Option Bytes). storedLine (nameBytes d) x (unless nameBytes false r) (gateName nameBytes g)) (sym is))
-  where
-    is : unless nameBytes true e ≡ some (nameBytes e)
-    is = ap (λ (b : Bool). cond b none (some (nameBytes e))) h
-
-stored-some : (d q y : Bytes) (x : Option Bytes) → flopLine d x (some y) q ≡ storedLine d x (some y) q
-stored-some d q y none = refl
-stored-some d q y (some x) = refl
+unfolding flopText
+stored-enabled d e r g h = sym (stored-is d e r g h refl)
 
 pub stored-reset : (d e r : Signal) (g : ℕ) → isConst false r ≡ false → flopText d e r g ≡ storedText d e r g
-unfolding flopText storedText
-stored-reset d e r g h =
-    ap line
-    (ap (λ (x : Option Bytes). flopLine (nameBytes d) (unless nameBytes true e) x (gateName nameBytes g)) is
-    ∙ stored-some (nameBytes d) (gateName nameBytes g) (nameBytes r) (unless nameBytes true e)
-    ∙ ap (λ (x : Option Bytes). storedLine (nameBytes d) (unless nameBytes true e) x (gateName nameBytes g)) (sym is))
-  where
-    is : unless nameBytes false r ≡ some (nameBytes r)
-    is = ap (λ (b : Bool). cond b none (some (nameBytes r))) h
+unfolding flopText
+stored-reset d e r g k =
+    sym (stored-is d e r g refl k
+    ∙ ap (λ (b : Bool). line (cond b (flopLine (storedLatch d e r g)) (latchLine (storedLatch d e r g)))) (or-true (not (isConst true e))))
 
 pub stored-plain : (d e r : Signal) (g : ℕ) → isConst true e ≡ true → isConst false r ≡ true
-    → line (latchLine (nameBytes d) (gateName nameBytes g)) ≡ storedText d e r g
-unfolding storedText
-stored-plain d e r g h k =
-    ap line
-    (ap₂ (λ (x y : Option Bytes). storedLine (nameBytes d) x y (gateName nameBytes g))
-    (sym (ap (λ (b : Bool). cond b none (some (nameBytes e))) h))
-    (sym (ap (λ (b : Bool). cond b none (some (nameBytes r))) k)))
+    → line (latchLine (plainLatch (nameBytes d) (gateName nameBytes g))) ≡ storedText d e r g
+stored-plain d e r g h k = sym (stored-is d e r g h k)
 
 -- ---- covers
 

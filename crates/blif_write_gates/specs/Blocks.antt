@@ -1,12 +1,12 @@
 -- The texts of blocks (document 01, "The text"). Assumes nothing: these are definitions.
-use mathlib.Core.Bool.{Bool, true, false, cond}
+use mathlib.Core.Bool.{Bool, cond}
 use mathlib.Core.List.{[], _++_, flatMap}
 use Prim.Native.Nat.{ℕ}
 use Rattle.lists.specs.Lists.{Bytes}
 use Rattle.signal.specs.Signal.{Signal}
-use Rattle.blif_meaning.specs.Model.{Block}
+use Rattle.blif_meaning.specs.Model.{LatchDef, Block}
 use Rattle.blif_writing.specs.Names.{nameBytes}
-use Rattle.blif_writing.specs.WrittenModel.{isConst, unless, gateName}
+use Rattle.blif_writing.specs.WrittenModel.{isConst, latchOf}
 use Rattle.blif_writing.specs.Text.{line, flopLine, storedLine, blockLines}
 
 -- the lines of a block, each with its end
@@ -17,10 +17,14 @@ blockText b = flatMap line (blockLines b)
 unfoldable pub fieldText : Bool → Bytes → Signal → Bytes
 fieldText v key s = cond (isConst v s) [] (key ++ nameBytes s)
 
+-- the latch of flip-flop g with this data, enable and reset
+abbrev pub storedLatch : Signal → Signal → Signal → ℕ → LatchDef Bytes
+storedLatch d e r g = latchOf nameBytes g (record { dataIn = d; enable = e; reset = r })
+
 -- "`.flop D=d Q=xN init=0`, then ` E=e` unless enable is one, then ` R=r` unless reset is zero"
 unfoldable pub flopText : Signal → Signal → Signal → ℕ → Bytes
-flopText d e r g = line (flopLine (nameBytes d) (unless nameBytes true e) (unless nameBytes false r) (gateName nameBytes g))
+flopText d e r g = line (flopLine (storedLatch d e r g))
 
 -- the line of a flip-flop
 unfoldable pub storedText : Signal → Signal → Signal → ℕ → Bytes
-storedText d e r g = line (storedLine (nameBytes d) (unless nameBytes true e) (unless nameBytes false r) (gateName nameBytes g))
+storedText d e r g = line (storedLine (storedLatch d e r g))

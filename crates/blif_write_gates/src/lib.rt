@@ -18,6 +18,7 @@ ghost use lib.ListN.{length};
 ghost use Rattle.signal.specs.Cell.{sigOf};
 ghost use Rattle.gates.specs.Forms.{binaryForm, ternaryForm, naryForm};
 ghost use Rattle.network.specs.Cells.{maxGates};
+ghost use Rattle.blif_meaning.specs.Model.{plainLatch};
 ghost use Rattle.blif_writing.specs.Names.{nameBytes};
 ghost use Rattle.blif_writing.specs.WrittenModel.{isConst, gateName, formBlock, bufBlock};
 ghost use Rattle.blif_writing.specs.Text.{spaced, line, latchLine};
@@ -73,7 +74,7 @@ fn write_flop(out: &mut [u8], d: Signal, e: Signal, r: Signal, g: usize) -> usiz
 // Writes a flip-flop that always takes its data.
 fn write_plain(out: &mut [u8], d: Signal, g: usize) -> usize
     requires { ⌜ g < maxGates ⌝ }
-    ensures { λ n. ⌜ Wrote (line (latchLine (nameBytes (sigOf (d .a))) (gateName nameBytes g))) (now (out .entry)) (now (out .exit)) n ⌝ }
+    ensures { λ n. ⌜ Wrote (line (latchLine (plainLatch (nameBytes (sigOf (d .a))) (gateName nameBytes g)))) (now (out .entry)) (now (out .exit)) n ⌝ }
 {
     let mut at = append(out, 0, b".latch");
     at = append_name(out, at, b" ", d);

@@ -15,8 +15,8 @@ use Rattle.lists.proofs.Range.{length-range}
 use Rattle.signal.specs.Signal.{Node, Signal, oneS, zeroS}
 use Rattle.gates.specs.Gate.{Form, And2, Xor2, And3, Xor3, Maj3, Mux3, AndN, OrN, NandN, NorN, XorN, XnorN, Buf, FlipFlop, Gate, Comb, Dff}
 use Rattle.network.specs.Net.{Net, GateIs}
-use Rattle.blif_meaning.specs.Model.{Feed, Block, Latch, Cover, target}
-use Rattle.blif_writing.specs.WrittenModel.{coverRow, named, downTo, inverters, gateName, feedOf, bufBlock, formBlock, combBlock, latchBlocks, combBlocks, inverterBlock, constBlocks, written}
+use Rattle.blif_meaning.specs.Model.{LatchDef, Block, Latch, Cover, target}
+use Rattle.blif_writing.specs.WrittenModel.{coverRow, named, downTo, inverters, gateName, latchOf, bufBlock, formBlock, combBlock, latchBlocks, combBlocks, inverterBlock, constBlocks, written}
 
 -- ---- lists of numbers
 
@@ -68,18 +68,18 @@ module _ {Name : Type 0} (name : Signal → Name) where
   comb-target g = comb-cases (λ f ps b. target b ≡ gateName name g) g (λ ps. refl) (λ f ps e. refl)
 
   -- no latch is written among the covers
-  pub no-latch : (g : ℕ) (f : Form) (ps : List Signal) (d : Feed Name) (q : Name) → Latch d q ≡ combBlock name g f ps → ⊥
+  pub no-latch : (g : ℕ) (f : Form) (ps : List Signal) (l : LatchDef Name) → Latch l ≡ combBlock name g f ps → ⊥
   no-latch g =
-      comb-cases (λ f ps b. (d : Feed Name) (q : Name) → Latch d q ≡ b → ⊥) g (λ ps d q e. let z : _≡_ {A = ℕ} 0 1 = cc in omega arith)
-      (λ f ps n d q e. let z : _≡_ {A = ℕ} 0 1 = cc in omega arith)
+      comb-cases (λ f ps b. (l : LatchDef Name) → Latch l ≡ b → ⊥) g (λ ps l e. let z : _≡_ {A = ℕ} 0 1 = cc in omega arith)
+      (λ f ps n l e. let z : _≡_ {A = ℕ} 0 1 = cc in omega arith)
 
   -- a gate's own block is written
-  pub latch-in : (k : ℕ) (xs : List Gate) (i : ℕ) (s : FlipFlop) → getElem? xs i ≡ some (Dff s) → List·Memᴰ (Latch (feedOf name s) (gateName name (k + i))) (latchBlocks name k xs)
+  pub latch-in : (k : ℕ) (xs : List Gate) (i : ℕ) (s : FlipFlop) → getElem? xs i ≡ some (Dff s) → List·Memᴰ (Latch (latchOf name (k + i) s)) (latchBlocks name k xs)
   latch-in k [] i s p = absurd (let z : _≡_ {A = ℕ} 0 1 = cc in omega arith)
   latch-in k (Comb f ps ∷ xs) zero s p = absurd (let z : _≡_ {A = ℕ} 0 1 = cc in omega arith)
-  latch-in k (Comb f ps ∷ xs) (suc i) s p = Memᴰ·cast (ap (λ (n : ℕ). Latch (feedOf name s) (gateName name n)) (omega arith)) (latch-in (suc k) xs i s p)
-  latch-in k (Dff t ∷ xs) zero s p = List·Memᴰ·head (let q : s ≡ t = cc in λ i. Latch (feedOf name (q i)) (gateName name (add-zero k i)))
-  latch-in k (Dff t ∷ xs) (suc i) s p = List·Memᴰ·tail (Memᴰ·cast (ap (λ (n : ℕ). Latch (feedOf name s) (gateName name n)) (omega arith)) (latch-in (suc k) xs i s p))
+  latch-in k (Comb f ps ∷ xs) (suc i) s p = Memᴰ·cast (ap (λ (n : ℕ). Latch (latchOf name n s)) (omega arith)) (latch-in (suc k) xs i s p)
+  latch-in k (Dff t ∷ xs) zero s p = List·Memᴰ·head (let q : s ≡ t = cc in λ i. Latch (latchOf name (add-zero k i) (q i)))
+  latch-in k (Dff t ∷ xs) (suc i) s p = List·Memᴰ·tail (Memᴰ·cast (ap (λ (n : ℕ). Latch (latchOf name n s)) (omega arith)) (latch-in (suc k) xs i s p))
 
   pub comb-in : (k : ℕ) (xs : List Gate) (i : ℕ) (f : Form) (ps : List Signal) → getElem? xs i ≡ some (Comb f ps) → List·Memᴰ (combBlock name (k + i) f ps) (combBlocks name k xs)
   comb-in k [] i f ps p = absurd (let z : _≡_ {A = ℕ} 0 1 = cc in omega arith)
@@ -91,14 +91,14 @@ module _ {Name : Type 0} (name : Signal → Name) where
 
   -- a latch written is a flip-flop's, a cover written among the gates a combinational gate's
   latch-from : (k : ℕ) (xs : List Gate) (b : Block Name) → List·Memᴰ b (latchBlocks name k xs)
-      → (i : ℕ) × (s : FlipFlop) × (getElem? xs i ≡ some (Dff s)) × (b ≡ Latch (feedOf name s) (gateName name (k + i)))
+      → (i : ℕ) × (s : FlipFlop) × (getElem? xs i ≡ some (Dff s)) × (b ≡ Latch (latchOf name (k + i) s))
   latch-from k [] b m = absurd (List·Memᴰ·not-nil m)
   latch-from k (Comb f ps ∷ xs) b m = let t = latch-from (suc k) xs b m in
-      (suc (t .0), t .1, t .2, t .3 ∙ ap (λ (n : ℕ). Latch (feedOf name (t .1)) (gateName name n)) (omega arith))
+      (suc (t .0), t .1, t .2, t .3 ∙ ap (λ (n : ℕ). Latch (latchOf name n (t .1))) (omega arith))
   latch-from k (Dff s ∷ xs) b m =
-      ⊎-elim (λ (q : b ≡ Latch (feedOf name s) (gateName name k)). (0, s, refl, q ∙ ap (λ (n : ℕ). Latch (feedOf name s) (gateName name n)) (omega arith)))
+      ⊎-elim (λ (q : b ≡ Latch (latchOf name k s)). (0, s, refl, q ∙ ap (λ (n : ℕ). Latch (latchOf name n s)) (omega arith)))
       (λ (w : List·Memᴰ b (latchBlocks name (suc k) xs)). let t = latch-from (suc k) xs b w in
-      (suc (t .0), t .1, t .2, t .3 ∙ ap (λ (n : ℕ). Latch (feedOf name (t .1)) (gateName name n)) (omega arith)))
+      (suc (t .0), t .1, t .2, t .3 ∙ ap (λ (n : ℕ). Latch (latchOf name n (t .1))) (omega arith)))
       (List·Memᴰ·cases-cons m)
 
   comb-from : (k : ℕ) (xs : List Gate) (b : Block Name) → List·Memᴰ b (combBlocks name k xs)
@@ -115,7 +115,7 @@ module _ {Name : Type 0} (name : Signal → Name) where
   module _ (net : Net) where
     -- where a written block comes from
     pub data Source (b : Block Name) : Type 0 where
-      ofDff : (g : ℕ) (s : FlipFlop) → GateIs net g (Dff s) → b ≡ Latch (feedOf name s) (gateName name g) → Source b
+      ofDff : (g : ℕ) (s : FlipFlop) → GateIs net g (Dff s) → b ≡ Latch (latchOf name g s) → Source b
       ofComb : (g : ℕ) (f : Form) (ps : List Signal) → GateIs net g (Comb f ps) → b ≡ combBlock name g f ps → Source b
       ofInverter : (n : Node) → List·Memᴰ n (inverters net) → b ≡ inverterBlock name n → Source b
       ofOne : b ≡ Cover [] (name oneS) (coverRow true [] ∷ []) → Source b
@@ -126,7 +126,7 @@ module _ {Name : Type 0} (name : Signal → Name) where
         (List·Memᴰ·append-cases (latchBlocks name 0 (net .gates)) m)
       where
         latch : List·Memᴰ b (latchBlocks name 0 (net .gates)) → Source b
-        latch w = let t = latch-from 0 (net .gates) b w in ofDff (t .0) (t .1) (t .2) (t .3 ∙ ap (λ (n : ℕ). Latch (feedOf name (t .1)) (gateName name n)) (omega arith))
+        latch w = let t = latch-from 0 (net .gates) b w in ofDff (t .0) (t .1) (t .2) (t .3 ∙ ap (λ (n : ℕ). Latch (latchOf name n (t .1))) (omega arith))
 
         comb : List·Memᴰ b (combBlocks name 0 (net .gates)) → Source b
         comb w = let t = comb-from 0 (net .gates) b w in ofComb (t .0) (t .1) (t .2) (t .3) (t .4 ∙ ap (λ (n : ℕ). combBlock name n (t .1) (t .2)) (omega arith))

@@ -14,8 +14,8 @@ use Rattle.gates.specs.Forms.{canHave}
 use Rattle.network.specs.Net.{Net, GateIs, Valid, Formed, Loop}
 use Rattle.network.specs.Clock.{Clock, nodeBit, sigBit, zeroBits}
 use Rattle.network.specs.Settle.{run}
-use Rattle.blif_meaning.specs.Model.{Feed, Block, Latch, target, optBit, nextHeld, cubeBit, coverBit, blockBit, BlifClock, BlifRuns}
-use Rattle.blif_writing.specs.WrittenModel.{isConst, unless, feedOf, colOf, linesOf, bare, gateName, bufBlock, formBlock, combBlock, inverterBlock, written}
+use Rattle.blif_meaning.specs.Model.{LatchDef, Block, Latch, target, optBit, nextHeld, cubeBit, coverBit, blockBit, BlifClock, BlifRuns}
+use Rattle.blif_writing.specs.WrittenModel.{isConst, unless, latchOf, colOf, linesOf, bare, gateName, bufBlock, formBlock, combBlock, inverterBlock, written}
 use Rattle.lists.specs.Lists.{range}
 use Rattle.lists.proofs.Places.{map-on, map-map, map-at}
 use Rattle.blif_writing.proofs.Blocks.{range-at, comb-cases, no-latch, Source, ofDff, ofComb, ofInverter, ofOne, ofZero, source}
@@ -127,17 +127,16 @@ module _ {Name : Type 0} (name : Signal → Name) where
             go true p = sym (const-value v s p)
             go false p = env-name unname back row (c .bits) s
 
-        step-of : (d : Feed Name) (q : Name) → Source name net (Latch d q) → next q ≡ nextHeld ε (heldB q) d
-        step-of d q (ofDff g s p w) =
-            let ed : d ≡ feedOf name s = cc in
-            let eq : q ≡ gateName name g = cc in
-            ap next eq ∙ next-gate g ∙ c .steps g (Dff s) p
+        step-of : (l : LatchDef Name) → Source name net (Latch l) → next (l .output) ≡ nextHeld ε (heldB (l .output)) l
+        step-of l (ofDff g s p w) =
+            let e : l ≡ latchOf name g s = cc in
+            ap (λ (x : LatchDef Name). next (x .output)) e ∙ next-gate g ∙ c .steps g (Dff s) p
             ∙ sym (λ i. cond (unless-bit false (s .reset) i) false (cond (unless-bit true (s .enable) i) (env-name unname back row (c .bits) (s .dataIn) i) (h g s p i)))
-            ∙ sym (λ i. nextHeld ε (heldB (eq i)) (ed i))
-        step-of d q (ofComb g f ps p w) = absurd (no-latch name g f ps d q w)
-        step-of d q (ofInverter n m w) = absurd (let z : _≡_ {A = ℕ} 0 1 = cc in omega arith)
-        step-of d q (ofOne w) = absurd (let z : _≡_ {A = ℕ} 0 1 = cc in omega arith)
-        step-of d q (ofZero w) = absurd (let z : _≡_ {A = ℕ} 0 1 = cc in omega arith)
+            ∙ sym (λ i. nextHeld ε (heldB (e i .output)) (e i))
+        step-of l (ofComb g f ps p w) = absurd (no-latch name g f ps l w)
+        step-of l (ofInverter n m w) = absurd (let z : _≡_ {A = ℕ} 0 1 = cc in omega arith)
+        step-of l (ofOne w) = absurd (let z : _≡_ {A = ℕ} 0 1 = cc in omega arith)
+        step-of l (ofZero w) = absurd (let z : _≡_ {A = ℕ} 0 1 = cc in omega arith)
 
         write-clock : (t : Name → Bool) × BlifClock (written name net) heldB row out t × HoldsName nextN t
         write-clock = (
@@ -146,7 +145,7 @@ module _ {Name : Type 0} (name : Signal → Name) where
             env = ε;
             fits = record { ins = ins-fit; blocks = λ b m. block-fits b (source name net b m) };
             answers = c .answers ∙ sym (env-names unname back row (c .bits) (net .outputs));
-            steps = λ d q m. step-of d q (source name net (Latch d q) m);
+            steps = λ l m. step-of l (source name net (Latch l) m);
           },
           λ g s p. next-gate g,
         )

@@ -16,7 +16,7 @@ use Rattle.gates.specs.Gate.{Form, And2, Xor2, And3, Xor3, Maj3, Mux3, AndN, Or
 use Rattle.network.specs.Net.{Net, GateIs, Formed, Valid, ValidNode}
 use Rattle.blif_meaning.specs.Model.{C0, C1, Block, Latch, Cover, Model, target}
 use Rattle.blif_meaning.specs.WellFormed.{optName, sources, Defined, Closed, GoodLines, GoodBlock, WellFormed}
-use Rattle.blif_writing.specs.WrittenModel.{isConst, unless, feedOf, coverRow, colOf, doubled, masks, minterms, even, linesOf, sameNode, usedAmong, named, usedIn, inverted, downTo, inverters, bare, gateName, combBlock, latchBlocks, combBlocks, inverterBlock, constBlocks, written}
+use Rattle.blif_writing.specs.WrittenModel.{isConst, unless, latchOf, coverRow, colOf, doubled, masks, minterms, even, linesOf, sameNode, usedAmong, named, usedIn, inverted, downTo, inverters, bare, gateName, combBlock, latchBlocks, combBlocks, inverterBlock, constBlocks, written}
 use Rattle.lists.specs.Lists.{range}
 use Rattle.lists.proofs.Places.{place-mem, mem-place, lt-place, map-place}
 use Rattle.blif_writing.proofs.Blocks.{range-mem, downTo-lt, downTo-mem, comb-cases, comb-target, latch-in, comb-in, Source, ofDff, ofComb, ofInverter, ofOne, ofZero, source}
@@ -136,8 +136,8 @@ module _ {Name : Type 0} (name : Signal → Name) where
         go : (x : Gate) → GateIs net g x → Defined m (name (plain (Var g)))
         go (Comb f ps) p = block-defines (combBlock name g f ps) (gateName name g) (comb-target name g f ps)
             (Memᴰ·append-right ls (Memᴰ·append-left (is ++ constBlocks name) (Memᴰ·cast (ap (λ (n : ℕ). combBlock name n f ps) (sym (zero-add g))) (comb-in name 0 (net .gates) g f ps p))))
-        go (Dff s) p = block-defines (Latch (feedOf name s) (gateName name g)) (gateName name g) refl
-            (Memᴰ·append-left (cs ++ (is ++ constBlocks name)) (Memᴰ·cast (ap (λ (n : ℕ). Latch (feedOf name s) (gateName name n)) (sym (zero-add g))) (latch-in name 0 (net .gates) g s p)))
+        go (Dff s) p = block-defines (Latch (latchOf name g s)) (gateName name g) refl
+            (Memᴰ·append-left (cs ++ (is ++ constBlocks name)) (Memᴰ·cast (ap (λ (n : ℕ). Latch (latchOf name n s)) (sym (zero-add g))) (latch-in name 0 (net .gates) g s p)))
 
     node-listed : (n : Node) → ValidNode net n → (n ≡ Const → ⊥) → List·Memᴰ n (map Var (range 0 (length (net .gates))) ++ map Input (downTo (net .inputs)))
     node-listed Const v h = absurd (h refl)

@@ -1,11 +1,11 @@
 -- The text of a network, rendered from the model that is written for it (document 01, "The text"). Assumes nothing: these are definitions.
-use mathlib.Core.Bool.{Bool, true, false}
+use mathlib.Core.Bool.{Bool, true, false, _||_, cond}
 use mathlib.Core.List.{List, [], _∷_, _++_, map, flatMap}
 use mathlib.Core.Option.{Option, none, some}
 use Prim.Native.Nat.{ℕ}
 use Rattle.lists.specs.Lists.{Bytes, bytes}
 use Rattle.network.specs.Net.{Net}
-use Rattle.blif_meaning.specs.Model.{Col, C0, C1, Dash, Line, Block, Latch, Cover}
+use Rattle.blif_meaning.specs.Model.{Col, C0, C1, Dash, Line, LatchDef, Block, Latch, Cover}
 use Rattle.blif_writing.specs.WrittenModel.{written, latchBlocks, combBlocks, inverterBlock, inverters}
 use Rattle.blif_writing.specs.Names.{nameBytes}
 
@@ -38,23 +38,26 @@ field key none = []
 field key (some x) = spaced ((key ++ x) ∷ [])
 
 -- "A latch is `.latch d xN 0`"
-abbrev pub latchLine : Bytes → Bytes → Bytes
-latchLine d q = bytes ".latch" ++ spaced (d ∷ q ∷ bytes "0" ∷ [])
+abbrev pub latchLine : LatchDef Bytes → Bytes
+latchLine l = bytes ".latch" ++ spaced (l .input ∷ l .output ∷ bytes "0" ∷ [])
 
 -- "`.flop D=d Q=xN init=0`, then ` E=e` unless enable is one, then ` R=r` unless reset is zero"
-abbrev pub flopLine : Bytes → Option Bytes → Option Bytes → Bytes → Bytes
-flopLine d e r q =
-    bytes ".flop" ++ (spaced ((bytes "D=" ++ d) ∷ (bytes "Q=" ++ q) ∷ bytes "init=0" ∷ []) ++ (field (bytes "E=") e ++ field (bytes "R=") r))
+abbrev pub flopLine : LatchDef Bytes → Bytes
+flopLine l =
+    bytes ".flop" ++ (spaced ((bytes "D=" ++ l .input) ∷ (bytes "Q=" ++ l .output) ∷ bytes "init=0" ∷ []) ++ (field (bytes "E=") (l .enable) ++ field (bytes "R=") (l .reset)))
+
+-- the name is given
+abbrev pub given : Option Bytes → Bool
+given none = false
+given (some x) = true
 
 -- "a flip-flop with other enable or reset is written `.flop`"
-abbrev pub storedLine : Bytes → Option Bytes → Option Bytes → Bytes → Bytes
-storedLine d none none q = latchLine d q
-storedLine d none (some r) q = flopLine d none (some r) q
-storedLine d (some e) r q = flopLine d (some e) r q
+abbrev pub storedLine : LatchDef Bytes → Bytes
+storedLine l = cond (given (l .enable) || given (l .reset)) (flopLine l) (latchLine l)
 
 -- the lines of a block: a latch's one, or `.names` with the names and then the rows
 abbrev pub blockLines : Block Bytes → List Bytes
-blockLines (Latch f q) = storedLine (f .input) (f .enable) (f .reset) q ∷ []
+blockLines (Latch l) = storedLine l ∷ []
 blockLines (Cover xs y ls) = (bytes ".names" ++ spaced (xs ++ (y ∷ []))) ∷ map cubeLine ls
 
 -- the lines of blocks in order

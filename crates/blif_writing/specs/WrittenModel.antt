@@ -11,7 +11,7 @@ use Rattle.signal.specs.Signal.{Node, Const, Input, Var, Signal, plain, zeroS, 
 use Rattle.gates.specs.Gate.{odd, Form, And2, Xor2, And3, Xor3, Maj3, Mux3, AndN, OrN, NandN, NorN, XorN, XnorN, Buf, FlipFlop, Gate, Comb, Dff, pins}
 use Rattle.gates.specs.Forms.{formNumber, formCell}
 use Rattle.network.specs.Net.{Net}
-use Rattle.blif_meaning.specs.Model.{Col, C0, C1, Dash, Line, Feed, Block, Latch, Cover, Model}
+use Rattle.blif_meaning.specs.Model.{Col, C0, C1, Dash, Line, LatchDef, Block, Latch, Cover, Model}
 
 -- ---- cover lines
 
@@ -134,15 +134,15 @@ module _ {Name : Type 0} (name : Signal → Name) where
   abbrev pub unless : Bool → Signal → Option Name
   unless v s = cond (isConst v s) none (some (name s))
 
-  -- what feeds a flip-flop's latch: "E=e unless enable is one", "R=r unless reset is zero"
-  abbrev pub feedOf : FlipFlop → Feed Name
-  feedOf s = record { input = name (s .dataIn); enable = unless true (s .enable); reset = unless false (s .reset) }
+  -- the latch of flip-flop g: "E=e unless enable is one", "R=r unless reset is zero"
+  abbrev pub latchOf : ℕ → FlipFlop → LatchDef Name
+  latchOf g s = record { input = name (s .dataIn); output = gateName g; enable = unless true (s .enable); reset = unless false (s .reset) }
 
   -- "latches", in gate order
   abbrev pub latchBlocks : ℕ → List Gate → List (Block Name)
   latchBlocks g [] = []
   latchBlocks g (Comb f ps ∷ xs) = latchBlocks (suc g) xs
-  latchBlocks g (Dff s ∷ xs) = Latch (feedOf s) (gateName g) ∷ latchBlocks (suc g) xs
+  latchBlocks g (Dff s ∷ xs) = Latch (latchOf g s) ∷ latchBlocks (suc g) xs
 
   -- "gates", in gate order
   abbrev pub combBlocks : ℕ → List Gate → List (Block Name)

@@ -59,11 +59,11 @@ lines-other ss (l ∷ m ∷ ls) = every-map (lineGate ss) (l ∷ m ∷ ls) (line
 
 module _ (find : Bytes → Signal) where
   block-other : (k : ℕ) (b : Block Bytes) → exclusiveGate (blockGate find k b) ≡ false
-  block-other k (Latch f q) = refl
+  block-other k (Latch l) = refl
   block-other k (Cover xs y ls) = cover-other k (map find xs) ls
 
   more-other : (b : Block Bytes) → NoExclusive (newGates find b)
-  more-other (Latch f q) = every-nil
+  more-other (Latch l) = every-nil
   more-other (Cover xs y ls) = lines-other (map find xs) ls
 
   blockGates-other : (k : ℕ) (bs : List (Block Bytes)) → NoExclusive (blockGates find k bs)

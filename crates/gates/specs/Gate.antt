@@ -1,9 +1,10 @@
 -- Gates as data, and what a form makes of bits (document 01, src/network/gates.rs). Assumes nothing: these are definitions.
+use mathlib.Core.Path.{_≡_}
 use mathlib.Core.Bool.{Bool, true, false, not, _&&_, _||_, cond}
 use mathlib.Core.List.{List, [], _∷_}
 use Prim.Native.Nat.{ℕ, suc}
 use lib.ListN.{getD}
-use Rattle.signal.specs.Signal.{Signal, invertIf}
+use Rattle.signal.specs.Signal.{Signal, zeroS, oneS, invertIf}
 
 -- the combinational forms with their types, in document 01's order: "Binary (And, Xor), Ternary (And, Xor, Maj, Mux),
 -- Nary (And, Or, Nand, Nor, Xor, Xnor), Buf"
@@ -18,6 +19,13 @@ pub record FlipFlop : Type 0 where
   pub enable : Signal
   -- "a reset of one"
   pub reset : Signal
+
+-- a plain flip-flop: it takes the data at each clock
+pub record PlainFlop (s : FlipFlop) : Type 0 where
+  -- its enable is one
+  pub enableOne : s .enable ≡ oneS
+  -- its reset is zero
+  pub resetZero : s .reset ≡ zeroS
 
 -- a gate: a combinational form with its inputs in order, or a flip-flop
 pub data Gate : Type 0 where

@@ -1,6 +1,6 @@
 -- What the lines of written blocks say: their statements and declarations, and that the blocks come back. Assumes nothing.
 use mathlib.Core.Path.{_≡_, refl, sym, ap, ap₂, _∙_}
-use mathlib.Core.Bool.{Bool, true, false}
+use mathlib.Core.Bool.{Bool, true, false, _||_, cond}
 use mathlib.Core.List.{List, [], _∷_, _++_, map, flatMap, headD, map-append}
 use mathlib.Core.Option.{none}
 use Prim.Native.Nat.{ℕ, _+_, _-_}
@@ -15,9 +15,9 @@ use Rattle.blif_text.specs.Keywords.{keywordOf}
 use Rattle.blif_text.specs.Statements.{Stmt, Parsed, ok, stmtOf, parsedLine}
 use Rattle.blif_text.specs.Decls.{Def, latch, cover, Decl, gate, cubes, decls, insOf, outsOf, defsOf, coverOut, coverIns, columns, output, isOne}
 use Rattle.blif_text.proofs.Saying.{WordByte, IsWord, quoted, says, Single, words-single, says-words, stmt-names, stmt-latch}
-use Rattle.blif_meaning.specs.Model.{Col, C0, C1, Dash, Line, Feed, Block, Latch, Cover}
+use Rattle.blif_meaning.specs.Model.{Col, C0, C1, Dash, Line, LatchDef, Block, Latch, Cover, plainLatch}
 use Rattle.blif_writing.specs.WrittenModel.{written}
-use Rattle.blif_writing.specs.Text.{spaced, line, colByte, outByte, cubeLine, latchLine, storedLine, blockLines, allLines}
+use Rattle.blif_writing.specs.Text.{spaced, line, colByte, outByte, cubeLine, latchLine, flopLine, given, storedLine, blockLines, allLines}
 use Rattle.blif_reading.specs.TextModel.{colOfByte, lineOf, blockOf}
 
 -- ---- lines of words
@@ -76,11 +76,11 @@ says-cube (c ∷ cs) o =
 
 -- a latch without enable and reset is written `.latch`
 abbrev pub PlainBlock : Block Bytes → Type 0
-PlainBlock (Latch f q) = (f .enable ≡ none) × (f .reset ≡ none) × IsWord (f .input) × IsWord q
+PlainBlock (Latch l) = (l .enable ≡ none) × (l .reset ≡ none) × IsWord (l .input) × IsWord (l .output)
 PlainBlock (Cover xs y ls) = Every IsWord xs × IsWord y
 
 abbrev pub blockStmts : Block Bytes → List Stmt
-blockStmts (Latch f q) = Stmt.latch (f .input) q ∷ []
+blockStmts (Latch l) = Stmt.latch l ∷ []
 blockStmts (Cover xs y ls) = Stmt.names (xs ++ (y ∷ [])) ∷ map (λ (l : Line). Stmt.cube (tokOf l)) ls
 
 abbrev pub allStmts : List (Block Bytes) → List Stmt
@@ -113,8 +113,11 @@ latch-words d q = every-cons d (every-cons q (every-cons kw-zero every-nil))
 pub cover-words : {xs : List Bytes} {y : Bytes} → Every IsWord xs → IsWord y → Every IsWord (xs ++ (y ∷ []))
 cover-words xs y = every-append xs (every-cons y every-nil)
 
-pub latch-line : (f : Feed Bytes) (q : Bytes) → f .enable ≡ none → f .reset ≡ none → storedLine (f .input) (f .enable) (f .reset) q ≡ latchLine (f .input) q
-latch-line f q e r = λ i. storedLine (f .input) (e i) (r i) q
+pub latch-line : (l : LatchDef Bytes) → l .enable ≡ none → l .reset ≡ none → storedLine l ≡ latchLine l
+latch-line l e r = λ i. cond (given (e i) || given (r i)) (flopLine l) (latchLine l)
+
+latch-plain : (l : LatchDef Bytes) → l .enable ≡ none → l .reset ≡ none → plainLatch (l .input) (l .output) ≡ l
+latch-plain l e r = λ i. record { input = l .input; output = l .output; enable = sym e i; reset = sym r i }
 
 pub cubes-say : (ls : List Line) → flatMap says (map cubeLine ls) ≡ map ok (map (λ (l : Line). Stmt.cube (tokOf l)) ls)
 unfolding flatMap
@@ -123,11 +126,11 @@ cubes-say (l ∷ ls) = ap₂ (λ (a b : List Parsed). a ++ b) (says-cube (l .col
 
 pub block-says : (b : Block Bytes) → PlainBlock b → flatMap says (blockLines b) ≡ map ok (blockStmts b)
 unfolding flatMap
-block-says (Latch f q) w =
+block-says (Latch l) w =
     ap (λ (r : List Parsed). r ++ []) (
-    ap says (latch-line f q (w .0) (w .1))
-    ∙ says-spaced (bytes ".latch") (f .input ∷ q ∷ bytes "0" ∷ []) kw-latch (latch-words (w .2) (w .3))
-    ∙ ap (λ (p : Parsed). p ∷ []) (stmt-latch (f .input) q (bytes "0" ∷ [])))
+    ap says (latch-line l (w .0) (w .1))
+    ∙ says-spaced (bytes ".latch") (l .input ∷ l .output ∷ bytes "0" ∷ []) kw-latch (latch-words (w .2) (w .3))
+    ∙ ap (λ (p : Parsed). p ∷ []) (stmt-latch (l .input) (l .output) (bytes "0" ∷ []) ∙ ap (λ (x : LatchDef Bytes). ok (Stmt.latch x)) (latch-plain l (w .0) (w .1))))
 block-says (Cover xs y ls) w =
     ap₂ (λ (a b : List Parsed). a ++ b)
     (says-spaced (bytes ".names") (xs ++ (y ∷ [])) kw-names (cover-words (w .0) (w .1)) ∙ ap (λ (p : Parsed). p ∷ []) (stmt-names (xs ++ (y ∷ []))))
@@ -142,7 +145,7 @@ all-say (every-cons {x = b} {xs = bs} h hs) =
 -- ---- declarations
 
 abbrev pub defOf : Block Bytes → Def
-defOf (Latch f q) = latch (f .input) q
+defOf (Latch l) = latch l
 defOf (Cover xs y ls) = cover (xs ++ (y ∷ [])) (map tokOf ls)
 
 abbrev pub gateOf : Block Bytes → Decl
@@ -151,7 +154,7 @@ gateOf b = gate (defOf b)
 pub no-cubes : (bs : List (Block Bytes)) → cubes (allStmts bs) ≡ []
 unfolding cubes
 no-cubes [] = refl
-no-cubes (Latch f q ∷ bs) = refl
+no-cubes (Latch l ∷ bs) = refl
 no-cubes (Cover xs y ls ∷ bs) = refl
 
 pub cubes-of : (ls : List Line) (rest : List Stmt) → cubes rest ≡ [] → cubes (map (λ (l : Line). Stmt.cube (tokOf l)) ls ++ rest) ≡ map tokOf ls
@@ -167,7 +170,7 @@ decls-past (l ∷ ls) rest = decls-past ls rest
 pub all-decls : (bs : List (Block Bytes)) → decls (allStmts bs) ≡ map gateOf bs
 unfolding decls
 all-decls [] = refl
-all-decls (Latch f q ∷ bs) = ap (λ (r : List Decl). gate (latch (f .input) q) ∷ r) (all-decls bs)
+all-decls (Latch l ∷ bs) = ap (λ (r : List Decl). gate (latch l) ∷ r) (all-decls bs)
 all-decls (Cover xs y ls ∷ bs) =
     ap₂ (λ (c : List (List Bytes)) (r : List Decl). gate (cover (xs ++ (y ∷ [])) c) ∷ r) (cubes-of ls (allStmts bs) (no-cubes bs)) (decls-past ls (allStmts bs) ∙ all-decls bs)
 
@@ -207,7 +210,7 @@ unfolding coverOut
 cover-out xs y = ap (λ (n : ℕ). getD (xs ++ (y ∷ [])) n []) (last-at xs y) ∙ getD-append-seam xs y [] []
 
 pub block-back : (b : Block Bytes) → PlainBlock b → blockOf (defOf b) ≡ b
-block-back (Latch f q) w = λ i. Latch (record { input = f .input; enable = sym (w .0) i; reset = sym (w .1) i }) q
+block-back (Latch l) w = refl
 block-back (Cover xs y ls) w = λ i. Cover (cover-ins xs y i) (cover-out xs y i) (lines-back ls i)
 
 pub blocks-back : {bs : List (Block Bytes)} → Every PlainBlock bs → map blockOf (map defOf bs) ≡ bs

@@ -11,9 +11,7 @@ use Rattle.lists.specs.Lists.{Bytes, zeros, any, overwrite}
 use Rattle.lists.proofs.Places.{place-mem}
 use Rattle.lists.proofs.Range.{any-none}
 use Rattle.lists.proofs.Over.{length-overwrite, take-overwrite}
-use Rattle.gates.specs.Gate.{Gate, Comb, Dff}
-use Rattle.gates.specs.Forms.{formed}
-use Rattle.network.specs.Net.{Net, GateIs, Loop}
+use Rattle.network.specs.Net.{Net, Loop}
 use Rattle.network.specs.Cells.{Lent, lent, netOf, isNetwork, Words, countsOf}
 use Rattle.network.specs.Clock.{NetRuns, zeroBits}
 use Rattle.network.specs.Settle.{run, SameOutputs}
@@ -23,14 +21,14 @@ use Rattle.blif_text.specs.Places.{maxText}
 use Rattle.blif_writing.specs.Text.{textOf}
 use Rattle.blif_reading.specs.Read.{read, readText}
 use Rattle.blif_writing.specs.WrittenModel.{wide}
-use Rattle.round_trip.specs.Conditions.{RoundTripNet, PlainGate}
+use Rattle.round_trip.specs.Conditions.{PlainFlops, RoundTripNet}
 use Rattle.blif_reading.proofs.ReadNet.{read-net}
 use Rattle.round_trip.proofs.ReadBack.{read-back}
 use Rattle.blif_read.specs.Into.{Lengths, readInto}
 use Rattle.blif_read.proofs.Summary.{read-counts}
 use Rattle.blif_read.proofs.CellsRead.{read-decodes}
 use Rattle.blif_write.specs.Into.{writtenText, writeInto, WriteOutcome}
-use Rattle.round_trip.specs.Trip.{writtenLength, readAnswer, answerOf, TripOutcome, tripInto, PlainFlops, RoundTripConditions, ReadsBack}
+use Rattle.round_trip.specs.Trip.{writtenLength, readAnswer, answerOf, TripOutcome, tripInto, RoundTripConditions, ReadsBack}
 
 -- ---- the conditions are those of the theorem
 
@@ -41,13 +39,10 @@ lent-round-trip l words layout free narrow plain =
     record {
       valid = k .1;
       free = free;
-      plainGates = plain-gate (k .2);
+      formed = k .2;
+      plain = plain;
       narrow = λ g x e. any-none wide (netOf l .gates) narrow x (place-mem (netOf l .gates) g x e);
     }
-  where
-    plain-gate : ((g : ℕ) (x : Gate) → GateIs (netOf l) g x → formed x ≡ true) → (g : ℕ) (x : Gate) → GateIs (netOf l) g x → PlainGate x
-    plain-gate f g (Comb t ps) e = f g (Comb t ps) e
-    plain-gate f g (Dff s) e = plain g s e
 
 module _ {l : Lent} {n : ℕ} {m : Lengths} (w : Words l) (c : RoundTripConditions l n m) where
   -- it is one of demand 3's

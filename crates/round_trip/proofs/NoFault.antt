@@ -15,18 +15,17 @@ use Rattle.lists.proofs.Once.{dup-left, dup-both}
 use Rattle.refusals.specs.Order.{_orElse_, refuseIf}
 use Rattle.refusals.specs.declared.Refusal.the-variants as refusal
 use Rattle.refusals.specs.declared.Checked.the-variants.{Fine}
-use Rattle.gates.specs.Gate.{FlipFlop, Dff}
-use Rattle.network.specs.Net.{Net, GateIs}
-use Rattle.signal.specs.Signal.{oneS, zeroS}
+use Rattle.network.specs.Net.{Net}
 use Rattle.blif_text.specs.Decls.{Decl, gate, cover, defs, defines, usedNames, columns, output, isOne, declsOf}
 use Rattle.blif_meaning.specs.Model.{Col, C0, C1, Dash, Line, Block, Latch, Cover, Model, target}
 use Rattle.blif_reading.specs.Lookup.{byte-names}
-use Rattle.blif_meaning.specs.WellFormed.{defined, sources, optName, Defined, GoodLines, GoodBlock}
+use Rattle.blif_meaning.specs.WellFormed.{defined, sources, Defined, GoodLines, GoodBlock}
 use Rattle.blif_writing.specs.WrittenModel.{written}
 use Rattle.blif_writing.specs.Names.{nameBytes}
 use Rattle.blif_writing.specs.Text.{colByte, textOf}
 use Rattle.blif_reading.specs.Read.{tooLarge, definedTwice, naming, undefined, goodLine, coverFault, coverFaults, declFault, readFault}
 use Rattle.blif_reading.specs.Accepts.{Accepts}
+use Rattle.round_trip.specs.Conditions.{PlainFlops}
 use Rattle.round_trip.proofs.BlocksSaid.{tok, tokOf, defOf, gateOf, last-at, cover-ins, cover-out, tok-columns, tok-one}
 use Rattle.round_trip.proofs.Rendered.{textDecls, text-ascii, text-sound, decls-of, ins-are, outs-are, defs-are}
 
@@ -54,7 +53,8 @@ name-one seen earlier (x ∷ xs) y ls ds = ap (λ (z : Bytes). refuseIf (known z
 names-once : (seen : Bool) (earlier : List Bytes) (bs : List (Block Bytes)) → (Dup (earlier ++ map target bs) → ⊥) → naming seen earlier (map gateOf bs) ≡ Fine
 unfolding naming refuseIf _orElse_
 names-once seen earlier [] h = refl
-names-once seen earlier (Latch f q ∷ bs) h =
+names-once seen earlier (Latch l ∷ bs) h =
+    let q : Bytes = l .output in
     rw (met earlier q (map target bs) h) (names-once seen (earlier ++ (q ∷ [])) bs (move earlier q (map target bs) h))
 names-once seen earlier (Cover xs y ls ∷ bs) h =
     name-one seen earlier xs y (map tokOf ls) (map gateOf bs)
@@ -64,12 +64,12 @@ names-once seen earlier (Cover xs y ls ∷ bs) h =
 
 uses-sources : (b : Block Bytes) (x : Bytes) → List·Memᴰ x (usedNames (defOf b)) → List·Memᴰ x (sources b)
 unfolding usedNames
-uses-sources (Latch f q) x m = Memᴰ·append-left (optName (f .enable) ++ optName (f .reset)) m
+uses-sources (Latch l) x m = m
 uses-sources (Cover xs y ls) x m = subst (List·Memᴰ x) (cover-ins xs y) m
 
 defines-target : (b : Block Bytes) → defines (defOf b) ≡ target b
 unfolding defines
-defines-target (Latch f q) = refl
+defines-target (Latch l) = refl
 defines-target (Cover xs y ls) = cover-out xs y
 
 defines-all : (bs : List (Block Bytes)) → map defines (map defOf bs) ≡ map target bs
@@ -132,7 +132,7 @@ one-kind n false ls g = ap (λ (b : Bool). b && not (all isOne (map tokOf ls))) 
 
 cover-good : (b : Block Bytes) → GoodBlock b → coverFault (defOf b) ≡ Fine
 unfolding coverFault refuseIf _orElse_
-cover-good (Latch f q) g = refl
+cover-good (Latch l) g = refl
 cover-good (Cover xs y ls) g =
     rw (last-at xs y, lines-good (length xs) (g .0) ls (g .1), one-kind (length xs) (g .0) ls (g .1))
 
@@ -143,7 +143,7 @@ covers-good (b ∷ bs) h = rw (cover-good b (h b (List·Memᴰ·head refl))) (co
 
 -- ---- all tests
 
-module _ (net : Net) (plainFlops : (g : ℕ) (s : FlipFlop) → GateIs net g (Dff s) → (s .enable ≡ oneS) × (s .reset ≡ zeroS)) (acc : Accepts byte-names (written nameBytes net)) where
+module _ (net : Net) (plainFlops : PlainFlops net) (acc : Accepts byte-names (written nameBytes net)) where
   abbrev w : Model Bytes
   w = written nameBytes net
 

@@ -48,7 +48,7 @@ module _ {Name : Type 0} (name : Signal → Name) where
         go (Var h) e = let u : rk .rank h < rk .rank g = rk .rises g h f ps s p m e in omega arith
 
     abbrev AboveB : Block Name → Type 0
-    AboveB (Latch d q) = Unit {0}
+    AboveB (Latch l) = Unit {0}
     AboveB (Cover xs y ls) = (x : Name) → List·Memᴰ x xs → rankName x < rankName y
 
     comb-above : (g : ℕ) (f : Form) (ps : List Signal) → GateIs net g (Comb f ps) → AboveB (combBlock name g f ps)

@@ -2,12 +2,10 @@
 use mathlib.Core.Path.{_≡_, refl, sym, ap, ap₂, _∙_, subst}
 use mathlib.Core.Bool.{false}
 use mathlib.Core.Option.{Option, none, some}
-use Prim.Native.Nat.{ℕ, _≤_}
+use Prim.Native.Nat.{_≤_}
 use lib.ListN.{length}
 use Rattle.lists.specs.Lists.{Bytes}
-use Rattle.signal.specs.Signal.{oneS, zeroS}
-use Rattle.gates.specs.Gate.{FlipFlop, Dff}
-use Rattle.network.specs.Net.{Net, GateIs}
+use Rattle.network.specs.Net.{Net}
 use Rattle.sort_order.specs.Sorted.{sorted}
 use Rattle.sort_order.proofs.Sorting.{none-loop}
 use Rattle.blif_meaning.specs.Model.{Model}
@@ -23,7 +21,7 @@ use Rattle.network.specs.Settle.{SameOutputs}
 use Rattle.blif_reading.specs.Accepts.{Accepts}
 use Rattle.blif_writing.proofs.NamesDiffer.{unname, unname-name}
 use Rattle.blif_reading.proofs.Meaning.{builtOf, accepted-valid}
-use Rattle.round_trip.proofs.WrittenMeans.{round-trip-formed, written-accepts, same-outputs}
+use Rattle.round_trip.proofs.WrittenMeans.{written-accepts, same-outputs}
 use Rattle.round_trip.proofs.Rendered.{parses}
 use Rattle.round_trip.proofs.NoFault.{no-fault}
 
@@ -34,14 +32,11 @@ pub same-trans : {a b c : Net} → SameOutputs a b → SameOutputs b c → SameO
 same-trans s t = record { inputs = s .inputs ∙ t .inputs; outputs = s .outputs ∙ t .outputs; runs = λ rows. s .runs rows ∙ t .runs rows }
 
 module _ (net : Net) (good : RoundTripNet net) where
-  plain-flops : (g : ℕ) (s : FlipFlop) → GateIs net g (Dff s) → (s .enable ≡ oneS) × (s .reset ≡ zeroS)
-  plain-flops g s e = good .plainGates g (Dff s) e
-
   pub round-trip-parses : modelOfText (textOf net) ≡ written nameBytes net
-  round-trip-parses = parses net plain-flops
+  round-trip-parses = parses net (good .plain)
 
   accepts : Accepts byte-names (written nameBytes net)
-  accepts = written-accepts byte-names nameBytes unname unname-name net (good .valid) (good .free) (round-trip-formed net good)
+  accepts = written-accepts byte-names nameBytes unname unname-name net (good .valid) (good .free) (good .formed)
 
   -- the gates built for what is written are sorted
   sorts : (new : Net) × (sorted (builtOf byte-names (written nameBytes net)) ≡ some new)
@@ -60,7 +55,7 @@ module _ (net : Net) (good : RoundTripNet net) where
       let s = sorts in (
         s .0,
         ap (λ (m : Model Bytes). sorted (builtOf byte-names m)) round-trip-parses ∙ s .1,
-        same-outputs byte-names nameBytes unname unname-name net (good .valid) (good .free) (round-trip-formed net good) (s .0) (s .1),
+        same-outputs byte-names nameBytes unname unname-name net (good .valid) (good .free) (good .formed) (s .0) (s .1),
       )
 
   -- within our sizes it is read
@@ -69,7 +64,7 @@ module _ (net : Net) (good : RoundTripNet net) where
   unfolding readText answer builtFrom declsOf
   read-back short small =
       let s = text-sorts in
-      (s .0, ap₂ answer (no-fault net plain-flops accepts short small) (s .1), s .2)
+      (s .0, ap₂ answer (no-fault net (good .plain) accepts short small) (s .1), s .2)
 
 -- two networks that share a text have as many inputs and outputs and equal outputs
 pub never-shared : (a b : Net) → RoundTripNet a → RoundTripNet b → textOf a ≡ textOf b → SameOutputs a b

@@ -14,19 +14,20 @@ use Rattle.lists.proofs.Places.{flatMap-append}
 use Rattle.lists.proofs.Every.{Every, every-nil, every-cons, every-append, every-map}
 use Rattle.refusals.specs.declared.Checked.the-variants.{Fine}
 use Rattle.signal.specs.Signal.{Node, Const, Input, Var, Signal, plain, invert, oneS, zeroS}
-use Rattle.gates.specs.Gate.{FlipFlop, Gate, Comb, Dff}
-use Rattle.network.specs.Net.{Net, GateIs}
+use Rattle.gates.specs.Gate.{FlipFlop, PlainFlop, Gate, Comb, Dff}
+use Rattle.network.specs.Net.{Net}
 use Rattle.blif_text.specs.Lines.{split, consFirst, cut, continues, isBlank, nonEmpty, tokens}
 use Rattle.blif_text.specs.Keywords.{keywordOf}
 use Rattle.blif_text.specs.Statements.{Stmt, Parsed, ok, stmtOf, modelStmt, parsedLine, parsed, stmts, firstBad}
 use Rattle.blif_text.specs.Decls.{latch, Decl, decls, declsOf, insOf, outsOf, defsOf, ins, outs, defs}
 use Rattle.blif_text.proofs.Saying.{WordByte, IsWord, quoted, says, Single, quoted-line, parsed-lines, lines-ascii, words-single, stmt-inputs, stmt-outputs, stmts-ok, none-bad}
 use Rattle.blif_meaning.specs.Model.{Line, Block, Latch, Cover, Model}
-use Rattle.blif_writing.specs.WrittenModel.{bare, feedOf, unless, gateName, latchBlocks, combBlocks, inverterBlock, inverters, constBlocks, written}
+use Rattle.blif_writing.specs.WrittenModel.{bare, latchOf, unless, latchBlocks, combBlocks, inverterBlock, inverters, constBlocks, written}
 use Rattle.blif_writing.specs.Names.{decimalBefore, suffix, nodeBytes, nameBytes}
 use Rattle.blif_writing.specs.Text.{spaced, line, colByte, outByte, cubeLine, blockLines, allLines, textLines, textOf}
 use Rattle.blif_reading.specs.TextModel.{blockOf, modelOf, modelOfText}
 use Rattle.blif_writing.proofs.Blocks.{comb-cases}
+use Rattle.round_trip.specs.Conditions.{PlainFlops}
 use Rattle.round_trip.proofs.BlocksSaid.{col-byte, out-word, PlainBlock, blockStmts, allStmts, kw-latch, kw-names, kw-inputs, kw-outputs, latch-words, cover-words, latch-line, all-say, defOf, gateOf, all-decls, blocks-back, gates-ins, gates-outs, gates-defs, says-spaced, spaced-single}
 
 -- ---- names are words
@@ -58,12 +59,9 @@ node-word (Var g) v = (every-cons {x = 120} (omega arith, (λ q. omega arith), (
 name-word : (s : Signal) → IsWord (nameBytes s)
 name-word s = node-word (s .node) (s .inv)
 
--- a flip-flop with enable one and reset zero is a latch without either
-abbrev PlainFlop : FlipFlop → Type 0
-PlainFlop s = (s .enable ≡ oneS) × (s .reset ≡ zeroS)
-
-flop-plain : (k : ℕ) (s : FlipFlop) → PlainFlop s → PlainBlock (Latch (feedOf nameBytes s) (gateName nameBytes k))
-flop-plain k s p = (ap (unless nameBytes true) (p .0), ap (unless nameBytes false) (p .1), name-word (s .dataIn), name-word (plain (Var k)))
+-- a plain flip-flop is a latch without enable and reset
+flop-plain : (k : ℕ) (s : FlipFlop) → PlainFlop s → PlainBlock (Latch (latchOf nameBytes k s))
+flop-plain k s p = (ap (unless nameBytes true) (p .enableOne), ap (unless nameBytes false) (p .resetZero), name-word (s .dataIn), name-word (plain (Var k)))
 
 latches-plain : (k : ℕ) (xs : List Gate) → ((i : ℕ) (s : FlipFlop) → getElem? xs i ≡ some (Dff s) → PlainFlop s) → Every PlainBlock (latchBlocks nameBytes k xs)
 latches-plain k [] h = every-nil
@@ -94,8 +92,8 @@ unfolding spaced
 cube-single l = words-single (map colByte (l .cols)) ((outByte (l .out) ∷ []) ∷ []) (every-map colByte (l .cols) col-byte) (out-word (l .out))
 
 block-single : (b : Block Bytes) → PlainBlock b → Every Single (blockLines b)
-block-single (Latch f q) w =
-    every-cons (subst Single (sym (latch-line f q (w .0) (w .1))) (spaced-single (bytes ".latch") (f .input ∷ q ∷ bytes "0" ∷ []) kw-latch (latch-words (w .2) (w .3)))) every-nil
+block-single (Latch l) w =
+    every-cons (subst Single (sym (latch-line l (w .0) (w .1))) (spaced-single (bytes ".latch") (l .input ∷ l .output ∷ bytes "0" ∷ []) kw-latch (latch-words (w .2) (w .3)))) every-nil
 block-single (Cover xs y ls) w = every-cons (spaced-single (bytes ".names") (xs ++ (y ∷ [])) kw-names (cover-words (w .0) (w .1))) (every-map cubeLine ls cube-single)
 
 all-single : {bs : List (Block Bytes)} → Every PlainBlock bs → Every Single (allLines bs)
@@ -144,7 +142,7 @@ part : {bs : List (Block Bytes)} (rest : List Bytes) (cs : List (Block Bytes)) �
 part {bs} rest cs w e =
     flatMap-append says (allLines bs) rest ∙ ap₂ (λ (x y : List Parsed). x ++ y) (all-say w) e ∙ sym (map-append ok (allStmts bs) (allStmts cs)) ∙ ap (map ok) (sym (allStmts-append bs cs))
 
-module _ (net : Net) (plainFlops : (g : ℕ) (s : FlipFlop) → GateIs net g (Dff s) → PlainFlop s) where
+module _ (net : Net) (plainFlops : PlainFlops net) where
   abbrev m : Model Bytes
   m = written nameBytes net
 

@@ -11,8 +11,7 @@ use lib.ListN.{length, getD}
 use borrow.Author.Tests.{ltb-true, leb-true}
 use Rattle.lists.specs.Lists.{all, any, same, hit}
 use Rattle.lists.proofs.Tests.{and-left, and-right}
-use Rattle.signal.specs.Signal.{zeroS, oneS}
-use Rattle.gates.specs.Gate.{FlipFlop, Dff}
+use Rattle.gates.specs.Gate.{PlainFlop, Dff}
 use Rattle.gates.specs.Forms.{gateFrom}
 use Rattle.network.specs.Net.{Net, GateIs, Loop}
 use Rattle.network.specs.Cells.{gateAt, gateCells, pinCells, sizesFit, recordsFit, allValid, isNetwork, netOf, Words}
@@ -28,6 +27,7 @@ use Rattle.blif_writing.specs.WrittenModel.{wide}
 use Rattle.blif_writing.specs.Text.{spaced, line, textOf}
 use Rattle.blif_reading.specs.Read.{added, gateCount, pinCount, tooLarge}
 use Rattle.blif_read.specs.Into.{enough}
+use Rattle.round_trip.specs.Conditions.{PlainFlops}
 use Rattle.round_trip.specs.Trip.{RoundTripConditions}
 use Rattle.round_trip.specs.Witness.{flop, net, witness, cells}
 
@@ -74,8 +74,8 @@ unfolding ℕ-discrete flatMap headD same consFirst split dropCR lines cut conti
 sized = refl
 
 -- its one flip-flop is plain
-plain-flops : (g : ℕ) (s : FlipFlop) → GateIs net g (Dff s) → (s .enable ≡ oneS) × (s .reset ≡ zeroS)
-plain-flops zero s e = let q : flop ≡ s = cc in (sym (ap (λ (x : FlipFlop). x .enable) q), sym (ap (λ (x : FlipFlop). x .reset) q))
+plain-flops : PlainFlops net
+plain-flops zero s e = let q : flop ≡ s = cc in subst PlainFlop q (record { enableOne = refl; resetZero = refl })
 plain-flops (suc zero) s e = absurd (let z : _≡_ {A = ℕ} 0 1 = cc in omega (arith, z))
 plain-flops (suc (suc zero)) s e = absurd (let z : _≡_ {A = ℕ} 0 1 = cc in omega (arith, z))
 plain-flops (suc (suc (suc g))) s e = absurd (let z : _≡_ {A = ℕ} 0 1 = cc in omega (arith, z))

@@ -1,6 +1,6 @@
 -- The model written for a network is accepted, and has just the network's runs. Assumes nothing.
-use mathlib.Core.Path.{_≡_, refl, sym, ap, _∙_, subst}
-use mathlib.Core.Bool.{Bool, true}
+use mathlib.Core.Path.{_≡_, sym, ap, _∙_, subst}
+use mathlib.Core.Bool.{Bool}
 use mathlib.Core.List.{List, map}
 use mathlib.Core.Option.{some}
 use mathlib.Core.Logic.{_↔_}
@@ -9,8 +9,6 @@ use lib.ListN.{length-map}
 use Rattle.lists.specs.Lists.{range}
 use Rattle.lists.proofs.Range.{length-range}
 use Rattle.signal.specs.Signal.{Input, Signal, plain}
-use Rattle.gates.specs.Gate.{Gate, Comb, Dff}
-use Rattle.gates.specs.Forms.{formed}
 use Rattle.network.specs.Net.{Net, Valid, Formed, Loop}
 use Rattle.network.specs.Settle.{run}
 use Rattle.network.proofs.OneChoice.{ranked}
@@ -19,7 +17,6 @@ use Rattle.sort_order.proofs.Summary.{sorted-keeps}
 use Rattle.blif_meaning.specs.Model.{BlifRuns}
 use Rattle.blif_reading.specs.Lookup.{lookup}
 use Rattle.blif_writing.specs.WrittenModel.{written}
-use Rattle.round_trip.specs.Conditions.{RoundTripNet, PlainGate}
 use Rattle.network.specs.Settle.{SameOutputs}
 use Rattle.blif_reading.specs.Accepts.{Accepts}
 use Rattle.blif_reading.proofs.Lookups.{looks}
@@ -28,14 +25,6 @@ use Rattle.blif_reading.proofs.Meaning.{builtOf, accepted-valid, model-run, sor
 use Rattle.blif_writing.proofs.Writing.{written-runs}
 use Rattle.round_trip.proofs.Ranks.{written-ranked}
 use Rattle.blif_writing.proofs.WrittenFormed.{written-formed}
-
--- a gate of demand 3 has as many inputs as its form can have
-plain-formed : (x : Gate) → PlainGate x → formed x ≡ true
-plain-formed (Comb f ps) p = p
-plain-formed (Dff s) p = refl
-
-pub round-trip-formed : (net : Net) → RoundTripNet net → Formed net
-round-trip-formed net good g x e = plain-formed x (good .plainGates g x e)
 
 module _ {Name : Type 0} (dec : (x y : Name) → Dec (x ≡ y)) (name : Signal → Name) (unnamed : Name → Signal) (back : (s : Signal) → unnamed (name s) ≡ s) where
   module _ (net : Net) (valid : Valid net) (free : Loop net → ⊥) (counts : Formed net) where

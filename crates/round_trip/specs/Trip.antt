@@ -9,9 +9,7 @@ use mathlib.Core.Logic.{_↔_}
 use Prim.Native.Nat.{ℕ, _≤_}
 use lib.ListN.{length, take}
 use Rattle.lists.specs.Lists.{Bytes, zeros, any, overwrite}
-use Rattle.signal.specs.Signal.{zeroS, oneS}
-use Rattle.gates.specs.Gate.{FlipFlop, Dff}
-use Rattle.network.specs.Net.{Net, GateIs, Loop}
+use Rattle.network.specs.Net.{Net, Loop}
 use Rattle.network.specs.Cells.{Lent, lent, netOf, isNetwork}
 use Rattle.network.specs.Clock.{NetRuns}
 use Rattle.network.specs.Settle.{run}
@@ -27,6 +25,7 @@ use Rattle.blif_read.specs.declared.ReadAnswer.the-variants as read
 use Rattle.blif_write.specs.Into.{writeInto}
 use Rattle.blif_write.specs.declared.WriteAnswer.{WriteAnswer}
 use Rattle.blif_write.specs.declared.WriteAnswer.the-variants as write
+use Rattle.round_trip.specs.Conditions.{PlainFlops}
 use Rattle.round_trip.specs.declared.TripAnswer.{TripAnswer}
 use Rattle.round_trip.specs.declared.TripAnswer.the-variants.{NotWritten, NotRead, ReadBack}
 
@@ -76,10 +75,6 @@ tripInto l n m =
     tripOutcome (answerOf (w .answer) (r .answer)) (w .out) (r .gates) (r .pins) (r .outputs) (r .workGates) (r .workPins)
 
 -- ---- demand 3
-
--- plain flip-flops: enable one, reset zero
-abbrev pub PlainFlops : Net → Type 0
-PlainFlops net = (g : ℕ) (s : FlipFlop) → GateIs net g (Dff s) → (s .enable ≡ oneS) × (s .reset ≡ zeroS)
 
 -- the conditions: n is the length of the text's slice, m are the lengths of those to be filled
 pub record RoundTripConditions (l : Lent) (n : ℕ) (m : Lengths) : Type 0 where

@@ -22,7 +22,7 @@ use Rattle.blif_read.specs.declared.ReadAnswer.the-variants as read
 use Rattle.blif_write.specs.Into.{WriteOutcome, writtenText, writeInto}
 use Rattle.blif_write.specs.declared.WriteAnswer.{WriteAnswer}
 use Rattle.blif_write.specs.declared.WriteAnswer.the-variants as write
-use Rattle.round_trip.specs.Trip.{PlainFlops}
+use Rattle.round_trip.specs.Conditions.{PlainFlops}
 use Rattle.vumneath.specs.declared.VumneathNetwork.{VumneathNetwork}
 use Rattle.vumneath.specs.declared.VumneathText.{VumneathText}
 

@@ -1,6 +1,7 @@
 -- `write_plain` writes its four parts. Assumes nothing.
 use borrow.Author.Needs.{needs}
 use Rattle.signal.specs.Cell.{sigOf}
+use Rattle.blif_meaning.specs.Model.{plainLatch}
 use Rattle.blif_writing.specs.Names.{nameBytes}
 use Rattle.blif_writing.specs.WrittenModel.{gateName}
 use Rattle.blif_write_names.proofs.Laws.{and-append, as-text, from-start}
@@ -41,7 +42,7 @@ returns c =
     let append = c .before .before .before .before .before .before .before .before .before .before .before .before .before .before .before .before .before .append in
     let append-name = c .before .before .before .before .before .before .before .before .before .before .before .before .append-name in
     let append-gate = c .before .before .before .before .before .before .before .append-gate in
-    from-start (as-text (plain-text (nameBytes (sigOf (args .d .a))) (gateName nameBytes (args .g))) (and-append (and-append (and-append (append .ensures) (append-name .ensures)) (append-gate .ensures)) (c .before .before .append2 .ensures)))
+    from-start (as-text (plain-text (plainLatch (nameBytes (sigOf (args .d .a))) (gateName nameBytes (args .g)))) (and-append (and-append (and-append (append .ensures) (append-name .ensures)) (append-gate .ensures)) (c .before .before .append2 .ensures)))
 
 pub write-plain-spec : {M : Type 1} → statement M
 write-plain-spec =
