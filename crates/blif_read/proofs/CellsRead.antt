@@ -9,7 +9,8 @@ use Rattle.lists.specs.Lists.{Bytes, zeros}
 use Rattle.lists.proofs.Over.{length-overwrite}
 use Rattle.signal.specs.Cell.{sigCell}
 use Rattle.network.specs.Net.{Net}
-use Rattle.network.specs.Cells.{gateCells, pinCells, lent, countsOf, netOf, isNetwork}
+use Rattle.network.specs.Cells.{lent, countsOf, netOf, isNetwork}
+use Rattle.network.specs.Record.{gateCells, pinCells}
 use Rattle.network.proofs.Laying.{laid-overwrite}
 use Rattle.network.proofs.Lent.{laid-network}
 use Rattle.blif_reading.specs.Read.{Result, read, readText}

@@ -16,7 +16,9 @@ use Rattle.refusals.specs.declared.Checked.the-variants.{Fine}
 use Rattle.refusals.proofs.Order.{orElse-right}
 use Rattle.signal.specs.Cell.{sigCell, sigOf}
 use Rattle.network.specs.Net.{Net}
-use Rattle.network.specs.Cells.{gateWidth, gateCells, pinCells, lent, netOf, countsOf, Laid}
+use Rattle.network.specs.Sizes.{maxGates}
+use Rattle.network.specs.Cells.{lent, netOf, countsOf, Laid}
+use Rattle.network.specs.Record.{gateWidth, gateCells, pinCells}
 use Rattle.network.specs.declared.Counts.{Counts}
 use Rattle.network.proofs.Laying.{laid-overwrite}
 use Rattle.sort_order.specs.Sorted.{sorted, Preserved}
@@ -110,7 +112,7 @@ module _ {text tokens : List ℕ} {n : ℕ} {blocks : List ℕ} {i g o : ℕ} {g
       })
 
   module _ {gates′ pinsIn′ : List ℕ} {b : Built} (h : BuiltBy (defsAt text tokens n blocks g) gates pinsIn used gates′ pinsIn′ b)
-      (gr : 3072 ≤ length gates′) (pr : 16384 ≤ length pinsIn′) (or : 256 ≤ length os) where
+      (gr : (maxGates * gateWidth) ≤ length gates′) (pr : 16384 ≤ length pinsIn′) (or : 256 ≤ length os) where
     -- the counts with which the sort is called
     abbrev counts : Counts
     counts = record { inputs = i; gates = b .gates; pins = b .pins; outputs = o }
@@ -136,10 +138,10 @@ module _ {text tokens : List ℕ} {n : ℕ} {blocks : List ℕ} {i g o : ℕ} {g
     outs-room = omega (arith, c .outputs, sizes-within (declsOf text) (passed (declsOf text) (decls-none text none) .within) .outputs, or)
 
     -- what the sort asks
-    pub sortable : (newGates newPins : ℕ) → 3072 ≤ newGates → 16384 ≤ newPins → Sortable (lent counts gates′ pinsIn′ os) newGates newPins
+    pub sortable : (newGates newPins : ℕ) → (maxGates * gateWidth) ≤ newGates → 16384 ≤ newPins → Sortable (lent counts gates′ pinsIn′ os) newGates newPins
     sortable newGates newPins = built-sortable (decls-none text none) cells-built
 
-    module _ (gs ps : List ℕ) {gs′ ps′ os′ : List ℕ} {r : Sorted} (ng : 3072 ≤ length gs) (np : 16384 ≤ length ps)
+    module _ (gs ps : List ℕ) {gs′ ps′ os′ : List ℕ} {r : Sorted} (ng : (maxGates * gateWidth) ≤ length gs) (np : 16384 ≤ length ps)
         (q : sortOutcome r gs′ ps′ os′ ≡ sortInto (sorted (netOf (lent counts gates′ pinsIn′ os))) gs ps os) where
       is-built : netOf (lent counts gates′ pinsIn′ os) ≡ builtFrom (declsOf text)
       is-built = built-net (decls-none text none) cells-built

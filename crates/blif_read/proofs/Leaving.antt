@@ -8,6 +8,7 @@ use lib.ListN.{length, take, length-take}
 use Rattle.lists.specs.Lists.{if_then_else_, Bytes, zeros, overwrite}
 use Rattle.refusals.specs.declared.Refusal.the-variants as refusal
 use Rattle.network.specs.Cells.{countsOf}
+use Rattle.network.specs.Record.{gateWidth}
 use Rattle.network.specs.declared.Counts.{Counts}
 use Rattle.network.proofs.Laying.{length-gateCells}
 use Rattle.blif_reading.specs.Read.{Result, read, refused, readText}
@@ -31,34 +32,34 @@ enough-answered text n a gs ps os e h =
 
 -- the result's cells are what the answer keeps
 pub kept-filled : (r : Result) (a : ReadAnswer) (gs ps os : List ℕ) (n : Lengths) → Holds r a gs ps os
-    → leaving a (take (countsIn a .gates * 3) gs) (take (countsIn a .pins) ps) (take (countsIn a .outputs) os) n ≡ filled r n
+    → leaving a (take (countsIn a .gates * gateWidth) gs) (take (countsIn a .pins) ps) (take (countsIn a .outputs) os) n ≡ filled r n
 kept-filled (refused r) a gs ps os n h =
-    ap (λ (x : ReadAnswer). leaving x (take (countsIn x .gates * 3) gs) (take (countsIn x .pins) ps) (take (countsIn x .outputs) os) n) h
+    ap (λ (x : ReadAnswer). leaving x (take (countsIn x .gates * gateWidth) gs) (take (countsIn x .pins) ps) (take (countsIn x .outputs) os) n) h
 kept-filled (read net) a gs ps os n h =
-    ap (λ (x : ReadAnswer). leaving x (take (countsIn x .gates * 3) gs) (take (countsIn x .pins) ps) (take (countsIn x .outputs) os) n) (h .0)
+    ap (λ (x : ReadAnswer). leaving x (take (countsIn x .gates * gateWidth) gs) (take (countsIn x .pins) ps) (take (countsIn x .outputs) os) n) (h .0)
     ∙ (λ j. leaving (Read (countsOf net)) (h .1 .gatesLaid j) (h .1 .pinsLaid j) (h .1 .outsLaid j) n)
 
 -- the records that an answer counts are within the cells
-counts-within : (r : Result) (a : ReadAnswer) (gs ps os : List ℕ) → Holds r a gs ps os → countsIn a .gates * 3 ≤ length gs
-counts-within (refused r) a gs ps os h = subst (λ (x : ReadAnswer). countsIn x .gates * 3 ≤ length gs) (sym h) (omega arith)
+counts-within : (r : Result) (a : ReadAnswer) (gs ps os : List ℕ) → Holds r a gs ps os → countsIn a .gates * gateWidth ≤ length gs
+counts-within (refused r) a gs ps os h = subst (λ (x : ReadAnswer). countsIn x .gates * gateWidth ≤ length gs) (sym h) (omega arith)
 counts-within (read net) a gs ps os h =
-    let e : length (take (length (net .gates) * 3) gs) ≡ length (net .gates) * 3 = ap length (h .1 .gatesLaid) ∙ length-gateCells 0 (net .gates) in
-    subst (λ (x : ReadAnswer). countsIn x .gates * 3 ≤ length gs) (sym (h .0)) (omega (arith, e, length-take (length (net .gates) * 3) gs))
+    let e : length (take (length (net .gates) * gateWidth) gs) ≡ length (net .gates) * gateWidth = ap length (h .1 .gatesLaid) ∙ length-gateCells 0 (net .gates) in
+    subst (λ (x : ReadAnswer). countsIn x .gates * gateWidth ≤ length gs) (sym (h .0)) (omega (arith, e, length-take (length (net .gates) * gateWidth) gs))
 
 -- each slice is cleared behind what the answer counts, the working cells from the start
 pub all-cleared : (text : Bytes) (n : Lengths) (a : ReadAnswer) (k : Counts) (gs ps os g p o wg wp : List ℕ) → Holds (answered text n) a gs ps os
     → k ≡ countsIn a → length gs ≡ n .gates → length ps ≡ n .pins → length os ≡ n .outputs
-    → g ≡ overwrite (take (k .gates * 3) gs) (zeros (length gs)) → p ≡ overwrite (take (k .pins) ps) (zeros (length ps)) → o ≡ overwrite (take (k .outputs) os) (zeros (length os))
+    → g ≡ overwrite (take (k .gates * gateWidth) gs) (zeros (length gs)) → p ≡ overwrite (take (k .pins) ps) (zeros (length ps)) → o ≡ overwrite (take (k .outputs) os) (zeros (length os))
     → wg ≡ zeros (n .workGates) → wp ≡ zeros (n .workPins) → readOutcome a g p o wg wp ≡ readInto text n
 unfolding readInto
 all-cleared text n a k gs ps os g p o wg wp h q lg lp lo eg ep eo ew ex =
     (λ j. readOutcome a (eg j) (ep j) (eo j) (ew j) (ex j))
     ∙ (λ j.
-    readOutcome a (overwrite (take (q j .gates * 3) gs) (zeros (lg j))) (overwrite (take (q j .pins) ps) (zeros (lp j))) (overwrite (take (q j .outputs) os) (zeros (lo j)))
+    readOutcome a (overwrite (take (q j .gates * gateWidth) gs) (zeros (lg j))) (overwrite (take (q j .pins) ps) (zeros (lp j))) (overwrite (take (q j .outputs) os) (zeros (lo j)))
     (zeros (n .workGates)) (zeros (n .workPins)))
     ∙ kept-filled (answered text n) a gs ps os n h
 
 -- so many cells can be counted
 pub counts-fit : (text : Bytes) (n : Lengths) (a : ReadAnswer) (k : Counts) (gs ps os : List ℕ) (m : ℕ) → Holds (answered text n) a gs ps os → k ≡ countsIn a → length gs ≡ m → m < 2 ^ 64
-    → k .gates * 3 < 2 ^ 64
+    → k .gates * gateWidth < 2 ^ 64
 counts-fit text n a k gs ps os m h q e l = omega (arith, counts-within (answered text n) a gs ps os h, ap (λ (x : Counts). x .gates) q, e, l)

@@ -2,7 +2,9 @@
 use mathlib.Core.Path.{_≡_, refl, sym, ap, _∙_}
 use mathlib.Core.Bool.{true, false, _&&_}
 use mathlib.Core.List.{List, [], _∷_, _++_, append-nil}
-use Prim.Native.Nat.{ℕ, zero, suc, _-_, _≤_, _<_}
+use Prim.Native.Nat.{ℕ, zero, suc, _-_, _*_, _≤_, _<_}
+use Rattle.network.specs.Sizes.{maxGates}
+use Rattle.network.specs.Record.{gateWidth}
 use native.Mathlib.Omega.{arith}
 use lib.Dec.{leb}
 use lib.ListN.{length, take, drop, length-drop, drop-of-length-le}
@@ -16,9 +18,9 @@ use Rattle.blif_read.specs.Stages.{Enough}
 -- ---- refusal 1
 
 module _ (n : Lengths) where
-  pub few-gates : n .gates < 3072 → false ≡ enough n
+  pub few-gates : n .gates < (maxGates * gateWidth) → false ≡ enough n
   unfolding enough
-  few-gates h = sym (simp (lt-leb 3072 (n .gates) h))
+  few-gates h = sym (simp (lt-leb (maxGates * gateWidth) (n .gates) h))
 
   pub few-pins : n .pins < 16384 → false ≡ enough n
   unfolding enough
@@ -28,31 +30,31 @@ module _ (n : Lengths) where
   unfolding enough
   few-outputs h = sym (simp (lt-leb 256 (n .outputs) h, and-false))
 
-  pub few-work-gates : n .workGates < 3072 → false ≡ enough n
+  pub few-work-gates : n .workGates < (maxGates * gateWidth) → false ≡ enough n
   unfolding enough
-  few-work-gates h = sym (simp (lt-leb 3072 (n .workGates) h, and-false))
+  few-work-gates h = sym (simp (lt-leb (maxGates * gateWidth) (n .workGates) h, and-false))
 
-  pub the-last : 3072 ≤ n .gates → 16384 ≤ n .pins → 256 ≤ n .outputs → 3072 ≤ n .workGates → leb 16384 (n .workPins) ≡ enough n
+  pub the-last : (maxGates * gateWidth) ≤ n .gates → 16384 ≤ n .pins → 256 ≤ n .outputs → (maxGates * gateWidth) ≤ n .workGates → leb 16384 (n .workPins) ≡ enough n
   unfolding enough
-  the-last a b c d = sym (simp (le-leb 3072 (n .gates) a, le-leb 16384 (n .pins) b, le-leb 256 (n .outputs) c, le-leb 3072 (n .workGates) d))
+  the-last a b c d = sym (simp (le-leb (maxGates * gateWidth) (n .gates) a, le-leb 16384 (n .pins) b, le-leb 256 (n .outputs) c, le-leb (maxGates * gateWidth) (n .workGates) d))
 
 -- the cells that refusal 1 asks for are there
 pub enough-cells : (gs ps os wgs wps : List ℕ) → enough (lengths (length gs) (length ps) (length os) (length wgs) (length wps)) ≡ true → Enough gs ps os wgs wps
 unfolding enough
 enough-cells gs ps os wgs wps e =
-    let a = leb 3072 (length gs) in
+    let a = leb (maxGates * gateWidth) (length gs) in
     let b = leb 16384 (length ps) in
     let c = leb 256 (length os) in
-    let d = leb 3072 (length wgs) in
+    let d = leb (maxGates * gateWidth) (length wgs) in
     let f = leb 16384 (length wps) in
     let e1 = and-left (a && b && c && d) f e in
     let e2 = and-left (a && b && c) d e1 in
     let e3 = and-left (a && b) c e2 in
     record {
-      gates = leb-true 3072 (length gs) (and-left a b e3);
+      gates = leb-true (maxGates * gateWidth) (length gs) (and-left a b e3);
       pins = leb-true 16384 (length ps) (and-right a b e3);
       outputs = leb-true 256 (length os) (and-right (a && b) c e2);
-      workGates = leb-true 3072 (length wgs) (and-right (a && b && c) d e1);
+      workGates = leb-true (maxGates * gateWidth) (length wgs) (and-right (a && b && c) d e1);
       workPins = leb-true 16384 (length wps) (and-right (a && b && c && d) f e);
     }
 

@@ -12,7 +12,7 @@ use Rattle.refusals.specs.declared.Refusal.{Refusal}
 use Rattle.refusals.specs.declared.Refusal.the-variants as refusal
 use Rattle.refusals.specs.declared.Checked.the-variants.{Fine, Refused}
 use Rattle.signal.specs.Cell.{sigCell}
-use Rattle.network.specs.Cells.{maxPins}
+use Rattle.network.specs.Sizes.{maxPins}
 use Rattle.blif_text.specs.Decls.{Def, latch, cover, Decl, decls, ins, outs, defs, defines, usedNames, declsOf}
 use Rattle.blif_text.specs.Places.{InText, tokensOf}
 use Rattle.blif_text.specs.Walk.{stmtsFrom, Inside}

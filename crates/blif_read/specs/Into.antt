@@ -7,7 +7,9 @@ use lib.Dec.{leb}
 use Rattle.lists.specs.Lists.{if_then_else_, Bytes, zeros, overwrite}
 use Rattle.refusals.specs.declared.Refusal.the-variants as refusal
 use Rattle.signal.specs.Cell.{sigCell}
-use Rattle.network.specs.Cells.{gateWidth, maxGates, maxPins, maxOutputs, gateCells, pinCells, countsOf}
+use Rattle.network.specs.Cells.{countsOf}
+use Rattle.network.specs.Sizes.{maxGates, maxPins, maxOutputs}
+use Rattle.network.specs.Record.{gateWidth, gateCells, pinCells}
 use Rattle.blif_reading.specs.Read.{Result, read, refused, readText}
 use Rattle.blif_read.specs.declared.ReadAnswer.{ReadAnswer}
 use Rattle.blif_read.specs.declared.ReadAnswer.the-variants.{Read, Refused}

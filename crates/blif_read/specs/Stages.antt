@@ -11,7 +11,9 @@ use Rattle.refusals.specs.declared.Refusal.the-variants as refusal
 use Rattle.refusals.specs.declared.Checked.the-variants.{Fine}
 use Rattle.signal.specs.Cell.{sigCell}
 use Rattle.network.specs.declared.Counts.{Counts}
-use Rattle.network.specs.Cells.{maxGates, maxPins, maxOutputs, gateWidth, lent, countsOf, Laid}
+use Rattle.network.specs.Cells.{lent, countsOf, Laid}
+use Rattle.network.specs.Sizes.{maxGates, maxPins, maxOutputs}
+use Rattle.network.specs.Record.{gateWidth}
 use Rattle.blif_text.specs.Statements.{parsed, firstBad}
 use Rattle.blif_text.specs.Decls.{decls, ins, defs, defines, declsOf}
 use Rattle.blif_text.specs.Decls as names

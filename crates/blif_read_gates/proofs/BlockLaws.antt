@@ -8,7 +8,7 @@ use lib.ListN.{length, take}
 use lib.Seq.{slice, length-take-le}
 use borrow.Author.Tests.{not-false}
 use Rattle.lists.specs.Lists.{Bytes, all}
-use Rattle.network.specs.Cells.{countAt}
+use Rattle.network.specs.Record.{countAt}
 use Rattle.blif_text.specs.Decls.{Def, cover}
 use Rattle.blif_text.specs.Places.{maxTokens, tokensOf}
 use Rattle.blif_text.specs.Walk.{rowsFrom}

@@ -15,6 +15,7 @@ use Rattle.blif_text.specs.Decls.{Def}
 use Rattle.blif_meaning.specs.Model.{Block}
 use Rattle.blif_reading.specs.Build.{blockGate, newGates, blockGates, allNewGates}
 use Rattle.blif_reading.specs.TextModel.{blockOf}
+use Rattle.blif_reading.proofs.WorkingLaws.{gate-parts}
 use Rattle.blif_reading.specs.Working.{GateIn, GatesIn, placed}
 use Rattle.blif_reading.proofs.ModelToBuilt.{blockGates-length}
 use Rattle.blif_read_gates.specs.declared.Built.{Built}
@@ -70,8 +71,8 @@ module _ {ds : List Def} {gates₀ pins₀ : List ℕ} {used g j next at : ℕ} 
       record {
         room = record { gateRoom = omega (arith, b .room .gateRoom, w .same-gates); pinRoom = omega (arith, b .room .pinRoom, w .same-pins) };
         good = no-fault ds j d (b .good) this;
-        counted = a .count ∙ long;
-        sources = omega (arith, a .within, long);
+        counted = gate-parts a .count ∙ long;
+        sources = omega (arith, a .within, gate-parts a .first, long);
         fits = omega (arith, w .end, built-few j ds (b .good), sum-next addedPins ds j d this, sum-part addedPins (j + 1) ds, b .start, pins-split ds, b .fewPins);
         before = omega (arith, low, w .counted);
         low = omega (arith, w .counted, sum-next addedOf ds j d this, sum-part addedOf (j + 1) ds, gates-split ds, size, b .fewGates);

@@ -2,24 +2,29 @@
 use mathlib.Core.Path.{_≡_, refl, sym, ap, ap₂, _∙_}
 use mathlib.Core.Bool.{Bool, true, false, not, cond}
 use mathlib.Core.List.{List, [], _∷_, _++_, map}
-use Prim.Native.Nat.{ℕ, _+_, _%_, _^_, _≤_, _<_}
+use Prim.Native.Nat.{ℕ, zero, suc, _+_, _%_, _^_, _≤_, _<_}
 use native.Mathlib.Omega.{arith}
 use lib.Dec.{eqb}
-use lib.ListN.{length, getD, take, drop, length-append}
-use lib.Seq.{take-take, getD-take}
+use lib.ListN.{length, getD, take, drop, length-append, length-map}
+use lib.Seq.{take-take, getD-take, drop-cons}
 use borrow.Author.Tests.{eq-eqb, ne-eqb}
 use Rattle.lists.specs.Lists.{Bytes, overwriteAt}
-use Rattle.lists.proofs.OverAt.{run-before}
-use Rattle.lists.proofs.Places.{run-within}
-use Rattle.signal.specs.Signal.{Node, Const, Input, Var, Signal, invert}
+use Rattle.lists.proofs.OverAt.{run-before, overwriteAt-same, overwriteAt-again}
+use Rattle.lists.proofs.Places.{run-within, length-run}
+use Rattle.signal.specs.Signal.{Node, Const, Input, Var, Signal, invert, zeroS, oneS}
 use Rattle.signal.specs.Cell.{bitOf, nodeCell, sigCell, sigOf}
 use Rattle.signal.proofs.Cells.{cell-again}
 use Rattle.gates.specs.Gate.{pins}
-use Rattle.gates.specs.Forms.{formCell}
 use Rattle.blif_meaning.specs.Model.{Col, C0, C1, Dash}
 use Rattle.blif_reading.specs.Build.{literals, literalGate}
 use Rattle.blif_reading.specs.TextModel.{colOfByte}
-use Rattle.blif_read_gates.specs.Steps.{turnCell, columnCells, literalCells, lineCells, lineForm}
+use Rattle.gates.specs.Decode.{pinsIn, pinCount}
+use Rattle.gates.specs.declared.Gate.the-variants as G
+use Rattle.gates.specs.declared.NaryType.the-variants as N
+use Rattle.gates.specs.declared.PinRun.{PinRun}
+use Rattle.network.specs.Record.{recordOf, handRecord, RunFrom}
+use Rattle.network.proofs.RecordCells.{hand-buf, hand-nary}
+use Rattle.blif_read_gates.specs.Steps.{turnCell, columnCells, literalCells, singleCell, lineCells, lineInHand}
 
 -- ---- lists with the same front
 
@@ -98,14 +103,58 @@ line-sig false [] = refl
 line-sig false (l ∷ []) = ap (λ (x : ℕ). x ∷ []) (turn-sig l)
 line-sig false (l ∷ k ∷ ls) = refl
 
--- its form
-pub form-sig : (one : Bool) (ls : List Signal) → lineForm one (map sigCell ls) ≡ formCell (literalGate one ls)
-form-sig true [] = refl
-form-sig true (l ∷ []) = refl
-form-sig true (l ∷ k ∷ ls) = refl
-form-sig false [] = refl
-form-sig false (l ∷ []) = refl
-form-sig false (l ∷ k ∷ ls) = refl
+-- the run of literals
+abbrev run-at : ℕ → List Signal → PinRun
+run-at at ls = record { first = at; count = length (map sigCell ls) }
+
+-- its record
+pub record-sig : (one : Bool) (at : ℕ) (ls : List Signal) → handRecord at (lineInHand one at (map sigCell ls)) ≡ recordOf at (literalGate one ls)
+record-sig true at [] = hand-buf at (record { a = singleCell true 0 0 }) oneS
+record-sig true at (l ∷ []) = hand-buf at (record { a = sigCell l }) l
+record-sig true at (l ∷ k ∷ ls) = hand-nary at N.And (run-at at (l ∷ k ∷ ls)) (l ∷ k ∷ ls) (length-map (l ∷ k ∷ ls) sigCell)
+record-sig false at [] = hand-buf at (record { a = singleCell false 0 0 }) zeroS
+record-sig false at (l ∷ []) = hand-buf at (record { a = turnCell (sigCell l) }) (invert l)
+record-sig false at (l ∷ k ∷ ls) = hand-nary at N.Nand (run-at at (l ∷ k ∷ ls)) (l ∷ k ∷ ls) (length-map (l ∷ k ∷ ls) sigCell)
+
+-- as the code makes it: of two or more literals, and of none or one
+hand-many₀ : (one : Bool) (at : ℕ) (cs : List ℕ) → 1 < length cs
+    → G.Nary (cond one N.And N.Nand) (record { first = at; count = length cs }) ≡ lineInHand one at cs
+hand-many₀ one at [] h = absurd (omega arith)
+hand-many₀ one at (c ∷ []) h = absurd (omega arith)
+hand-many₀ one at (c ∷ d ∷ cs) h = refl
+
+pub hand-many : (one : Bool) (at count : ℕ) (ps : List ℕ) → 1 < count → at + count ≤ length ps
+    → G.Nary (cond one N.And N.Nand) (record { first = at; count = count }) ≡ lineInHand one at (take count (drop at ps))
+hand-many one at count ps h l =
+    let n : length (take count (drop at ps)) ≡ count = length-run at count ps l in
+    ap (λ (k : ℕ). G.Nary (cond one N.And N.Nand) (record { first = at; count = k })) (sym n)
+    ∙ hand-many₀ one at (take count (drop at ps)) (omega (arith, n))
+
+pub hand-single : (one : Bool) (at count : ℕ) (ps : List ℕ) {a : ℕ} → count ≤ 1 → at < length ps → a ≡ singleCell one count (getD ps at 0)
+    → G.Buf (record { a = a }) ≡ lineInHand one at (take count (drop at ps))
+hand-single one at zero ps h l e = ap (λ (c : ℕ). G.Buf (record { a = c })) e
+hand-single one at (suc zero) ps h l e =
+    ap (λ (c : ℕ). G.Buf (record { a = c })) e ∙ ap (λ (s : List ℕ). lineInHand one at (take 1 s)) (sym (drop-cons ps at 0 l))
+hand-single one at (suc (suc k)) ps h l e = absurd (omega arith)
+
+-- as many pins
+pub hand-long : (one : Bool) (at : ℕ) (cs : List ℕ) → pinCount (lineInHand one at cs) ≡ length (lineCells one cs)
+hand-long one at [] = refl
+hand-long one at (c ∷ []) = refl
+hand-long one at (c ∷ d ∷ cs) = refl
+
+-- a run where the literals stand
+pub hand-from : (one : Bool) (at : ℕ) (cs : List ℕ) → RunFrom at (lineInHand one at cs)
+hand-from one at [] = tt
+hand-from one at (c ∷ []) = tt
+hand-from one at (c ∷ d ∷ cs) = refl
+
+-- laid over the literals, its pins are those of the line
+pub hand-pins : (one : Bool) (at : ℕ) (cs o : List ℕ) → at + length cs ≤ length o
+    → overwriteAt at (pinsIn (lineInHand one at cs) (overwriteAt at cs o)) (overwriteAt at cs o) ≡ overwriteAt at (lineCells one cs) o
+hand-pins one at [] o h = overwriteAt-again at (singleCell one 0 0 ∷ []) [] o (omega arith)
+hand-pins one at (c ∷ []) o h = overwriteAt-again at (singleCell one 1 c ∷ []) (c ∷ []) o (omega arith)
+hand-pins one at (c ∷ d ∷ cs) o h = overwriteAt-same at (length (c ∷ d ∷ cs)) (overwriteAt at (c ∷ d ∷ cs) o)
 
 -- one pin, or as many as literals
 pub line-few : (one : Bool) (cs : List ℕ) → length (lineCells one cs) ≤ length cs + 1

@@ -4,18 +4,24 @@ use mathlib.Core.Bool.{Bool, true, false, cond}
 use mathlib.Core.List.{List, [], _∷_, map}
 use Prim.Native.Nat.{ℕ, suc, _+_, _-_, _*_, _≤_, _<_}
 use native.Mathlib.Omega.{arith}
-use lib.ListN.{length, getD, getElem?, take, drop, set, length-map}
+use lib.ListN.{length, getD, getElem?, take, drop, length-map}
 use lib.Seq.{drop-cons, length-take-le}
 use borrow.Author.Tests.{lt-ltb}
 use Rattle.lists.specs.Lists.{Bytes, all, overwriteAt}
 use Rattle.lists.proofs.OverAt.{length-overwriteAt}
-use Rattle.lists.proofs.Laying.{one-store}
 use Rattle.lists.proofs.Tests.{and-left}
 use Rattle.signal.specs.Signal.{Signal, zeroS}
 use Rattle.signal.specs.Cell.{sigCell}
 use Rattle.gates.specs.Gate.{OrN, AndN, Buf, Gate, Comb}
-use Rattle.gates.specs.Forms.{formNumber, formCell}
-use Rattle.network.specs.Cells.{gateWidth, maxGates, maxPins, firstAt, countAt}
+use Rattle.network.specs.Sizes.{maxGates, maxPins}
+use Rattle.gates.specs.Decode.{pinCount}
+use Rattle.gates.specs.declared.Gate as code
+use Rattle.gates.specs.declared.Gate.the-variants as G
+use Rattle.gates.specs.declared.NaryType.the-variants as N
+use Rattle.signal.specs.declared.Signal as signal
+use Rattle.network.specs.Record.{gateWidth, recordOf, RecordIn, handRecord, LayRoom, GateLaid, firstAt, countAt}
+use Rattle.network.proofs.RecordCells.{record-in, length-handRecord, hand-buf, hand-nary}
+use Rattle.blif_reading.proofs.WorkingLaws.{gate-run}
 use Rattle.blif_text.specs.Decls.{columns, isOne}
 use Rattle.blif_text.specs.PlacedStatements.{RowTo}
 use Rattle.blif_text.specs.Walk.{rowsFrom}
@@ -24,11 +30,11 @@ use Rattle.blif_reading.specs.Build.{lineGate, gateRun, coverGate, lineGates}
 use Rattle.blif_reading.specs.Read.{goodLine, added}
 use Rattle.blif_reading.specs.TextModel.{lineOf}
 use Rattle.blif_reading.specs.Working.{GateIn}
-use Rattle.blif_read_gates.specs.Steps.{joinForm, LineRoom, LinePut, rowTokens, GoodRow, GatesKept, GoodRows, LinesRoom, LinesPut, CoverRoom, CoverBuilt}
+use Rattle.blif_read_gates.specs.Steps.{joinInHand, LineRoom, LinePut, rowTokens, GoodRow, GatesKept, GoodRows, LinesRoom, LinesPut, CoverRoom, CoverBuilt}
 use Rattle.blif_read_gates.proofs.CellLaws.{run-front}
 use Rattle.blif_read_gates.proofs.JoinLaws.{joinCells, run-long}
 use Rattle.blif_read_gates.proofs.RowLaws.{row-wide}
-use Rattle.blif_read_gates.proofs.GateLaws.{three, gate-put, kept-put, kept-then, kept-some, room-wide, line-kept, line-gate}
+use Rattle.blif_read_gates.proofs.GateLaws.{gate-put, kept-put, kept-then, kept-some, room-wide, line-kept, line-gate}
 use Rattle.blif_read_gates.proofs.PinLaws.{line-pins, join-pins, many-lines}
 
 -- ---- the first row of a cover's lines
@@ -84,9 +90,15 @@ join-lines ss [] h = absurd (omega arith)
 join-lines ss (l ∷ []) h = absurd (omega arith)
 join-lines ss (l ∷ m ∷ ls) h = refl
 
-join-form : (b : Bool) (ps : List Signal) → joinForm b ≡ formCell (Comb (cond b OrN AndN) ps)
-join-form true ps = refl
-join-form false ps = refl
+-- the gate in hand that joins lines has its record
+join-record : (one : Bool) (at count : ℕ) (ps : List Signal) → count ≡ length ps → handRecord at (joinInHand one at count) ≡ recordOf at (Comb (cond one OrN AndN) ps)
+join-record true at count ps e = hand-nary at N.Or (record { first = at; count = count }) ps e
+join-record false at count ps e = hand-nary at N.And (record { first = at; count = count }) ps e
+
+-- the record of the gate in hand
+pub join-put : (one : Bool) (at count : ℕ) {x : code.Gate} {cells : List ℕ} (gates : List ℕ) (k : ℕ) → x ≡ joinInHand one at count → cells ≡ overwriteAt k (handRecord at x) gates
+    → cells ≡ overwriteAt k (handRecord at (joinInHand one at count)) gates
+join-put one at count gates k e p = p ∙ ap (λ (y : code.Gate). overwriteAt k (handRecord at y) gates) e
 
 module _ {text tokens : List ℕ} {n row count j next at : ℕ} {gates pinsIn : List ℕ} (big : 1 < count)
     (g : GoodRows text tokens n row count (countAt gates j)) (room : CoverRoom count j next at gates pinsIn) where
@@ -97,8 +109,18 @@ module _ {text tokens : List ℕ} {n row count j next at : ℕ} {gates pinsIn : 
     omega (arith, added-many count big, room .low),
   )
 
-  module _ (f : ℕ) {source inputs : ℕ} {gates₁ pins₁ : List ℕ} (es : source ≡ firstAt gates j) (ei : inputs ≡ countAt gates j)
-      (eg : gates₁ ≡ overwriteAt (j * gateWidth) (three f at count) gates) (ep : pins₁ ≡ overwriteAt at (joinCells next count) pinsIn) where
+  -- the gate that joins them can be put
+  pub joined-fit : (one : Bool) {x : code.Gate} → x ≡ joinInHand one at count → RecordIn gates j × (at ≤ maxPins) × (pinCount x ≤ maxPins)
+  joined-fit one {x} e =
+      let k = join-pins count (countAt gates j) in
+      let n : pinCount x ≡ count = ap pinCount e in (
+        record-in {n = maxGates} (omega (arith, room .before, room .low)) (room .room .gateRoom),
+        omega (arith, room .fits),
+        omega (arith, n, k, room .fits),
+      )
+
+  module _ (one : Bool) {source inputs : ℕ} {gates₁ pins₁ : List ℕ} (es : source ≡ firstAt gates j) (ei : inputs ≡ countAt gates j)
+      (eg : gates₁ ≡ overwriteAt (j * gateWidth) (handRecord at (joinInHand one at count)) gates) (ep : pins₁ ≡ overwriteAt at (joinCells next count) pinsIn) where
     -- room for the lines behind them
     pub joined-room : LinesRoom inputs count source (at + count) next gates₁ pins₁
     joined-room =
@@ -106,7 +128,7 @@ module _ {text tokens : List ℕ} {n row count j next at : ℕ} {gates pinsIn : 
         record {
           room =
               record {
-                gateRoom = omega (arith, room .room .gateRoom, ap length eg ∙ length-overwriteAt (j * gateWidth) (three f at count) gates);
+                gateRoom = omega (arith, room .room .gateRoom, ap length eg ∙ length-overwriteAt (j * gateWidth) (handRecord at (joinInHand one at count)) gates);
                 pinRoom = omega (arith, room .room .pinRoom, ap length ep ∙ length-overwriteAt at (joinCells next count) pinsIn);
               };
           sources = omega (arith, room .sources, es, ei);
@@ -114,18 +136,17 @@ module _ {text tokens : List ℕ} {n row count j next at : ℕ} {gates pinsIn : 
           low = joins-room .1;
         }
 
-    module _ {end r : ℕ} {gates′ pinsIn′ : List ℕ} (e : RowTo tokens row n end) (ef : f ≡ joinForm (isOne (rowTokens text tokens row end)))
+    module _ {end r : ℕ} {gates′ pinsIn′ : List ℕ} (e : RowTo tokens row n end) (ef : one ≡ isOne (rowTokens text tokens row end))
         (p : LinesPut (take count (rowsFrom text tokens n row)) inputs source (at + count) next gates₁ pins₁ gates′ pinsIn′ r) where
       abbrev lines : List (List Bytes)
       lines = take count (rowsFrom text tokens n row)
 
       joins-kept : GatesKept (λ h. h ≡ j → ⊥) gates pinsIn at gates₁ pins₁ (at + count)
-      joins-kept = rw (eg, ep) (kept-put gates pinsIn (joinCells next count) at (at + count) j f at count (omega arith))
+      joins-kept = rw (eg, ep) (kept-put gates pinsIn (joinCells next count) (handRecord at (joinInHand one at count)) at (at + count) j (length-handRecord at (joinInHand one at count)) (omega arith))
 
       -- the gate that joins them
       joining : (ss : List Signal) → GateIn gates′ pinsIn′ r j (coverGate next ss (map lineOf lines))
       joining ss =
-          let one = isOne (rowTokens text tokens row end) in
           let x : Gate = Comb (cond one OrN AndN) (gateRun next count) in
           let ft = first-take g (omega arith) e in
           let rest = take (count - 1) (rowsFrom text tokens n end) in
@@ -133,10 +154,10 @@ module _ {text tokens : List ℕ} {n row count j next at : ℕ} {gates pinsIn : 
           let q : coverGate next ss (map lineOf lines) ≡ x =
           ap (λ (l : List (List Bytes)). coverGate next ss (map lineOf l)) ft
           ∙ join-gate next ss (rowTokens text tokens row end) rest (omega arith)
-          ∙ ap (λ (k : ℕ). Comb (cond one OrN AndN) (gateRun next k)) long in
-          let there : j * gateWidth + 2 < length gates = omega (arith, room .before, room .low, room .room .gateRoom) in
+          ∙ ap₂ (λ (k : ℕ) (b : Bool). Comb (cond b OrN AndN) (gateRun next k)) long (sym ef) in
+          let there : RecordIn gates j = record-in {n = maxGates} (omega (arith, room .before, room .low)) (room .room .gateRoom) in
           let put : GateIn gates₁ pins₁ (at + count) j x =
-          gate-put gates pinsIn at x eg ep refl (ef ∙ join-form one (gateRun next count)) refl (sym (run-long next count)) there (joins-room .0) in
+          gate-put gates pinsIn at x eg ep (join-record one at count (gateRun next count) (sym (run-long next count))) refl (ap (λ (k : ℕ). at + k) (sym (run-long next count))) there (joins-room .0) in
           subst (GateIn gates′ pinsIn′ r j) (sym q) (p .kept .stay j x (room .before) put)
 
       -- the sources are as before
@@ -144,7 +165,7 @@ module _ {text tokens : List ℕ} {n row count j next at : ℕ} {gates pinsIn : 
       sources ss a =
           ap₂ (λ (k b : ℕ). take k (drop b pins₁)) ei es
           ∙ run-front (firstAt gates j) (countAt gates j) at pins₁ pinsIn (room .sources) (joins-kept .front)
-          ∙ a .run
+          ∙ gate-run a
 
       pub joined-built : CoverBuilt lines j next at gates pinsIn gates′ pinsIn′ r
       joined-built =
@@ -160,20 +181,27 @@ module _ {text tokens : List ℕ} {n row count j next at : ℕ} {gates pinsIn : 
 -- ---- no line, and one
 
 -- "A cover without lines is Buf(zero)"
-pub none-built : (rows : List (List Bytes)) {count j next at x : ℕ} {gates pinsIn gates′ : List ℕ} → CoverRoom count j next at gates pinsIn → count ≡ 0 → x ≡ sigCell zeroS
-    → gates′ ≡ overwriteAt (j * gateWidth) (three (formNumber Buf) at 1) gates → CoverBuilt (take count rows) j next at gates pinsIn gates′ (set pinsIn at x) (at + 1)
-none-built rows {count} {j} {next} {at} {x} {gates} {pinsIn} {gates′} room z ex eg =
-    let t : take count rows ≡ [] = ap (λ (k : ℕ). take k rows) z in
-    let ep : set pinsIn at x ≡ overwriteAt at (0 ∷ []) pinsIn = ap (set pinsIn at) ex ∙ one-store at 0 pinsIn in
-    let there : j * gateWidth + 2 < length gates = omega (arith, room .before, room .low, room .room .gateRoom) in
-    let fit : at + 1 ≤ length pinsIn = omega (arith, room .fits, room .room .pinRoom) in
-    rw (t, ep, eg)
-    (record {
-      kept = kept-some (λ h k. k .0) (kept-put gates pinsIn (0 ∷ []) at (at + 1) j (formNumber Buf) at 1 (omega arith));
-      end = omega arith;
-      main = λ ss a. gate-put gates pinsIn at (Comb Buf (zeroS ∷ [])) refl refl refl refl refl refl there fit;
-      more = λ ss a i y q. absurd (let z : _≡_ {A = ℕ} 0 1 = cc in omega arith);
-    })
+module _ {count j next at : ℕ} {gates pinsIn : List ℕ} (room : CoverRoom count j next at gates pinsIn) (z : signal.Signal) where
+  none-in : RecordIn gates j
+  none-in = record-in {n = maxGates} (omega (arith, room .before, room .low)) (room .room .gateRoom)
+
+  pub none-room : LayRoom (G.Buf z) j at gates pinsIn
+  none-room =
+      record { record-in = none-in; room = omega (arith, room .fits, room .room .pinRoom); few = omega (arith, room .fits); from = tt }
+
+  pub none-built : (rows : List (List Bytes)) {r : ℕ} {gates′ pinsIn′ : List ℕ} → count ≡ 0 → z .a ≡ sigCell zeroS → GateLaid (G.Buf z) j at gates pinsIn gates′ pinsIn′ r
+      → CoverBuilt (take count rows) j next at gates pinsIn gates′ pinsIn′ r
+  none-built rows e ez p =
+      let t : take count rows ≡ [] = ap (λ (k : ℕ). take k rows) e in
+      let c = handRecord at (G.Buf z) in
+      rw (t, p .records, p .runs, p .end)
+      (record {
+        kept = kept-some (λ h k. k .0) (kept-put gates pinsIn (z .a ∷ []) c at (at + 1) j (length-handRecord at (G.Buf z)) (omega arith));
+        end = omega arith;
+        main = λ ss a.
+            gate-put gates pinsIn at (Comb Buf (zeroS ∷ [])) refl refl (hand-buf at z zeroS) (ap (λ (x : ℕ). x ∷ []) ez) refl none-in (none-room .room);
+        more = λ ss a i y q. absurd (let z : _≡_ {A = ℕ} 0 1 = cc in omega arith);
+      })
 
 module _ {text tokens : List ℕ} {n row count j next at : ℕ} {gates pinsIn : List ℕ} (some-line : count ≡ 0 → ⊥) (small : count ≤ 1)
     (g : GoodRows text tokens n row count (countAt gates j)) (room : CoverRoom count j next at gates pinsIn) where
@@ -214,6 +242,6 @@ module _ {text tokens : List ℕ} {n row count j next at : ℕ} {gates pinsIn : 
             end = line-pins ts (omega (arith, wide, one-room .sources, one-room .fits, room .room .pinRoom)) p;
             main = λ ss a.
                 line-gate p (room-wide (sym wide) one-room) ss
-                (ap₂ (λ (k b : ℕ). take k (drop b pinsIn)) (wide ∙ ei) es ∙ a .run);
+                (ap₂ (λ (k b : ℕ). take k (drop b pinsIn)) (wide ∙ ei) es ∙ gate-run a);
             more = λ ss a i y q. absurd (let z : _≡_ {A = ℕ} 0 1 = cc in omega arith);
           })

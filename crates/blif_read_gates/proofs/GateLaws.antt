@@ -1,34 +1,33 @@
 -- Gates that stand in the cells while others are written. Assumes nothing.
 use mathlib.Core.Path.{_≡_, refl, sym, ap, ap₂, _∙_, subst}
 use mathlib.Core.Bool.{Bool}
-use mathlib.Core.List.{List, [], _∷_, map}
+use mathlib.Core.List.{List, map}
 use Prim.Native.Nat.{ℕ, _+_, _*_, _≤_, _<_}
 use native.Mathlib.Omega.{arith}
-use lib.ListN.{length, getD, take, drop, set, length-map}
+use lib.ListN.{length, take, drop, length-map}
 use Rattle.lists.specs.Lists.{Bytes, overwriteAt}
-use Rattle.lists.proofs.OverAt.{length-overwriteAt}
+use Rattle.lists.proofs.OverAt.{length-overwriteAt, run-overwriteAt}
 use Rattle.signal.specs.Signal.{Signal}
 use Rattle.signal.specs.Cell.{sigCell}
-use Rattle.gates.specs.Gate.{Buf, Gate, pins}
-use Rattle.gates.specs.Forms.{formNumber, formCell}
-use Rattle.network.specs.Cells.{gateWidth, maxGates, maxPins}
+use Rattle.gates.specs.Gate.{Gate, pins}
+use Rattle.network.specs.Sizes.{maxPins}
+use Rattle.gates.specs.Decode as decode
+use Rattle.gates.specs.Decode.{pinCount}
+use Rattle.gates.specs.declared.Gate as code
+use Rattle.network.specs.Record.{gateWidth, recordOf, RecordIn, handRecord, RunFrom, LayRoom, GateLaid}
+use Rattle.network.proofs.RecordCells.{record-in, length-handRecord}
 use Rattle.blif_reading.specs.Build.{literals, literalGate}
 use Rattle.blif_reading.specs.TextModel.{colOfByte}
 use Rattle.blif_reading.specs.Working.{GateIn}
 use Rattle.blif_reading.proofs.WorkingLaws.{record-kept, run-kept, used-more, gate-written}
-use Rattle.blif_read_gates.specs.Steps.{literalCells, literalsAt, singleCell, lineCells, lineForm, manyForm, LineRoom, LinePut, GatesKept}
-use Rattle.blif_read_gates.proofs.LiteralLaws.{LaidAt, many-pins, single-pins}
-use Rattle.blif_read_gates.proofs.CellLaws.{overwrite-front, front-less, literals-sig, literals-few, line-sig, form-sig, line-few}
-
--- the cells of a gate's record
-abbrev pub three : ℕ → ℕ → ℕ → List ℕ
-three f p c = f ∷ p ∷ c ∷ []
+use Rattle.blif_read_gates.specs.Steps.{literalCells, literalsAt, lineCells, lineInHand, LineRoom, LinePut, GatesKept}
+use Rattle.blif_read_gates.proofs.LiteralLaws.{LaidAt}
+use Rattle.blif_read_gates.proofs.CellLaws.{overwrite-front, front-less, literals-sig, literals-few, line-sig, record-sig, line-few, hand-long, hand-from, hand-pins}
 
 -- a gate whose record and run are written
-pub gate-put : (gates pinsIn : List ℕ) (at : ℕ) {gates′ pinsIn′ t : List ℕ} {r h f c : ℕ} (x : Gate) → gates′ ≡ overwriteAt (h * gateWidth) (three f at c) gates → pinsIn′ ≡ overwriteAt at t pinsIn
-    → r ≡ at + c → f ≡ formCell x → t ≡ map sigCell (pins x) → c ≡ length (pins x) → h * gateWidth + 2 < length gates → r ≤ length pinsIn → GateIn gates′ pinsIn′ r h x
-gate-put gates pinsIn at {gates′} {pinsIn′} {t} {r} {h} {f} {c} x eg ep er ef et ec l fit =
-    rw (eg, ep, er, ef, et, ec) (gate-written gates pinsIn at h x l (omega arith))
+pub gate-put : (gates pinsIn : List ℕ) (at : ℕ) {gates′ pinsIn′ t c : List ℕ} {r h : ℕ} (x : Gate) → gates′ ≡ overwriteAt (h * gateWidth) c gates → pinsIn′ ≡ overwriteAt at t pinsIn
+    → c ≡ recordOf at x → t ≡ map sigCell (pins x) → r ≡ at + length (pins x) → RecordIn gates h → r ≤ length pinsIn → GateIn gates′ pinsIn′ r h x
+gate-put gates pinsIn at {h = h} x eg ep ec et er l fit = rw (eg, ep, ec, et, er) (gate-written gates pinsIn at h x l (omega arith))
 
 -- ---- gates kept
 
@@ -52,44 +51,61 @@ pub kept-some : {keep some : ℕ → Type 0} {gates pinsIn gates′ pinsIn′ : 
 kept-some f a = record { low = a .low; front = a .front; stay = λ h x k g. a .stay h x (f h k) g }
 
 -- a record and its run are written
-pub kept-put : (gates pinsIn t : List ℕ) (at at′ j f p c : ℕ) → at ≤ at′
-    → GatesKept (λ h. h ≡ j → ⊥) gates pinsIn at (overwriteAt (j * gateWidth) (three f p c) gates) (overwriteAt at t pinsIn) at′
-kept-put gates pinsIn t at at′ j f p c l =
+pub kept-put : (gates pinsIn t c : List ℕ) (at at′ j : ℕ) → length c ≡ gateWidth → at ≤ at′
+    → GatesKept (λ h. h ≡ j → ⊥) gates pinsIn at (overwriteAt (j * gateWidth) c gates) (overwriteAt at t pinsIn) at′
+kept-put gates pinsIn t c at at′ j n l =
     record {
       low = l;
       front = overwrite-front at t pinsIn;
-      stay = λ h x ne g. used-more at′ l (record-kept j (three f p c) (omega arith) ne (run-kept at t (omega arith) g));
+      stay = λ h x ne g. used-more at′ l (record-kept j c n ne (run-kept at t (omega arith) g));
     }
 
 -- ---- a line
 
-module _ {columns : Bytes} {one : Bool} {source at h m : ℕ} {gates pinsIn gates′ pinsIn′ : List ℕ} (d : LaidAt at (literalsAt columns source pinsIn) pinsIn pinsIn′ m) where
-  -- a line with two or more literals is put
-  pub line-many : {f : ℕ} → 1 < m → f ≡ manyForm one → gates′ ≡ overwriteAt (h * gateWidth) (three f at m) gates → LinePut columns one source at h gates pinsIn gates′ pinsIn′ (at + m)
-  line-many {f} l ef e =
-      let lits = literalsAt columns source pinsIn in
-      let q = many-pins one lits (omega (arith, d .1)) in
-      let n : m ≡ length (lineCells one lits) = d .1 ∙ ap length (sym (q .0)) in
-      record {
-        runs = d .0 ∙ ap (λ (t : List ℕ). overwriteAt at t pinsIn) (sym (q .0));
-        records = e ∙ ap₂ (λ (a b : ℕ). overwriteAt (h * gateWidth) (three a at b) gates) (ef ∙ sym (q .1)) n;
-        end = ap (λ (k : ℕ). at + k) n;
-      }
+-- the gate in hand of the literals that were written can be laid, and then the line is put
+module _ (columns : Bytes) (one : Bool) (source at h : ℕ) {m : ℕ} (gates pinsIn : List ℕ) {pins₁ : List ℕ} (d : LaidAt at (literalsAt columns source pinsIn) pinsIn pins₁ m)
+    (room : LineRoom (length columns) source at h gates pinsIn) where
+  abbrev lits : List ℕ
+  lits = literalsAt columns source pinsIn
 
-  -- a line with none or one
-  pub line-single : {x : ℕ} → m ≤ 1 → at < length pinsIn → x ≡ singleCell one m (getD pinsIn′ at 0) → gates′ ≡ overwriteAt (h * gateWidth) (three (formNumber Buf) at 1) gates
-      → LinePut columns one source at h gates pinsIn gates′ (set pinsIn′ at x) (at + 1)
-  line-single {x} l room ex e =
-      let lits = literalsAt columns source pinsIn in
-      let q = single-pins one lits pinsIn at (omega (arith, d .1)) room in
-      record {
-        runs =
-            ap (λ (y : ℕ). set pinsIn′ at y) (ex ∙ ap (λ (k : ℕ). singleCell one k (getD pinsIn′ at 0)) (d .1))
-            ∙ ap (λ (s : List ℕ). set s at (singleCell one (length lits) (getD s at 0))) (d .0)
-            ∙ q .0;
-        records = e ∙ ap₂ (λ (a b : ℕ). overwriteAt (h * gateWidth) (three a at b) gates) (sym (q .1)) (sym (q .2));
-        end = ap (λ (k : ℕ). at + k) (sym (q .2));
-      }
+  lits-few : length lits ≤ length columns
+  lits-few = literals-few columns (take (length columns) (drop source pinsIn))
+
+  lits-fit : at + length lits ≤ length pinsIn
+  lits-fit = omega (arith, lits-few, room .fits, room .room .pinRoom)
+
+  same : length pins₁ ≡ length pinsIn
+  same = ap length (d .0) ∙ length-overwriteAt at lits pinsIn
+
+  -- there are as many pins as literals at least
+  pub hand-room : (at < length pins₁) × (at + m ≤ length pins₁)
+  hand-room = (omega (arith, same, room .fits, room .room .pinRoom), omega (arith, same, d .1, lits-fit))
+
+  module _ {x : code.Gate} (e : x ≡ lineInHand one at (take m (drop at pins₁))) where
+    hand-is : x ≡ lineInHand one at lits
+    hand-is =
+        e ∙ ap (lineInHand one at) (ap₂ (λ (k : ℕ) (p : List ℕ). take k (drop at p)) (d .1) (d .0) ∙ run-overwriteAt at lits pinsIn lits-fit)
+
+    hand-count : pinCount x ≡ length (lineCells one lits)
+    hand-count = ap pinCount hand-is ∙ hand-long one at lits
+
+    pub line-room : LayRoom x h at gates pins₁
+    line-room =
+        let k : at + pinCount x ≤ maxPins = omega (arith, hand-count, line-few one lits, lits-few, room .fits) in
+        record {
+          record-in = record-in (room .low) (room .room .gateRoom);
+          room = omega (arith, k, same, room .room .pinRoom);
+          few = k;
+          from = subst (RunFrom at) (sym hand-is) (hand-from one at lits);
+        }
+
+    pub line-put : {gates′ pinsIn′ : List ℕ} {r : ℕ} → GateLaid x h at gates pins₁ gates′ pinsIn′ r → LinePut columns one source at h gates pinsIn gates′ pinsIn′ r
+    line-put p =
+        record {
+          runs = p .runs ∙ ap₂ (λ (y : code.Gate) (q : List ℕ). overwriteAt at (decode.pinsIn y q) q) hand-is (d .0) ∙ hand-pins one at lits pinsIn lits-fit;
+          records = p .records ∙ ap (λ (y : code.Gate). overwriteAt (h * gateWidth) (handRecord at y) gates) hand-is;
+          end = p .end ∙ ap (λ (k : ℕ). at + k) hand-count;
+        }
 
 -- the same columns and output
 pub line-named : {columns columns′ : Bytes} {one one′ : Bool} {source at h : ℕ} {gates pinsIn gates′ pinsIn′ : List ℕ} {r : ℕ} → columns ≡ columns′ → one ≡ one′
@@ -101,31 +117,20 @@ line-named {columns} {columns′} {one} {one′} {source} {at} {h} {gates} {pins
 pub room-wide : {width width′ source at h : ℕ} {gates pinsIn : List ℕ} → width ≡ width′ → LineRoom width source at h gates pinsIn → LineRoom width′ source at h gates pinsIn
 room-wide {source = source} {at = at} {h = h} {gates = gates} {pinsIn = pinsIn} e l = subst (λ (w : ℕ). LineRoom w source at h gates pinsIn) e l
 
--- room for a line's record and pins
-pub line-room : (columns : Bytes) {source at h m : ℕ} {gates pinsIn : List ℕ} → LineRoom (length columns) source at h gates pinsIn → m ≡ length (literalsAt columns source pinsIn)
-    → (h * gateWidth + 2 < length gates) × (h < maxGates) × (at ≤ maxPins) × (at + m < maxPins) × (at < length pinsIn)
-line-room columns {source} {at} {h} {m} {gates} {pinsIn} l e =
-    let few = literals-few columns (take (length columns) (drop source pinsIn)) in (
-      omega (arith, l .low, l .room .gateRoom),
-      l .low,
-      omega (arith, l .fits),
-      omega (arith, l .fits, few),
-      omega (arith, l .fits, l .room .pinRoom),
-    )
-
 module _ {columns : Bytes} {one : Bool} {source at h : ℕ} {gates pinsIn gates′ pinsIn′ : List ℕ} {r : ℕ} (p : LinePut columns one source at h gates pinsIn gates′ pinsIn′ r) where
   -- the other gates stay
   pub line-kept : GatesKept (λ k. k ≡ h → ⊥) gates pinsIn at gates′ pinsIn′ r
   line-kept =
       let lits = literalsAt columns source pinsIn in
+      let c = handRecord at (lineInHand one at lits) in
       rw (p .records, p .runs, p .end)
-      (kept-put gates pinsIn (lineCells one lits) at (at + length (lineCells one lits)) h (lineForm one lits) at (length (lineCells one lits)) (omega arith))
+      (kept-put gates pinsIn (lineCells one lits) c at (at + length (lineCells one lits)) h (length-handRecord at (lineInHand one at lits)) (omega arith))
 
   -- no cell is added
   pub line-same : (length gates′ ≡ length gates) × (length pinsIn′ ≡ length pinsIn)
   line-same =
       let lits = literalsAt columns source pinsIn in (
-        ap length (p .records) ∙ length-overwriteAt (h * gateWidth) (three (lineForm one lits) at (length (lineCells one lits))) gates,
+        ap length (p .records) ∙ length-overwriteAt (h * gateWidth) (handRecord at (lineInHand one at lits)) gates,
         ap length (p .runs) ∙ length-overwriteAt at (lineCells one lits) pinsIn,
       )
 
@@ -144,8 +149,7 @@ module _ {columns : Bytes} {one : Bool} {source at h : ℕ} {gates pinsIn gates�
       let le : lits ≡ map sigCell ls = ap (literalCells columns) e ∙ literals-sig columns ss in
       let run = lineCells one lits in
       let q : run ≡ map sigCell (pins (literalGate one ls)) = ap (lineCells one) le ∙ line-sig one ls in
-      let f : lineForm one lits ≡ formCell (literalGate one ls) = ap (lineForm one) le ∙ form-sig one ls in
+      let f : handRecord at (lineInHand one at lits) ≡ recordOf at (literalGate one ls) = ap (λ (cs : List ℕ). handRecord at (lineInHand one at cs)) le ∙ record-sig one at ls in
       let n : length run ≡ length (pins (literalGate one ls)) = ap length q ∙ length-map (pins (literalGate one ls)) sigCell in
       let fit : r ≤ length pinsIn = omega (arith, line-end, room .fits, room .room .pinRoom) in
-      let there : h * gateWidth + 2 < length gates = omega (arith, room .low, room .room .gateRoom) in
-      gate-put gates pinsIn at (literalGate one ls) (p .records) (p .runs) (p .end) f q n there fit
+      gate-put gates pinsIn at (literalGate one ls) (p .records) (p .runs) f q (p .end ∙ ap (λ (k : ℕ). at + k) n) (record-in (room .low) (room .room .gateRoom)) fit

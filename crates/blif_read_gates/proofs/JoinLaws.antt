@@ -8,7 +8,7 @@ use Rattle.lists.specs.Lists.{overwriteAt}
 use Rattle.lists.proofs.Laying.{Laying, laying-start, laying-next, laying-done}
 use Rattle.signal.specs.Cell.{sigCell, gateCell}
 use Rattle.signal.proofs.Cells.{gate-cell}
-use Rattle.network.specs.Cells.{maxGates}
+use Rattle.network.specs.Sizes.{maxGates}
 use Rattle.blif_reading.specs.Build.{gateRun}
 
 -- the pins of the gate that joins n lines, whose gates start at number k

@@ -5,18 +5,16 @@ use mathlib.Core.List.{List, [], _∷_, _++_}
 use Prim.Native.Nat.{ℕ, zero, suc, _+_, _≤_, _<_}
 use native.Mathlib.Omega.{arith}
 use lib.Dec.{eqb}
-use lib.ListN.{length, getD, take, drop, set, length-append, length-drop, drop-of-length-le}
-use lib.Seq.{length-take-le, getD-take, getD-drop, set-set}
+use lib.ListN.{length, getD, take, drop, set, length-append, drop-of-length-le}
+use lib.Seq.{getD-take, getD-drop}
 use borrow.Author.Tests.{eq-eqb, ne-eqb}
 use Rattle.lists.specs.Lists.{Bytes, overwriteAt}
-use Rattle.lists.proofs.OverAt.{overwriteAt-nil, overwriteAt-inside, length-overwriteAt, overwrite-first, overwrite-append}
+use Rattle.lists.proofs.OverAt.{overwriteAt-nil}
 use Rattle.lists.proofs.Laying.{one-store, Laying, laying-start, laying-more, laying-done}
 use Rattle.lists.proofs.Places.{drop-next, length-run}
 use Rattle.signal.specs.Signal.{zeroS, xorS}
 use Rattle.signal.specs.Cell.{sigCell, sigOf}
-use Rattle.gates.specs.Gate.{Buf}
-use Rattle.gates.specs.Forms.{formNumber}
-use Rattle.blif_read_gates.specs.Steps.{turnCell, columnCells, literalCells, literalsAt, singleCell, lineCells, lineForm, manyForm}
+use Rattle.blif_read_gates.specs.Steps.{turnCell, columnCells, literalCells, literalsAt, singleCell}
 use Rattle.blif_read_gates.proofs.CellLaws.{overwrite-front, front-at, front-less, one-literal}
 
 -- ---- one column
@@ -121,28 +119,3 @@ single-none false count literal z x e d q = q ∙ ap (λ (y : ℕ). sigCell (xor
 pub single-some : (one : Bool) (count literal : ℕ) → (count ≡ 0 → ⊥) → singleCell one count literal ≡ cond one literal (turnCell literal)
 single-some one zero literal n = absurd (n refl)
 single-some one (suc m) literal n = refl
-
--- two literals or more are its pins
-pub many-pins : (one : Bool) (lits : List ℕ) → 1 < length lits → (lineCells one lits ≡ lits) × (lineForm one lits ≡ manyForm one)
-many-pins one [] h = absurd (omega arith)
-many-pins one (c ∷ []) h = absurd (omega arith)
-many-pins one (c ∷ d ∷ cs) h = (refl, refl)
-
--- one pin for none or one
-pub single-pins : (one : Bool) (lits o : List ℕ) (k : ℕ) → length lits ≤ 1 → k < length o
-    → (set (overwriteAt k lits o) k (singleCell one (length lits) (getD (overwriteAt k lits o) k 0)) ≡ overwriteAt k (lineCells one lits) o)
-    × (lineForm one lits ≡ formNumber Buf) × (length (lineCells one lits) ≡ 1)
-single-pins one [] o k h l =
-    (ap (λ (s : List ℕ). set s k (singleCell one 0 0)) (overwriteAt-nil k o) ∙ one-store k (singleCell one 0 0) o, refl, refl)
-single-pins one (c ∷ []) o k h l =
-    let z : k + 0 ≡ k = omega arith in
-    let e : getD (overwriteAt k (c ∷ []) o) k 0 ≡ c = rw z at (overwriteAt-inside k (c ∷ []) o 0 0 (omega arith) (omega arith)) in
-    let x = singleCell one 1 c in (
-      ap (λ (y : ℕ). set (overwriteAt k (c ∷ []) o) k (singleCell one 1 y)) e
-          ∙ ap (λ (s : List ℕ). set s k x) (sym (one-store k c o))
-          ∙ set-set o k c x
-          ∙ one-store k x o,
-      refl,
-      refl,
-    )
-single-pins one (c ∷ d ∷ cs) o k h l = absurd (omega arith)

@@ -6,7 +6,7 @@ use lib.ListN.{length}
 use Rattle.lists.specs.Lists.{Bytes, sumOf}
 use Rattle.refusals.specs.declared.Checked.the-variants.{Fine}
 use Rattle.signal.specs.Signal.{Signal}
-use Rattle.network.specs.Cells.{maxGates, maxPins}
+use Rattle.network.specs.Sizes.{maxGates, maxPins}
 use Rattle.blif_text.specs.Decls.{Def}
 use Rattle.blif_reading.specs.Read.{gateCount, pinCount, coverFaults}
 use Rattle.blif_reading.specs.Working.{GatesIn, placed, placedCount, builtGates, WorkRoom}

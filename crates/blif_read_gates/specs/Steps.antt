@@ -12,9 +12,12 @@ use Rattle.lists.specs.Lists.{Bytes, all, sumOf, overwriteAt}
 use Rattle.refusals.specs.declared.Checked.the-variants.{Fine}
 use Rattle.signal.specs.Signal.{Signal}
 use Rattle.signal.specs.Cell.{bitOf, sigCell}
-use Rattle.gates.specs.Gate.{AndN, OrN, NandN, Buf, Gate, Comb}
-use Rattle.gates.specs.Forms.{formNumber}
-use Rattle.network.specs.Cells.{gateWidth, maxGates, maxPins, firstAt, countAt}
+use Rattle.gates.specs.Gate.{AndN, Buf, Gate, Comb}
+use Rattle.network.specs.Sizes.{maxGates, maxPins}
+use Rattle.gates.specs.declared.Gate as code
+use Rattle.gates.specs.declared.Gate.the-variants as G
+use Rattle.gates.specs.declared.NaryType.the-variants as N
+use Rattle.network.specs.Record.{handRecord, gateWidth, firstAt, countAt}
 use Rattle.blif_text.specs.Decls.{Def, latch, cover}
 use Rattle.blif_text.specs.Places.{tokensOf}
 use Rattle.blif_text.specs.Walk.{rowsFrom, Inside, RowsAt}
@@ -56,19 +59,16 @@ lineCells one [] = singleCell one 0 0 ∷ []
 lineCells one (c ∷ []) = singleCell one 1 c ∷ []
 lineCells one (c ∷ d ∷ cs) = c ∷ d ∷ cs
 
--- the form of a line with two or more literals: "Nary And", "with output 0 it is Nary Nand"
-abbrev pub manyForm : Bool → ℕ
-manyForm one = cond one (formNumber AndN) (formNumber NandN)
+-- the gate of a line in hand, of its literals, which stand from pin `at` on: "A line with output 1 is Nary And of its literals, Buf of a
+-- single literal, Buf(one) of none; with output 0 it is Nary Nand, Buf of the inverted literal, Buf(zero)"
+abbrev pub lineInHand : Bool → ℕ → List ℕ → code.Gate
+lineInHand one at [] = G.Buf (record { a = singleCell one 0 0 })
+lineInHand one at (c ∷ []) = G.Buf (record { a = singleCell one 1 c })
+lineInHand one at (c ∷ d ∷ cs) = G.Nary (cond one N.And N.Nand) (record { first = at; count = length (c ∷ d ∷ cs) })
 
--- the form of a line's gate, of its literals
-abbrev pub lineForm : Bool → List ℕ → ℕ
-lineForm one [] = formNumber Buf
-lineForm one (c ∷ []) = formNumber Buf
-lineForm one (c ∷ d ∷ cs) = manyForm one
-
--- the form that joins lines: "Or for 1", And for 0
-abbrev pub joinForm : Bool → ℕ
-joinForm one = cond one (formNumber OrN) (formNumber AndN)
+-- the gate in hand that joins so many lines, whose gates' signals stand from pin `at` on: "Or for 1", And for 0
+abbrev pub joinInHand : Bool → ℕ → ℕ → code.Gate
+joinInHand one at count = G.Nary (cond one N.Or N.And) (record { first = at; count = count })
 
 -- ---- one line
 
@@ -88,9 +88,7 @@ pub record LinePut (columns : Bytes) (one : Bool) (source at h : ℕ) (gates pin
   -- the pins
   pub runs : pinsIn′ ≡ overwriteAt at (lineCells one (literalsAt columns source pinsIn)) pinsIn
   -- the record
-  pub records :
-      gates′ ≡ overwriteAt (h * gateWidth)
-      (lineForm one (literalsAt columns source pinsIn) ∷ at ∷ length (lineCells one (literalsAt columns source pinsIn)) ∷ []) gates
+  pub records : gates′ ≡ overwriteAt (h * gateWidth) (handRecord at (lineInHand one at (literalsAt columns source pinsIn))) gates
   -- the pins' end
   pub end : r ≡ at + length (lineCells one (literalsAt columns source pinsIn))
 

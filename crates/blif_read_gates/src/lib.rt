@@ -2,22 +2,23 @@
 use blif_text::block_at;
 use blif_text::line_columns;
 use blif_text::row_end;
-use gates::BUF;
-use gates::NARY_AND;
-use gates::NARY_NAND;
-use gates::NARY_OR;
+use gates::Gate;
+use gates::NaryType;
+use gates::PinRun;
 use lists::equal;
 use network::count_at;
 use network::first_at;
+use network::lay_gate;
 use network::put_record;
 use signal::Signal;
 ghost use mathlib.Core.Path.{_≡_};
 ghost use mathlib.Core.List.{[], _∷_, map};
 ghost use Prim.Native.Nat.{_+_, _*_, _≤_, _<_};
-ghost use lib.ListN.{length, getD, take};
+ghost use lib.ListN.{length, getD, take, drop};
 ghost use Rattle.lists.specs.Lists.{overwriteAt, same};
 ghost use Rattle.signal.specs.Cell.{sigCell};
-ghost use Rattle.network.specs.Cells.{gateWidth, maxGates, firstAt, countAt};
+ghost use Rattle.network.specs.Sizes.{maxGates};
+ghost use Rattle.network.specs.Record.{RecordIn, firstAt, countAt};
 ghost use Rattle.blif_text.specs.Decls.{columns, isOne};
 ghost use Rattle.blif_text.specs.Places.{InText, tokenOf};
 ghost use Rattle.blif_text.specs.Walk.{rowsFrom};
@@ -25,7 +26,7 @@ ghost use Rattle.blif_text.specs.Blocks.{defAt, defsAt, Blocks};
 ghost use Rattle.blif_reading.specs.Build.{gateRun};
 ghost use Rattle.blif_reading.specs.Read.{added};
 ghost use Rattle.blif_read_gates.specs.Covers.{Buildable, BuiltBy};
-ghost use Rattle.blif_read_gates.specs.Steps.{columnCells, literalsAt, singleCell, manyForm, joinForm, LineRoom, LinePut};
+ghost use Rattle.blif_read_gates.specs.Steps.{columnCells, literalsAt, singleCell, lineInHand, joinInHand, LineRoom, LinePut};
 ghost use Rattle.blif_read_gates.specs.Steps.{rowTokens, GoodRow, GoodRows, LinesRoom, LinesPut, CoverRoom, CoverBuilt, BlockRoom, BlockBuilt};
 
 // How many gates are built, and how many pins are in use.
@@ -42,7 +43,7 @@ struct Sources {
 
 // The sources of the cover that is gate j.
 fn sources_at(gates: &[u32], j: usize) -> Sources
-    requires { ⌜ j * gateWidth + 2 < length (now gates) ⌝ }
+    requires { ⌜ RecordIn (now gates) j ⌝ }
     ensures { λ r. ⌜ (r .first ≡ firstAt (now (gates .entry)) j) × (r .count ≡ countAt (now (gates .entry)) j) ⌝ }
 {
     let first = first_at(gates, j);
@@ -96,47 +97,50 @@ fn single_pin(count: usize, pins: &[u32], at: usize, one: bool) -> u32
     Signal { a: literal }.not().raw()
 }
 
-// The form of a line with two or more literals.
-fn many_form(one: bool) -> u32
-    ensures { λ r. ⌜ r ≡ manyForm one ⌝ }
+// The gate of a line, whose literals stand from pin at on.
+fn line_gate(count: usize, pins: &[u32], at: usize, one: bool) -> Gate
+    requires { ⌜ (at < length (now pins)) × (at + count ≤ length (now pins)) ⌝ }
+    ensures { λ r. ⌜ r ≡ lineInHand one at (take count (drop at (now (pins .entry)))) ⌝ }
 {
-    if one {
-        return NARY_AND;
+    if count > 1 {
+        let run = PinRun { first: at, count };
+        if one {
+            return Gate::Nary(NaryType::And, run);
+        }
+        return Gate::Nary(NaryType::Nand, run);
     }
-    NARY_NAND
+    Gate::Buf(Signal {
+        a: single_pin(count, pins, at, one),
+    })
 }
 
-// The form that joins lines.
-fn join_form(one: bool) -> u32
-    ensures { λ r. ⌜ r ≡ joinForm one ⌝ }
+// The gate that joins lines, whose gates' signals stand from pin at on.
+fn join_gate(one: bool, at: usize, count: usize) -> Gate
+    ensures { λ r. ⌜ r ≡ joinInHand one at count ⌝ }
 {
+    let run = PinRun { first: at, count };
     if one {
-        return NARY_OR;
+        return Gate::Nary(NaryType::Or, run);
     }
-    NARY_AND
+    Gate::Nary(NaryType::And, run)
 }
 
-// Puts a line's gate into a record, its pins from pin at on. Answers the pins' end.
+// Lays a line's gate as gate h, its pins from pin at on. Answers the pins' end.
 fn put_line(
     columns: &[u8],
     one: bool,
     gates: &mut [u32],
-    gate: usize,
+    h: usize,
     pins: &mut [u32],
     source: usize,
     at: usize,
 ) -> usize
-    requires { ⌜ LineRoom (length (now columns)) source at gate (now gates) (now pins) ⌝ }
-    ensures { λ r. ⌜ LinePut (now (columns .entry)) one source at gate (now (gates .entry)) (now (pins .entry)) (now (gates .exit)) (now (pins .exit)) r ⌝ }
+    requires { ⌜ LineRoom (length (now columns)) source at h (now gates) (now pins) ⌝ }
+    ensures { λ r. ⌜ LinePut (now (columns .entry)) one source at h (now (gates .entry)) (now (pins .entry)) (now (gates .exit)) (now (pins .exit)) r ⌝ }
 {
-    let m = write_literals(columns, pins, source, at);
-    if m > 1 {
-        put_record(gates, gate, many_form(one), at, m);
-        return at + m;
-    }
-    pins[at] = single_pin(m, pins, at, one);
-    put_record(gates, gate, BUF, at, 1);
-    at + 1
+    let count = write_literals(columns, pins, source, at);
+    let gate = line_gate(count, pins, at, one);
+    lay_gate(gates, h, pins, at, gate)
 }
 
 // Whether a token is 1.
@@ -230,7 +234,7 @@ fn join_lines(
     let end = row_end(tokens, row, n);
     let last = tokens[end - 1];
     put_joins(pins, at, next, count);
-    put_record(gates, j, join_form(is_one(text, last)), at, count);
+    put_record(gates, j, at, join_gate(is_one(text, last), at, count));
     build_lines(
         text,
         tokens,
@@ -264,9 +268,7 @@ fn build_cover(
     ensures { λ r. ⌜ CoverBuilt (take count (rowsFrom (now (text .entry)) (now (tokens .entry)) n row)) j next at (now (gates .entry)) (now (pins .entry)) (now (gates .exit)) (now (pins .exit)) r ⌝ }
 {
     if count == 0 {
-        pins[at] = Signal::zero().raw();
-        put_record(gates, j, BUF, at, 1);
-        return at + 1;
+        return lay_gate(gates, j, pins, at, Gate::Buf(Signal::zero()));
     }
     if count > 1 {
         return join_lines(text, tokens, n, row, count, j, gates, next, pins, at);

@@ -8,7 +8,7 @@ use lib.ListN.{length, take}
 use Rattle.lists.specs.Lists.{Bytes, zeros}
 use Rattle.refusals.specs.declared.Refusal.{Refusal}
 use Rattle.refusals.specs.declared.Checked.the-variants.{Fine, Refused}
-use Rattle.network.specs.Cells.{maxGates, maxOutputs}
+use Rattle.network.specs.Sizes.{maxGates, maxOutputs}
 use Rattle.blif_text.specs.Decls.{Def, cover, Decl, gate, cubes, decls, ins, outs, defs}
 use Rattle.blif_text.specs.Places.{maxTokens, tokensOf}
 use Rattle.blif_text.specs.Walk.{stmtsFrom, StmtsAt}

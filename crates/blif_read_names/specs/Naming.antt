@@ -14,7 +14,7 @@ use Rattle.refusals.specs.declared.Checked.{Checked}
 use Rattle.refusals.specs.declared.Checked.the-variants.{Fine, Refused}
 use Rattle.signal.specs.Signal.{Var, plain}
 use Rattle.signal.specs.Cell.{sigCell}
-use Rattle.network.specs.Cells.{maxInputs, maxGates, maxOutputs}
+use Rattle.network.specs.Sizes.{maxInputs, maxGates, maxOutputs}
 use Rattle.blif_text.specs.Decls.{Decl, decls, ins, outs, defs}
 use Rattle.blif_text.specs.Places.{maxTokens, InText, tokenOf, tokensOf}
 use Rattle.blif_text.specs.Walk.{stmtsFrom, Inside, StmtsAt}

@@ -17,7 +17,7 @@ ghost use Prim.Native.Nat.{_+_, _-_, _*_, _≤_, _<_};
 ghost use lib.ListN.{length, take};
 ghost use lib.Seq.{slice};
 ghost use Rattle.lists.specs.Lists.{zeros};
-ghost use Rattle.network.specs.Cells.{maxGates, maxOutputs};
+ghost use Rattle.network.specs.Sizes.{maxGates, maxOutputs};
 ghost use Rattle.blif_text.specs.Decls.{decls};
 ghost use Rattle.blif_text.specs.Places.{maxTokens, tokenOf};
 ghost use Rattle.blif_text.specs.Walk.{stmtsFrom, StmtsAt};

@@ -1,6 +1,7 @@
 -- One gate placed: its names by their tokens, its record and its run of pins. Assumes nothing.
 use mathlib.Core.Path.{_≡_, refl, sym, ap, ap₂, _∙_, subst}
-use mathlib.Core.Bool.{Bool, true, false, false≢true}
+use mathlib.Core.Bool.{Bool, true, false, not, and-true, false≢true}
+use borrow.Author.Tests.{ne-eqb}
 use mathlib.Core.List.{List, [], _∷_, _++_, map}
 use Prim.Native.Nat.{ℕ, zero, suc, _+_, _-_, _*_, _≤_, _<_}
 use native.Mathlib.Omega.{arith}
@@ -12,7 +13,11 @@ use Rattle.lists.proofs.Places.{run-within}
 use Rattle.lists.proofs.Laying.{one-store}
 use Rattle.gates.specs.Gate.{AndN}
 use Rattle.gates.specs.Forms.{formNumber, flopNumber}
-use Rattle.network.specs.Cells.{gateWidth}
+use Rattle.signal.specs.declared.Signal as signal
+use Rattle.gates.specs.declared.Gate as code
+use Rattle.gates.specs.declared.Gate.the-variants as G
+use Rattle.network.specs.Record.{gateWidth, handRecord, LayRoom, GateLaid}
+use Rattle.network.proofs.RecordCells.{record-in}
 use Rattle.blif_meaning.specs.Model.{plainLatch}
 use Rattle.blif_text.specs.Places.{tokenOf, tokensOf}
 use Rattle.blif_text.specs.Walk.{rowsFrom, Inside}
@@ -21,7 +26,7 @@ use Rattle.blif_text.specs.Blocks.{firstName, nameCount, lineCount, defFrom, de
 use Rattle.blif_text.proofs.BlockLaws.{cover-from}
 use Rattle.blif_reading.specs.Working.{placedCount}
 use Rattle.blif_read_signals.specs.Resolve.{isFound, placedTo, Resolved}
-use Rattle.blif_read_signals.specs.Steps.{NamesAt, GateRoom, GatePlaced, DefPlaced}
+use Rattle.blif_read_signals.specs.Steps.{NamesAt, GateRoom, andInHand, GatePlaced, DefPlaced}
 use Rattle.blif_read_signals.specs.declared.Placed.{Placed}
 use Rattle.blif_read_signals.specs.declared.Placed.the-variants as answer
 use Rattle.refusals.specs.declared.Refusal.the-variants as refusal
@@ -76,9 +81,9 @@ one-name {text} {tokens} {first} h = names-are h ∙ ap (λ (l : List ℕ). toke
 -- ---- placed or not
 
 -- a name was not found
-pub not-placed : {sig : Bytes → ℕ} {names₀ names : List Bytes} {form j at : ℕ} {run cells q gates pinsIn gates′ pinsIn′ : List ℕ} {r : Bool}
+pub not-placed : {sig : Bytes → ℕ} {names₀ names : List Bytes} {x : code.Gate} {j at : ℕ} {run cells q gates pinsIn gates′ pinsIn′ : List ℕ} {r : Bool}
     → Resolved (map sig names₀) cells q r → names₀ ≡ names → r ≡ false
-    → GatePlaced sig form names run j at gates pinsIn gates′ pinsIn′ (answer.Refused refusal.Undefined)
+    → GatePlaced sig x names run j at gates pinsIn gates′ pinsIn′ (answer.Refused refusal.Undefined)
 not-placed {sig} {at = at} {run = run} w n t =
     let f = sym t ∙ w .found ∙ ap (λ (l : List Bytes). all isFound (map sig l)) n in
     record {
@@ -98,33 +103,53 @@ module _ (sig : Bytes → ℕ) {names₀ names : List Bytes} (at : ℕ) (pinsIn 
 
 pub cover-placed : {sig : Bytes → ℕ} {names₀ names : List Bytes} {j at count : ℕ} {q gates pinsIn gates′ : List ℕ} {r : Bool}
     → Resolved (map sig names₀) (take (length pinsIn - at) (drop at pinsIn)) q r → names₀ ≡ names → length names ≡ count → r ≡ true
-    → GateRoom gates pinsIn j at count → gates′ ≡ overwriteAt (j * gateWidth) (formNumber AndN ∷ at ∷ count ∷ []) gates
-    → GatePlaced sig (formNumber AndN) names (map sig names) j at gates pinsIn gates′ (take at pinsIn ++ (q ++ drop (length pinsIn - at) (drop at pinsIn)))
+    → GateRoom gates pinsIn j at count → gates′ ≡ overwriteAt (j * gateWidth) (handRecord at (andInHand at count)) gates
+    → GatePlaced sig (andInHand at count) names (map sig names) j at gates pinsIn gates′ (take at pinsIn ++ (q ++ drop (length pinsIn - at) (drop at pinsIn)))
     (answer.Pins (at + count))
 cover-placed {sig} {names = names} {j} {at} {count} {gates = gates} {pinsIn} w n l t m g =
     let u : at ≤ length pinsIn = omega (arith, m .few, m .cells .pinRoom) in
     let e : count ≡ length (map sig names) = sym (length-map names sig ∙ l) in
     record {
       end = ap₂ (λ (k : ℕ) (b : Bool). placedTo b (at + k)) e (all-found sig at pinsIn w n t u);
-      records = λ v. g ∙ ap (λ (k : ℕ). overwriteAt (j * gateWidth) (formNumber AndN ∷ at ∷ k ∷ []) gates) e;
+      records = λ v. g;
       runs = λ v. names-laid sig at pinsIn w n t u;
     }
 
-pub latch-placed : {sig : Bytes → ℕ} {names₀ : List Bytes} {x : Bytes} {j at : ℕ} {q gates pinsIn gates′ : List ℕ} {r : Bool}
-    → Resolved (map sig names₀) (take (length pinsIn - at) (drop at pinsIn)) q r → names₀ ≡ x ∷ [] → r ≡ true → GateRoom gates pinsIn j at 3
-    → gates′ ≡ overwriteAt (j * gateWidth) (flopNumber ∷ at ∷ 3 ∷ []) gates
-    → GatePlaced sig flopNumber (x ∷ []) (sig x ∷ 1 ∷ 0 ∷ []) j at gates pinsIn gates′
-    (set (set (take at pinsIn ++ (q ++ drop (length pinsIn - at) (drop at pinsIn))) (at + 1) 1) (at + 2) 0)
-    (answer.Pins (at + 3))
-latch-placed {sig} {x = x} {at = at} {pinsIn = pinsIn} w n t m g =
-    let u : at ≤ length pinsIn = omega (arith, m .few, m .cells .pinRoom) in
-    record {
-      end = ap (λ (b : Bool). placedTo b (at + 3)) (all-found sig at pinsIn w n t u);
-      records = λ v. g;
-      runs = λ v.
-          ap (λ (l : List ℕ). set (set l (at + 1) 1) (at + 2) 0) (names-laid sig at pinsIn w n t u ∙ sym (one-store at (sig x) pinsIn))
-          ∙ overwrite-three at (sig x) 1 0 pinsIn;
-    }
+-- a latch whose input has this cell, and room for it
+module _ (sig : Bytes → ℕ) (x y : Bytes) {d : ℕ} (e : d ≡ sig x) where
+  input-is : all isFound (map sig (x ∷ [])) ≡ isFound d
+  input-is = and-true (isFound (sig x)) ∙ ap isFound (sym e)
+
+  pub latch-missing : (j at : ℕ) (gates pinsIn : List ℕ) {gates′ pinsIn′ : List ℕ} → d ≡ 0 → DefPlaced sig (latch (plainLatch x y)) j at gates pinsIn gates′ pinsIn′ (answer.Refused refusal.Undefined)
+  unfolding usedNames
+  latch-missing j at gates pinsIn z =
+      let f : all isFound (map sig (x ∷ [])) ≡ false = input-is ∙ ap isFound z in
+      record {
+        end = ap (λ (b : Bool). placedTo b (at + 3)) (sym f);
+        records = λ u. absurd (false≢true (sym f ∙ u));
+        runs = λ u. absurd (false≢true (sym f ∙ u));
+      }
+
+  module _ (one zero : signal.Signal) (j at : ℕ) (gates pinsIn : List ℕ) (m : GateRoom gates pinsIn j at 3) where
+    pub latch-fits : LayRoom (G.Dff (record { a = d }) one zero) j at gates pinsIn
+    latch-fits =
+        record {
+          record-in = record-in (m .low) (m .cells .gateRoom);
+          room = omega (arith, m .few, m .cells .pinRoom);
+          few = m .few;
+          from = tt;
+        }
+
+    pub latch-placed : {gates′ pinsIn′ : List ℕ} {r : ℕ} → (d ≡ 0 → ⊥) → one .a ≡ 1 → zero .a ≡ 0
+        → GateLaid (G.Dff (record { a = d }) one zero) j at gates pinsIn gates′ pinsIn′ r → DefPlaced sig (latch (plainLatch x y)) j at gates pinsIn gates′ pinsIn′ (answer.Pins r)
+    unfolding usedNames
+    latch-placed n eo ez p =
+        let f : all isFound (map sig (x ∷ [])) ≡ true = input-is ∙ ap not (ne-eqb 0 d (λ z. n (sym z))) in
+        record {
+          end = ap answer.Pins (p .end) ∙ ap (λ (b : Bool). placedTo b (at + 3)) (sym f);
+          records = λ v. p .records ∙ (λ i. overwriteAt (j * gateWidth) (handRecord at (G.Dff (record { a = e i }) (record { a = eo i }) (record { a = ez i }))) gates);
+          runs = λ v. p .runs ∙ (λ i. overwriteAt at (e i ∷ eo i ∷ ez i ∷ []) pinsIn);
+        }
 
 -- ---- the block's definition
 
@@ -175,15 +200,17 @@ module _ {text tokens : List ℕ} {n : ℕ} {blocks : List ℕ} {f c : ℕ} (j :
         rw e at m
 
     module _ {sig : Bytes → ℕ} {gates′ pinsIn′ : List ℕ} {r : Placed} where
-      pub latch-def : c ≡ 0 → GatePlaced sig flopNumber (tokenOf text (getD tokens f 0) ∷ []) (sig (tokenOf text (getD tokens f 0)) ∷ 1 ∷ 0 ∷ []) j at gates pinsIn gates′ pinsIn′ r
+      pub latch-def : c ≡ 0 → DefPlaced sig (latch (plainLatch (tokenOf text (getD tokens f 0)) (tokenOf text (getD tokens (f + 1) 0)))) j at gates pinsIn gates′ pinsIn′ r
           → DefPlaced sig (defAt text tokens n blocks j) j at gates pinsIn gates′ pinsIn′ r
       unfolding usedNames
       latch-def z p = subst (λ (d : Def). DefPlaced sig d j at gates pinsIn gates′ pinsIn′ r) (sym (latch-is z)) p
 
       pub cover-def : (c ≡ 0 → ⊥)
-          → GatePlaced sig (formNumber AndN) (tokensOf text (take (c - 1) (drop f tokens))) (map sig (tokensOf text (take (c - 1) (drop f tokens)))) j at gates pinsIn gates′ pinsIn′ r
+          → GatePlaced sig (andInHand at (c - 1)) (tokensOf text (take (c - 1) (drop f tokens))) (map sig (tokensOf text (take (c - 1) (drop f tokens)))) j at gates pinsIn gates′ pinsIn′ r
           → DefPlaced sig (defAt text tokens n blocks j) j at gates pinsIn gates′ pinsIn′ r
       unfolding usedNames
       cover-def z p =
+          let names = tokensOf text (take (c - 1) (drop f tokens)) in
           subst (λ (d : Def). DefPlaced sig d j at gates pinsIn gates′ pinsIn′ r) (sym (cover-is z))
-          (subst (λ (ns : List Bytes). GatePlaced sig (formNumber AndN) ns (map sig ns) j at gates pinsIn gates′ pinsIn′ r) (sym ins-are) p)
+          (subst (λ (ns : List Bytes). GatePlaced sig (andInHand at (length ns)) ns (map sig ns) j at gates pinsIn gates′ pinsIn′ r) (sym ins-are)
+          (subst (λ (k : ℕ). GatePlaced sig (andInHand at k) names (map sig names) j at gates pinsIn gates′ pinsIn′ r) (sym (names-length (cover-names z))) p))

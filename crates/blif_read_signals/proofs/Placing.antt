@@ -1,7 +1,7 @@
 -- Gates placed block by block: each stays where the next ones are written. Assumes nothing.
 use mathlib.Core.Path.{_≡_, refl, sym, ap, ap₂, _∙_}
 use mathlib.Core.Bool.{Bool, true, false, _&&_, false≢true}
-use mathlib.Core.List.{List, [], _∷_, _++_, map, flatMap, map-append}
+use mathlib.Core.List.{List, [], _∷_, map, flatMap, map-append}
 use mathlib.Core.Option.{Option, none, some}
 use Prim.Native.Nat.{ℕ, _+_, _-_, _*_, _≤_, _<_}
 use native.Mathlib.Omega.{arith}
@@ -16,8 +16,10 @@ use Rattle.lists.proofs.Range.{all-append, map-range, length-range, range-cons,
 use Rattle.signal.specs.Signal.{Signal, zeroS, oneS}
 use Rattle.signal.specs.Cell.{sigCell}
 use Rattle.gates.specs.Gate.{Gate, pins}
-use Rattle.gates.specs.Forms.{formCell}
-use Rattle.network.specs.Cells.{gateWidth, maxGates, maxPins}
+use Rattle.network.specs.Sizes.{maxGates, maxPins}
+use Rattle.gates.specs.declared.NaryType.the-variants as N
+use Rattle.network.specs.Record.{gateWidth, recordOf, handRecord}
+use Rattle.network.proofs.RecordCells.{record-in, hand-dff, hand-nary, length-handRecord}
 use Rattle.blif_text.specs.Decls.{Def, latch, cover, coverIns, usedNames}
 use Rattle.blif_text.specs.Blocks.{Blocks}
 use Rattle.blif_meaning.specs.WellFormed.{optName}
@@ -25,7 +27,7 @@ use Rattle.blif_reading.specs.Build.{optSig}
 use Rattle.blif_reading.specs.Working.{GateIn, placed, placedCount, WorkRoom}
 use Rattle.blif_reading.proofs.WorkingLaws.{record-kept, run-kept, used-more, gate-written}
 use Rattle.blif_read_signals.specs.Resolve.{isFound, allFound, placedTo, Signals, PlacedBy}
-use Rattle.blif_read_signals.specs.Steps.{GateRoom, placedForm, optCell, placedRun, DefPlaced}
+use Rattle.blif_read_signals.specs.Steps.{GateRoom, placedInHand, optCell, placedRun, DefPlaced}
 use Rattle.blif_read_signals.specs.declared.Placed.{Placed}
 use Rattle.blif_read_signals.specs.declared.Placed.the-variants as answer
 use Rattle.refusals.specs.declared.Refusal.{Refusal}
@@ -61,9 +63,13 @@ run-is sig signalOf s (latch l) f =
     λ i. d i ∷ e i ∷ r i ∷ []
 run-is sig signalOf s (cover ns ls) f = found-cells sig signalOf s (coverIns ns) f
 
-form-is : (signalOf : Bytes → Signal) (d : Def) → placedForm d ≡ formCell (placed signalOf d)
-form-is signalOf (latch l) = refl
-form-is signalOf (cover ns ls) = refl
+-- its record is that of the gate in hand
+record-is : (sig : Bytes → ℕ) (signalOf : Bytes → Signal) (at : ℕ) (d : Def) → handRecord at (placedInHand sig at d) ≡ recordOf at (placed signalOf d)
+record-is sig signalOf at (latch l) =
+    hand-dff at (record { a = sig (l .input) }) (record { a = optCell sig 1 (l .enable) }) (record { a = optCell sig 0 (l .reset) })
+    (record { dataIn = signalOf (l .input); enable = optSig signalOf oneS (l .enable); reset = optSig signalOf zeroS (l .reset) })
+record-is sig signalOf at (cover ns ls) =
+    hand-nary at N.And (record { first = at; count = length (coverIns ns) }) (map signalOf (coverIns ns)) (sym (length-map (coverIns ns) signalOf))
 
 run-length : (sig : Bytes → ℕ) (d : Def) → length (placedRun sig d) ≡ placedCount d
 unfolding coverIns
@@ -80,11 +86,11 @@ def-in {sig} d {j} {at} {gates} {pinsIn} {gates′} {pinsIn′} {r} p w t signal
     let x : Gate = placed signalOf d in
     let e : placedRun sig d ≡ map sigCell (pins x) = run-is sig signalOf s d t in
     let n : length (placedRun sig d) ≡ length (pins x) = ap length e ∙ length-map (pins x) sigCell in
-    let g : gates′ ≡ overwriteAt (j * gateWidth) (formCell x ∷ at ∷ length (pins x) ∷ []) gates =
-    p .records t ∙ ap₂ (λ (f k : ℕ). overwriteAt (j * gateWidth) (f ∷ at ∷ k ∷ []) gates) (form-is signalOf d) n in
+    let g : gates′ ≡ overwriteAt (j * gateWidth) (recordOf at x) gates =
+    p .records t ∙ ap (λ (c : List ℕ). overwriteAt (j * gateWidth) c gates) (record-is sig signalOf at d) in
     let q : pinsIn′ ≡ overwriteAt at (map sigCell (pins x)) pinsIn = p .runs t ∙ ap (λ (l : List ℕ). overwriteAt at l pinsIn) e in
     rw (g, q, n)
-    (gate-written gates pinsIn at j x (omega (arith, w .low, w .cells .gateRoom)) (omega (arith, n, run-length sig d, w .few, w .cells .pinRoom)))
+    (gate-written gates pinsIn at j x (record-in (w .low) (w .cells .gateRoom)) (omega (arith, n, run-length sig d, w .few, w .cells .pinRoom)))
 
 -- ---- the answer
 
@@ -172,17 +178,17 @@ module _ {sig : Bytes → ℕ} {def : ℕ → Def} {g : ℕ} {gates₀ pinsIn₀
     kept : all isFound (map sig (usedNames (def j))) ≡ true → (signalOf : Bytes → Signal) → Signals sig signalOf → (i : ℕ) → i < j → GateIn gates′ pinsIn′ (at + length (placedRun sig (def j))) i (placed signalOf (def i))
     kept t signalOf s i u =
         let k : ℕ = length (placedRun sig (def j)) in
-        let three : List ℕ = placedForm (def j) ∷ at ∷ k ∷ [] in
+        let cells : List ℕ = handRecord at (placedInHand sig at (def j)) in
         rw (p .records t, p .runs t)
         (used-more (at + k) (omega arith)
-        (run-kept at (placedRun sig (def j)) (omega arith) (record-kept j three (omega arith) (λ z. omega arith) (c .gates-in signalOf s i u))))
+        (run-kept at (placedRun sig (def j)) (omega arith) (record-kept j cells (length-handRecord at (placedInHand sig at (def j))) (λ z. omega arith) (c .gates-in signalOf s i u))))
 
     pub placing-next : {end : ℕ} → r ≡ answer.Pins end → Placing sig def g gates₀ pinsIn₀ gates′ pinsIn′ (j + 1) end
     placing-next {end} e =
         let x = pins-found (all isFound (map sig (usedNames (def j)))) _ (sym e ∙ p .end) in
         let t = x .0 in
-        let three : List ℕ = placedForm (def j) ∷ at ∷ length (placedRun sig (def j)) ∷ [] in
-        let lg : length gates′ ≡ length gates = ap length (p .records t) ∙ length-overwriteAt (j * gateWidth) three gates in
+        let cells : List ℕ = handRecord at (placedInHand sig at (def j)) in
+        let lg : length gates′ ≡ length gates = ap length (p .records t) ∙ length-overwriteAt (j * gateWidth) cells gates in
         let lp : length pinsIn′ ≡ length pinsIn = ap length (p .runs t) ∙ length-overwriteAt at (placedRun sig (def j)) pinsIn in
         record {
           within = omega arith;

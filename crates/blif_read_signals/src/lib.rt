@@ -1,16 +1,21 @@
 // Names that are used: refusal 11, and the gates first placed (Quaigh's src/io/blif.rs: build_network, its first loop).
 use blif_text::block_at;
 use blif_text::token;
-use gates::DFF;
-use gates::NARY_AND;
+use gates::Gate;
+use gates::NaryType;
+use gates::PinRun;
 use name_index::find_signal;
+use network::lay_gate;
 use network::put_record;
 use refusals::Refusal;
-ghost use mathlib.Core.List.{[], _∷_, map};
+use signal::Signal;
+ghost use mathlib.Core.List.{map};
 ghost use Prim.Native.Nat.{_+_, _≤_};
 ghost use lib.ListN.{length, getD, take, drop};
 ghost use Rattle.lists.specs.Lists.{sumOf};
-ghost use Rattle.network.specs.Cells.{maxGates, maxPins};
+ghost use Rattle.network.specs.Sizes.{maxGates, maxPins};
+ghost use Rattle.blif_meaning.specs.Model.{plainLatch};
+ghost use Rattle.blif_text.specs.Decls.{latch};
 ghost use Rattle.blif_text.specs.Places.{tokenOf, tokensOf};
 ghost use Rattle.blif_text.specs.Walk.{Inside};
 ghost use Rattle.blif_text.specs.Blocks.{defAt, defsAt, Blocks};
@@ -18,14 +23,7 @@ ghost use Rattle.name_index.specs.Search.{signalIn};
 ghost use Rattle.name_index.specs.Index.{entriesOf, Index};
 ghost use Rattle.blif_reading.specs.Working.{placedCount, WorkRoom};
 ghost use Rattle.blif_read_signals.specs.Resolve.{Resolved, PlacedBy};
-ghost use Rattle.gates.specs.Gate.{AndN};
-ghost use Rattle.gates.specs.Forms.{formNumber, flopNumber};
-ghost use Rattle.blif_read_signals.specs.Steps.{NamesAt, GateRoom, GatePlaced, DefPlaced};
-
-// The cells of the constants one and zero.
-const ONE: u32 = 1;
-
-const ZERO: u32 = 0;
+ghost use Rattle.blif_read_signals.specs.Steps.{NamesAt, GateRoom, andInHand, GatePlaced, DefPlaced};
 
 // How many pins are in use, or the refusal of a name that is not defined.
 pub enum Placed {
@@ -71,16 +69,17 @@ fn place_latch(
 ) -> Placed
     requires { ⌜ Index (now text) (now index) k × NamesAt (now text) (now tokens) first 1 ⌝ }
     requires { ⌜ GateRoom (now gates) (now pins) j at 3 ⌝ }
-    ensures { λ r. ⌜ GatePlaced (signalIn (entriesOf (now (text .entry)) (now (index .entry)) k)) flopNumber (tokenOf (now (text .entry)) (getD (now (tokens .entry)) first 0) ∷ []) (signalIn (entriesOf (now (text .entry)) (now (index .entry)) k) (tokenOf (now (text .entry)) (getD (now (tokens .entry)) first 0)) ∷ 1 ∷ 0 ∷ []) j at (now (gates .entry)) (now (pins .entry)) (now (gates .exit)) (now (pins .exit)) r ⌝ }
+    ensures { λ r.
+        let sig = signalIn (entriesOf (now (text .entry)) (now (index .entry)) k) in
+        let d = latch (plainLatch (tokenOf (now (text .entry)) (getD (now (tokens .entry)) first 0)) (tokenOf (now (text .entry)) (getD (now (tokens .entry)) (first + 1) 0))) in
+        ⌜ DefPlaced sig d j at (now (gates .entry)) (now (pins .entry)) (now (gates .exit)) (now (pins .exit)) r ⌝ }
 {
-    let end = first + 1;
-    if !resolve_names(text, index, k, &tokens[first..end], &mut pins[at..]) {
+    let input = find_signal(text, index, k, token(text, tokens[first]));
+    if input == 0 {
         return Placed::Refused(Refusal::Undefined);
     }
-    pins[at + 1] = ONE;
-    pins[at + 2] = ZERO;
-    put_record(gates, j, DFF, at, 3);
-    Placed::Pins(at + 3)
+    let gate = Gate::Dff(Signal { a: input }, Signal::one(), Signal::zero());
+    Placed::Pins(lay_gate(gates, j, pins, at, gate))
 }
 
 // Places gate j for the cover whose inputs' names are count tokens from first on, with its pins from cell at on.
@@ -98,13 +97,17 @@ fn place_cover(
 ) -> Placed
     requires { ⌜ Index (now text) (now index) k × NamesAt (now text) (now tokens) first count ⌝ }
     requires { ⌜ GateRoom (now gates) (now pins) j at count ⌝ }
-    ensures { λ r. ⌜ GatePlaced (signalIn (entriesOf (now (text .entry)) (now (index .entry)) k)) (formNumber AndN) (tokensOf (now (text .entry)) (take count (drop first (now (tokens .entry))))) (map (signalIn (entriesOf (now (text .entry)) (now (index .entry)) k)) (tokensOf (now (text .entry)) (take count (drop first (now (tokens .entry)))))) j at (now (gates .entry)) (now (pins .entry)) (now (gates .exit)) (now (pins .exit)) r ⌝ }
+    ensures { λ r.
+        let sig = signalIn (entriesOf (now (text .entry)) (now (index .entry)) k) in
+        let names = tokensOf (now (text .entry)) (take count (drop first (now (tokens .entry)))) in
+        ⌜ GatePlaced sig (andInHand at count) names (map sig names) j at (now (gates .entry)) (now (pins .entry)) (now (gates .exit)) (now (pins .exit)) r ⌝ }
 {
     let end = first + count;
     if !resolve_names(text, index, k, &tokens[first..end], &mut pins[at..]) {
         return Placed::Refused(Refusal::Undefined);
     }
-    put_record(gates, j, NARY_AND, at, count);
+    let run = PinRun { first: at, count };
+    put_record(gates, j, at, Gate::Nary(NaryType::And, run));
     Placed::Pins(at + count)
 }
 

@@ -7,7 +7,7 @@ use native.Mathlib.Omega.{arith}
 use lib.ListN.{length}
 use Rattle.lists.specs.Lists.{sumOf}
 use Rattle.lists.proofs.Tests.{by-test}
-use Rattle.network.specs.Cells.{WithinSizes}
+use Rattle.network.specs.Sizes.{WithinSizes}
 use Rattle.blif_text.specs.Decls.{Decl, decls, ins, outs, defs}
 use Rattle.blif_text.specs.Places.{maxTokens}
 use Rattle.blif_text.specs.Walk.{stmtsFrom, StmtsAt}

@@ -8,7 +8,7 @@ use network::MAX_OUTPUTS;
 use network::MAX_PINS;
 ghost use mathlib.Core.Path.{_≡_};
 ghost use Prim.Native.Nat.{_+_, _-_, _*_, _≤_, _<_};
-ghost use Rattle.network.specs.Cells.{WithinSizes};
+ghost use Rattle.network.specs.Sizes.{WithinSizes};
 ghost use Rattle.blif_text.specs.Decls.{decls};
 ghost use Rattle.blif_text.specs.Places.{maxTokens};
 ghost use Rattle.blif_text.specs.Walk.{stmtsFrom, StmtsAt};

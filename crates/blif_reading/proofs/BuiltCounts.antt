@@ -15,7 +15,7 @@ use Rattle.signal.specs.Signal.{Signal}
 use Rattle.signal.specs.Cell.{sigCell}
 use Rattle.gates.specs.Gate.{AndN, OrN, Gate, Comb, pins}
 use Rattle.gates.specs.Forms.{formed}
-use Rattle.network.specs.Cells.{pinCells}
+use Rattle.network.specs.Record.{pinCells}
 use Rattle.blif_text.specs.Decls.{Def, latch, cover, coverIns}
 use Rattle.blif_meaning.specs.Model.{Col, C0, C1, Dash, Line}
 use Rattle.blif_reading.specs.Build.{literals, literalGate, lineGate, gateRun, coverGate, lineGates, blockGate, newGates, blockGates, allNewGates}

@@ -1,15 +1,12 @@
 -- The gates as built, in working cells, are a network that the sort takes. Assumes nothing.
-use mathlib.Core.Path.{_≡_, refl, sym, ap, _∙_, subst}
-use mathlib.Core.Bool.{Bool, true, false, _||_}
-use mathlib.Core.List.{List, _++_, map, List·Memᴰ}
+use mathlib.Core.Path.{_≡_, refl, sym, ap, ap₂, _∙_, subst}
+use mathlib.Core.Bool.{true}
+use mathlib.Core.List.{List, map, List·Memᴰ}
 use mathlib.Core.Option.{some}
-use Prim.Native.Nat.{ℕ, _+_, _*_, _≤_, _<_}
+use Prim.Native.Nat.{ℕ, _+_, _*_, _≤_}
 use native.Mathlib.Omega.{arith}
-use lib.Dec.{ltb}
 use lib.ListN.{length, getElem?, take, length-map, length-take}
-use borrow.Author.Tests.{lt-ltb, le-leb, ltb-false}
-use Rattle.lists.specs.Lists.{range, sumOf}
-use Rattle.lists.proofs.Tests.{or-left, or-right}
+use Rattle.lists.specs.Lists.{range}
 use Rattle.lists.proofs.Every.{every-place}
 use Rattle.lists.proofs.Places.{place-lt, lt-place, ext-place, map-map}
 use Rattle.lists.proofs.Range.{length-range, map-range}
@@ -19,15 +16,19 @@ use Rattle.signal.specs.Cell.{sigCell, sigOf}
 use Rattle.signal.proofs.Cells.{Small}
 use Rattle.signal.proofs.Cells.{signals-again}
 use Rattle.gates.specs.Gate.{Gate, pins}
-use Rattle.gates.specs.Forms.{formed, formCell, gateFrom}
+use Rattle.gates.specs.Forms.{formed, gateFrom}
 use Rattle.gates.proofs.Forms.{gate-again}
 use Rattle.network.specs.Net.{ValidNode, Valid}
-use Rattle.network.specs.Cells.{maxInputs, maxOutputs, maxGates, maxPins, WithinSizes, gateWidth, firstAt, countAt, gateAt, pinCells, lent, orBuf, netOf}
+use Rattle.network.specs.Cells.{lent, orBuf, netOf}
+use Rattle.network.specs.Sizes.{maxGates, maxPins}
+use Rattle.network.specs.Record.{gateWidth, gateAt, pinCells}
 use Rattle.network.specs.declared.Counts.{Counts}
 use Rattle.network.proofs.Lent.{valid-small}
 use Rattle.sort_order.specs.Sortable.{Sortable}
 use Rattle.blif_text.specs.Decls.{Decl, ins, outs, defs}
-use Rattle.blif_reading.specs.Read.{gateCount, pinCount, declFault, signalOf, builtFrom}
+use Rattle.blif_reading.specs.Read.{declFault, signalOf, builtFrom}
+use Rattle.network.proofs.RecordCells.{record-runs, gate-there}
+use Rattle.blif_reading.proofs.WorkingLaws.{gate-parts, gate-run}
 use Rattle.blif_reading.specs.Working.{GateIn, GatesIn, builtGates}
 use Rattle.blif_reading.proofs.SizeLimits.{Sized, sizes-within}
 use Rattle.blif_reading.proofs.BuiltCounts.{built-gates, built-pins, built-formed}
@@ -46,13 +47,13 @@ pub record BuiltIn (ds : List Decl) (c : Counts) (gates pinsIn outsIn : List ℕ
 -- ---- one gate
 
 -- a gate whose record and run stand in the cells is read back
-gate-held : (gates pinsIn : List ℕ) (used h : ℕ) (x : Gate) → GateIn gates pinsIn used h x → h * gateWidth + 2 < length gates → used ≤ length pinsIn → formed x ≡ true
+gate-held : (gates pinsIn : List ℕ) (used h : ℕ) (x : Gate) → GateIn gates pinsIn used h x → used ≤ length pinsIn → formed x ≡ true
     → ((s : Signal) → List·Memᴰ s (pins x) → Small (s .node)) → gateAt gates pinsIn h ≡ some x
-unfolding gateAt
-gate-held gates pinsIn used h x c r u f s =
-    let e : firstAt gates h + countAt gates h ≤ length pinsIn = omega (arith, c .count, c .within) in
-    rw (lt-ltb (h * gateWidth + 2) (length gates) r, le-leb (firstAt gates h + countAt gates h) (length pinsIn) e, c .form)
-    (ap (gateFrom (formCell x)) (ap (map sigOf) (c .run) ∙ signals-again (pins x) s) ∙ gate-again x f)
+gate-held gates pinsIn used h x c u f s =
+    let p = gate-parts c in
+    gate-there gates pinsIn h (record-runs (c .at) x (c .inside) (c .is) (omega (arith, c .within)))
+    ∙ ap₂ gateFrom (p .form) (ap (map sigOf) (gate-run c) ∙ signals-again (pins x) s)
+    ∙ gate-again x f
 
 -- ---- all of them
 
@@ -83,7 +84,6 @@ module _ {ds : List Decl} {c : Counts} {gates pinsIn outsIn : List ℕ} {used : 
   gate-back : (h : ℕ) (x : Gate) → getElem? built h ≡ some x → gateAt gates pinsIn h ≡ some x
   gate-back h x e =
       gate-held gates pinsIn used h x (b .held h x e)
-      (omega (arith, place-lt built h x e, b .gatesCounted, b .gatesRoom))
       (b .pinsRoom)
       (every-place (built-formed (signalOf ds) (defs ds)) h x e)
       (λ s m. node-small (s .node) (valid .pinsValid h x s (ap (λ (l : List Gate). getElem? l h) (sym (gates-are ds)) ∙ e) m))

@@ -14,7 +14,7 @@ use Rattle.refusals.specs.declared.Checked.{Checked}
 use Rattle.refusals.specs.declared.Checked.the-variants.{Fine, Refused}
 use Rattle.signal.specs.Signal.{Signal}
 use Rattle.network.specs.Net.{Net}
-use Rattle.network.specs.Cells.{maxInputs, maxOutputs, maxGates, maxPins}
+use Rattle.network.specs.Sizes.{maxInputs, maxOutputs, maxGates, maxPins}
 use Rattle.sort_order.specs.Sorted.{sorted}
 use Rattle.blif_text.specs.Places.{maxText}
 use Rattle.blif_text.specs.Statements.{parsed, firstBad}

@@ -1,30 +1,32 @@
 -- Gates in the reader's working cells while a network is built (document 01, src/io/blif.rs: `build_network`). Runs of pins stand in no
 -- fixed order there. Assumes nothing: these are definitions.
 use mathlib.Core.Path.{_≡_}
-use mathlib.Core.List.{List, [], _∷_, _++_, map}
-use mathlib.Core.Option.{Option, some}
+use mathlib.Core.List.{List, map}
+use mathlib.Core.Option.{some}
 use Prim.Native.Nat.{ℕ, _+_, _-_, _*_, _≤_}
-use lib.ListN.{length, getElem?}
-use Rattle.lists.specs.Lists.{Bytes, sumOf}
+use lib.ListN.{length, getElem?, take, drop}
+use Rattle.lists.specs.Lists.{Bytes}
 use Rattle.signal.specs.Signal.{Signal}
 use Rattle.signal.specs.Cell.{sigCell}
 use Rattle.gates.specs.Gate.{AndN, Gate, Comb, pins}
-use Rattle.gates.specs.Forms.{formCell}
-use Rattle.network.specs.Cells.{gateWidth, maxGates, maxPins, formAt, firstAt, countAt, runAt}
+use Rattle.network.specs.Sizes.{maxGates, maxPins}
+use Rattle.network.specs.Record.{gateWidth, recordOf, recordAt, RecordIn}
 use Rattle.blif_text.specs.Decls.{Def, latch, cover, coverIns}
 use Rattle.blif_reading.specs.Build.{latchGate, gatesFor}
 use Rattle.blif_reading.specs.TextModel.{blockOf}
 
 -- record h and its run of pins, within the first `used` pins, are those of the gate x
 pub record GateIn (gates pinsIn : List ℕ) (used h : ℕ) (x : Gate) : Type 0 where
-  -- the form number
-  pub form : formAt gates h ≡ formCell x
-  -- the pin count
-  pub count : countAt gates h ≡ length (pins x)
+  -- the record is within the cells
+  pub inside : RecordIn gates h
+  -- where its pins start
+  pub at : ℕ
+  -- the record
+  pub is : recordAt gates h ≡ recordOf at x
   -- the run is within the pins in use
-  pub within : firstAt gates h + length (pins x) ≤ used
+  pub within : at + length (pins x) ≤ used
   -- the pins
-  pub run : runAt gates pinsIn h ≡ map sigCell (pins x)
+  pub run : take (length (pins x)) (drop at pinsIn) ≡ map sigCell (pins x)
 
 -- the gates xs stand in the cells, from record 0 on
 abbrev pub GatesIn : List ℕ → List ℕ → ℕ → List Gate → Type 0

@@ -14,7 +14,8 @@ use Rattle.gates.specs.Gate.{XorN, XnorN, Buf, Gate, Comb, Dff, pins}
 use Rattle.gates.specs.Forms.{formNumber, flopNumber, formCell, kindOf}
 use Rattle.gates.specs.Decode.{kindComb}
 use Rattle.gates.proofs.Forms.{From, comb-number}
-use Rattle.network.specs.Cells.{formAt, firstAt, countAt, CellIs, runAt, gateAt, orBuf, HasRun}
+use Rattle.network.specs.Cells.{orBuf}
+use Rattle.network.specs.Record.{formAt, firstAt, countAt, CellIs, runAt, gateAt, HasRun}
 use Rattle.network.proofs.GateRead.{has-run, gate-is, run-pins}
 use Rattle.network.proofs.Records.{cut-run}
 use Rattle.blif_writing.specs.WrittenModel.{named, exclusive, maxExclusive, tooWide, wide}

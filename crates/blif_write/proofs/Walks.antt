@@ -14,7 +14,8 @@ use Rattle.gates.specs.declared.Gate as code
 use Rattle.gates.specs.declared.Gate.the-variants as G
 use Rattle.gates.specs.declared.Decoded.{Decoded}
 use Rattle.gates.specs.declared.Decoded.the-variants.{Good, Bad}
-use Rattle.network.specs.Cells.{gateAt, decodedAt, orBuf, cellGates}
+use Rattle.network.specs.Cells.{orBuf, cellGates}
+use Rattle.network.specs.Record.{gateAt, decodedAt}
 use Rattle.network.proofs.GateRead.{decoded-is, cell-gate}
 use Rattle.blif_writing.specs.Names.{nameBytes}
 use Rattle.blif_writing.specs.WrittenModel.{combBlock, combBlocks, latchBlocks, wide}

@@ -8,7 +8,9 @@ use Rattle.lists.specs.Lists.{Bytes, any}
 use Rattle.signal.specs.Signal.{Signal}
 use Rattle.gates.specs.Gate.{Gate}
 use Rattle.network.specs.Net.{Net}
-use Rattle.network.specs.Cells.{maxGates, gateAt, Lent, isNetwork, netOf}
+use Rattle.network.specs.Cells.{Lent, isNetwork, netOf}
+use Rattle.network.specs.Sizes.{maxGates}
+use Rattle.network.specs.Record.{gateAt}
 use Rattle.blif_meaning.specs.Model.{Block}
 use Rattle.blif_writing.specs.Names.{nameBytes}
 use Rattle.blif_writing.specs.WrittenModel.{inputNames, wide, latchBlocks, combBlocks, inverterBlock, inverters}

@@ -8,7 +8,7 @@ ghost use mathlib.Core.List.{[], _∷_, map};
 ghost use Prim.Native.Nat.{_≤_};
 ghost use lib.ListN.{length, set};
 ghost use Rattle.signal.specs.Cell.{sigOf};
-ghost use Rattle.network.specs.Cells.{maxGates, maxInputs};
+ghost use Rattle.network.specs.Sizes.{maxGates, maxInputs};
 ghost use Rattle.blif_write_names.specs.Text.{Wrote, Appended};
 ghost use Rattle.blif_write_inverters.specs.Marks.{SignalsMarked, inverterAt, gateInverters, inputInverters};
 

@@ -8,7 +8,8 @@ use Rattle.signal.specs.Cell.{sigCell}
 use Rattle.refusals.specs.declared.Refusal.{Refusal}
 use Rattle.refusals.specs.declared.Refusal.the-variants as refusal
 use Rattle.network.specs.Net.{Net}
-use Rattle.network.specs.Cells.{gateCells, pinCells, Lent, lent, countsOf, netOf, isNetwork}
+use Rattle.network.specs.Cells.{Lent, lent, countsOf, netOf, isNetwork}
+use Rattle.network.specs.Record.{gateCells, pinCells}
 use Rattle.blif_writing.specs.WrittenModel.{wide}
 use Rattle.blif_writing.specs.Text.{textOf}
 use Rattle.blif_reading.specs.Read.{Result, read, refused, readText}

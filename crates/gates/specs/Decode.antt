@@ -40,6 +40,22 @@ gateIn (G.Nary t r) pins = Comb (naryForm t) (map sigOf (runOf r pins))
 gateIn (G.Buf a) pins = Comb data-gate.Buf (sigOf (a .a) ∷ [])
 gateIn (G.Dff d e r) pins = Dff (record { dataIn = sigOf (d .a); enable = sigOf (e .a); reset = sigOf (r .a) })
 
+-- the pin cells of a `Gate`: the cells of its signals, or its run
+abbrev pub pinsIn : Gate → List ℕ → List ℕ
+pinsIn (G.Binary t a b) pins = a .a ∷ b .a ∷ []
+pinsIn (G.Ternary t a b c) pins = a .a ∷ b .a ∷ c .a ∷ []
+pinsIn (G.Nary t r) pins = runOf r pins
+pinsIn (G.Buf a) pins = a .a ∷ []
+pinsIn (G.Dff d e r) pins = d .a ∷ e .a ∷ r .a ∷ []
+
+-- how many pins a `Gate` has
+abbrev pub pinCount : Gate → ℕ
+pinCount (G.Binary t a b) = 2
+pinCount (G.Ternary t a b c) = 3
+pinCount (G.Nary t r) = r .count
+pinCount (G.Buf a) = 1
+pinCount (G.Dff d e r) = 3
+
 -- the gate that was decoded, if one was
 abbrev pub decodedIn : Decoded → List ℕ → Option data-gate.Gate
 decodedIn (Good g) pins = some (gateIn g pins)

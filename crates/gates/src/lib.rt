@@ -2,7 +2,7 @@
 use signal::Signal;
 ghost use mathlib.Core.Path.{_≡_};
 ghost use Rattle.gates.specs.Forms.{kindOf, kindNumber, kindTakes};
-ghost use Rattle.gates.specs.Decode.{kindOfGate, kindComb, cellSignal, kindGate, withPins};
+ghost use Rattle.gates.specs.Decode.{pinCount, kindOfGate, kindComb, cellSignal, kindGate, withPins};
 
 // Form numbers, for those who write a gate's record or look at its form alone.
 pub const NARY_AND: u32 = 7;
@@ -240,5 +240,18 @@ impl Gate {
         ensures { λ r. ⌜ r ≡ kindComb (kindOfGate self) ⌝ }
     {
         self.kind().is_comb()
+    }
+
+    // How many pins the gate has.
+    pub fn pin_count(self) -> usize
+        ensures { λ r. ⌜ r ≡ pinCount self ⌝ }
+    {
+        match self {
+            Gate::Binary(_, _, _) => 2,
+            Gate::Ternary(_, _, _, _) => 3,
+            Gate::Nary(_, run) => run.count,
+            Gate::Buf(_) => 1,
+            Gate::Dff(_, _, _) => 3,
+        }
     }
 }

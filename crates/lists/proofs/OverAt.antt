@@ -3,7 +3,7 @@ use mathlib.Core.Path.{_≡_, refl, sym, ap, _∙_}
 use mathlib.Core.List.{List, [], _∷_, _++_, append-nil}
 use Prim.Native.Nat.{ℕ, zero, suc, _+_, _-_, _≤_, _<_}
 use native.Mathlib.Omega.{arith}
-use native.Mathlib.Nat.{suc-add, add-zero}
+use native.Mathlib.Nat.{suc-add, add-zero, zero-add}
 use lib.ListN.{length, getD, take, drop, set, length-drop, drop-of-length-le}
 use lib.Seq.{take-all, getD-take, getD-drop}
 use Rattle.lists.specs.Lists.{overwrite, overwriteAt}
@@ -116,3 +116,49 @@ part-back k o q =
 pub part-laid : (k : ℕ) (t o : List ℕ) {q : List ℕ} → k ≤ length o → q ≡ overwrite t (take (length o - k) (drop k o))
     → take k o ++ (q ++ drop (length o - k) (drop k o)) ≡ overwriteAt k t o
 part-laid k t o {q} h e = part-back k o q ∙ ap (λ (l : List ℕ). take k o ++ l) (e ∙ ap (overwrite t) (part-is k o)) ∙ overwriteAt-rest k t o h
+
+-- ---- cells laid over part of what was laid
+
+overwrite-inner₀ : (t r o : List ℕ) → length t ≤ length r → overwrite t (overwrite r o) ≡ overwrite (overwrite t r) o
+overwrite-inner₀ [] r o h = refl
+overwrite-inner₀ (x ∷ t) [] o h = absurd (omega arith)
+overwrite-inner₀ (x ∷ t) (y ∷ r) [] h = refl
+overwrite-inner₀ (x ∷ t) (y ∷ r) (z ∷ o) h = ap (λ (l : List ℕ). x ∷ l) (overwrite-inner₀ t r o (omega arith))
+
+overwrite-inner₁ : (j : ℕ) (t r o : List ℕ) → j + length t ≤ length r → overwriteAt j t (overwrite r o) ≡ overwrite (overwriteAt j t r) o
+overwrite-inner₁ zero t r o h = overwrite-inner₀ t r o (omega arith)
+overwrite-inner₁ (suc j) t [] o h = absurd (omega arith)
+overwrite-inner₁ (suc j) t (y ∷ r) [] h = refl
+overwrite-inner₁ (suc j) t (y ∷ r) (z ∷ o) h = ap (λ (l : List ℕ). y ∷ l) (overwrite-inner₁ j t r o (omega arith))
+
+pub overwrite-inner : (k j : ℕ) (t r o : List ℕ) → j + length t ≤ length r → overwriteAt (k + j) t (overwriteAt k r o) ≡ overwriteAt k (overwriteAt j t r) o
+overwrite-inner zero j t r o h = rw (zero-add j) (overwrite-inner₁ j t r o h)
+overwrite-inner (suc k) j t r [] h = rw (suc-add k j) refl
+overwrite-inner (suc k) j t r (z ∷ o) h = rw (suc-add k j) (ap (λ (l : List ℕ). z ∷ l) (overwrite-inner k j t r o h))
+
+-- what stands there, laid there again
+pub overwriteAt-same : (k n : ℕ) (o : List ℕ) → overwriteAt k (take n (drop k o)) o ≡ o
+overwriteAt-same zero zero o = refl
+overwriteAt-same zero (suc n) [] = refl
+overwriteAt-same zero (suc n) (y ∷ o) = ap (λ (l : List ℕ). y ∷ l) (overwriteAt-same zero n o)
+overwriteAt-same (suc k) n [] = refl
+overwriteAt-same (suc k) n (y ∷ o) = ap (λ (l : List ℕ). y ∷ l) (overwriteAt-same k n o)
+
+-- two cells are two stores
+pub overwrite-two : (k x y : ℕ) (o : List ℕ) → set (set o k x) (k + 1) y ≡ overwriteAt k (x ∷ y ∷ []) o
+overwrite-two k x y o =
+    let e : k + 1 ≡ suc k = omega arith in
+    rw e (sym (overwrite-first k x (y ∷ []) o ∙ overwrite-first (suc k) y [] (set o k x) ∙ overwriteAt-nil (suc (suc k)) (set (set o k x) (suc k) y)))
+
+-- a longer list laid over a shorter one
+overwrite-again : (t r o : List ℕ) → length r ≤ length t → overwrite t (overwrite r o) ≡ overwrite t o
+overwrite-again [] [] o h = refl
+overwrite-again [] (y ∷ r) o h = absurd (omega arith)
+overwrite-again (x ∷ t) [] o h = refl
+overwrite-again (x ∷ t) (y ∷ r) [] h = refl
+overwrite-again (x ∷ t) (y ∷ r) (z ∷ o) h = ap (λ (l : List ℕ). x ∷ l) (overwrite-again t r o (omega arith))
+
+pub overwriteAt-again : (k : ℕ) (t r o : List ℕ) → length r ≤ length t → overwriteAt k t (overwriteAt k r o) ≡ overwriteAt k t o
+overwriteAt-again zero t r o h = overwrite-again t r o h
+overwriteAt-again (suc k) t r [] h = refl
+overwriteAt-again (suc k) t r (z ∷ o) h = ap (λ (l : List ℕ). z ∷ l) (overwriteAt-again k t r o h)

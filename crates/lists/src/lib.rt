@@ -1,7 +1,8 @@
-// Slices read, compared and cleared.
+// Slices read, compared, copied and cleared.
 ghost use mathlib.Core.Path.{_≡_};
+ghost use Prim.Native.Nat.{_+_, _≤_};
 ghost use lib.ListN.{length, getD};
-ghost use Rattle.lists.specs.Lists.{same, zeros};
+ghost use Rattle.lists.specs.Lists.{same, zeros, overwriteAt};
 
 // Whether two byte slices hold the same bytes.
 pub fn equal(a: &[u8], b: &[u8]) -> bool
@@ -28,6 +29,18 @@ pub fn cell_at(cells: &[u32], i: usize) -> u32
         return cells[i];
     }
     0
+}
+
+// Copies the cells to others, from cell at on.
+pub fn copy_cells(cells: &[u32], to: &mut [u32], at: usize)
+    requires { ⌜ at + length (now cells) ≤ length (now to) ⌝ }
+    ensures { λ _. ⌜ now (to .exit) ≡ overwriteAt at (now (cells .entry)) (now (to .entry)) ⌝ }
+{
+    let mut i = 0;
+    while i < cells.len() {
+        to[at + i] = cells[i];
+        i += 1;
+    }
 }
 
 // Zero in every cell. No cell is read: the caller may lend memory that was never written.

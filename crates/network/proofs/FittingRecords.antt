@@ -1,5 +1,5 @@
 -- Records that fit, one run of pins after the other, are the cells of the gates that they hold. Assumes nothing.
-use mathlib.Core.Path.{_≡_, refl, sym, ap, _∙_}
+use mathlib.Core.Path.{_≡_, refl, sym, ap, ap₂, _∙_}
 use mathlib.Core.Bool.{true}
 use mathlib.Core.List.{List, _∷_, _++_, map, append-nil, append-assoc, List·Memᴰ}
 use mathlib.Core.Option.{some}
@@ -17,8 +17,10 @@ use Rattle.signal.proofs.Cells.{cells-again}
 use Rattle.gates.specs.Gate.{Gate, pins}
 use Rattle.gates.specs.Forms.{formCell, formed, kindOf, kindTakes}
 use Rattle.gates.proofs.Forms.{From, gate-from, gate-made}
-use Rattle.network.specs.Cells.{gateWidth, formAt, firstAt, countAt, runAt, gateAt, gateCells, pinCells, startAt, recordFits, orBuf}
-use Rattle.network.proofs.RecordCells.{records-at, start-mono, gate-there}
+use Rattle.network.specs.Cells.{startAt, recordFits, orBuf}
+use Rattle.network.specs.Record.{gateWidth, recordOf, recordAt, formAt, firstAt, countAt, runAt, gateAt, gateCells, pinCells}
+use Rattle.network.proofs.RecordCells.{record-in, records-split, start-mono, gate-there}
+use Rattle.network.proofs.GateRead.{gate-record}
 
 -- n records fit, their runs fill p pins, and the pins are 32-bit numbers
 pub record Fitting (cells pinsL : List ℕ) (n p : ℕ) : Type 0 where
@@ -61,7 +63,7 @@ module _ {cells pinsL : List ℕ} {n p : ℕ} (c : Fitting cells pinsL n p) wher
       gate-from (formAt cells g) (map sigOf (runAt cells pinsL g)) (made .0) (made .1) in
       record {
         gate = made .0;
-        is = gate-there cells pinsL g (omega (arith, c .inside)) end ∙ made .1;
+        is = gate-there cells pinsL g (record { cells = record-in h (c .inside); within = end }) ∙ made .1;
         number = from .number;
         first = at;
         run = from .all-pins;
@@ -95,12 +97,13 @@ module _ {cells pinsL : List ℕ} {n p : ℕ} (c : Fitting cells pinsL n p) wher
       let l : g < n = omega arith in
       let r = read-at g l in
       let e : countAt cells g ≡ length (pins (heldAt cells pinsL g)) = sym (r .count) ∙ sym (ap (λ (x : Gate). length (pins x)) (held-is g l)) in
-      let f : formAt cells g ≡ formCell (heldAt cells pinsL g) = sym (r .number) ∙ sym (ap formCell (held-is g l)) in
+      let m : recordAt cells g ≡ recordOf (startAt cells g) (heldAt cells pinsL g) =
+      gate-record cells pinsL g (r .gate) (r .is) ∙ ap₂ recordOf (r .first) (sym (held-is g l)) in
       let ih : take (k * gateWidth) (drop (suc g * gateWidth) cells) ≡ gateCells (startAt cells g + countAt cells g) (map (heldAt cells pinsL) (range (suc g) k)) =
       gates-laid k (suc g) (omega arith) in
-      records-at cells g k (omega (arith, c .inside))
-      ∙ ap (λ (m : List ℕ). formAt cells g ∷ firstAt cells g ∷ countAt cells g ∷ m) ih
-      ∙ (λ i. f i ∷ r .first i ∷ e i ∷ gateCells (startAt cells g + e i) (map (heldAt cells pinsL) (range (suc g) k)))
+      records-split cells g k
+      ∙ ap₂ _++_ m ih
+      ∙ ap (λ (n : ℕ). recordOf (startAt cells g) (heldAt cells pinsL g) ++ gateCells (startAt cells g + n) (map (heldAt cells pinsL) (range (suc g) k))) e
 
   -- the pins before gate g and the pins of k gates from it on are the pins before gate g + k
   pub pins-laid : (k g : ℕ) → g + k ≤ n

@@ -2,9 +2,9 @@
 -- it is one of the gates that the cells hold. Assumes nothing.
 use mathlib.Core.Path.{_≡_, sym, ap, _∙_}
 use mathlib.Core.Bool.{Bool, true}
-use mathlib.Core.List.{List, map}
+use mathlib.Core.List.{List, [], _∷_, map}
 use mathlib.Core.Option.{Option, some, Option·none-ne-some}
-use Prim.Native.Nat.{ℕ, _+_, _*_, _≤_, _<_}
+use Prim.Native.Nat.{ℕ, suc, _+_, _*_, _≤_, _<_}
 use native.Mathlib.Omega.{arith}
 use native.Mathlib.Nat.{zero-add}
 use lib.Dec.{leb, ltb}
@@ -23,16 +23,17 @@ use Rattle.gates.specs.declared.Decoded.{Decoded}
 use Rattle.gates.specs.declared.Decoded.the-variants.{Good, Bad}
 use Rattle.gates.proofs.Forms.{From, gate-from}
 use Rattle.gates.proofs.Decode.{RunAt, decode-is, run-decoded}
-use Rattle.network.specs.Cells.{gateWidth, formAt, firstAt, countAt, runAt, hasRun, gateAt, decodedAt, orBuf, cellGates, HasRun}
-use Rattle.network.proofs.RecordCells.{gate-some, decoded-some, gate-none, decoded-none}
+use Rattle.network.specs.Cells.{orBuf, cellGates}
+use Rattle.network.specs.Record.{gateWidth, recordOf, recordAt, formAt, firstAt, countAt, runAt, hasRun, gateAt, decodedAt, HasRun}
+use Rattle.network.proofs.RecordCells.{record-parts, gate-some, decoded-some, gate-none, decoded-none}
 
 -- what the test for a record and its run gives
 there : (cells ps : List ℕ) (g : ℕ) → hasRun cells ps g ≡ true → HasRun cells ps g
 there cells ps g t =
-    let first : Bool = ltb (g * gateWidth + 2) (length cells) in
+    let first : Bool = leb (suc g * gateWidth) (length cells) in
     let last : Bool = leb (firstAt cells g + countAt cells g) (length ps) in
     record {
-      cells = ltb-true (g * gateWidth + 2) (length cells) (and-left first last t);
+      cells = record { within = leb-true (suc g * gateWidth) (length cells) (and-left first last t) };
       within = leb-true (firstAt cells g + countAt cells g) (length ps) (and-right first last t);
     }
 
@@ -77,6 +78,14 @@ module _ (cells ps : List ℕ) (g : ℕ) (x : Gate) (e : gateAt cells ps g ≡ s
 
   pub gate-is : From (formAt cells g) (map sigOf (runAt cells ps g)) x
   gate-is = gate-from (formAt cells g) (map sigOf (runAt cells ps g)) x (sym (gate-some cells ps g is-there) ∙ e)
+
+  -- its record is the gate's
+  pub gate-record : recordAt cells g ≡ recordOf (firstAt cells g) x
+  unfolding recordOf
+  gate-record =
+      let n : countAt cells g ≡ length (pins x) =
+      sym (ap length (gate-is .all-pins) ∙ length-map (runAt cells ps g) sigOf ∙ length-run (firstAt cells g) (countAt cells g) ps (has-run .within)) in
+      record-parts cells g (has-run .cells) ∙ (λ i. sym (gate-is .number) i ∷ firstAt cells g ∷ n i ∷ [])
 
   pub run-pins : length (runAt cells ps g) ≡ length (pins x)
   run-pins = sym (length-map (runAt cells ps g) sigOf) ∙ ap length (sym (gate-is .all-pins))

@@ -18,8 +18,9 @@ use Rattle.signal.proofs.Cells.{Small, signals-again}
 use Rattle.gates.specs.Gate.{Gate, pins}
 use Rattle.gates.specs.Forms.{formCell, formed, kindOf, kindTakes, gateFrom}
 use Rattle.gates.proofs.Forms.{gate-again, takes-formed}
-use Rattle.network.specs.Cells.{gateWidth, formAt, firstAt, countAt, runAt, gateAt, gateCells, pinCells, startAt, recordFits, orBuf}
-use Rattle.network.proofs.RecordCells.{records-at, gate-there}
+use Rattle.network.specs.Cells.{startAt, recordFits, orBuf}
+use Rattle.network.specs.Record.{gateWidth, recordOf, recordAt, formAt, firstAt, countAt, runAt, gateAt, gateCells, pinCells, RecordIn}
+use Rattle.network.proofs.RecordCells.{length-recordOf, length-recordAt, record-is, record-runs, records-split, gate-there}
 use Rattle.network.proofs.FittingRecords.{heldAt}
 use Rattle.network.proofs.PinCells.{pins-next}
 
@@ -41,10 +42,15 @@ record First (cells pinsL : List ℕ) (g : ℕ) (x : Gate) : Type 0 where
   fits : recordFits cells g ≡ true
 
 module _ {cells pinsL : List ℕ} {g : ℕ} {x : Gate} {xs : List Gate} (c : Holds cells pinsL g (x ∷ xs)) where
-  cells-split : formAt cells g ∷ firstAt cells g ∷ countAt cells g ∷ take (length xs * gateWidth) (drop (suc g * gateWidth) cells)
-      ≡ formCell x ∷ startAt cells g ∷ length (pins x) ∷ gateCells (startAt cells g + length (pins x)) xs
+  inside : RecordIn cells g
+  inside = record { within = omega (arith, c .cellsInside) }
+
+  cells-split : (recordAt cells g ≡ recordOf (startAt cells g) x)
+      × (take (length xs * gateWidth) (drop (suc g * gateWidth) cells) ≡ gateCells (startAt cells g + length (pins x)) xs)
   unfolding gateCells
-  cells-split = sym (records-at cells g (length xs) (omega (arith, c .cellsInside))) ∙ c .cellsHeld
+  cells-split =
+      same-parts (recordAt cells g) (recordOf (startAt cells g) x) (length-recordAt cells g inside ∙ sym (length-recordOf (startAt cells g) x))
+      (sym (records-split cells g (length xs)) ∙ c .cellsHeld)
 
   pins-split : take (length (pins x)) (drop (startAt cells g) pinsL) ++ take (length (pinCells xs)) (drop (startAt cells g + length (pins x)) pinsL)
       ≡ map sigCell (pins x) ++ pinCells xs
@@ -66,10 +72,10 @@ module _ {cells pinsL : List ℕ} {g : ℕ} {x : Gate} {xs : List Gate} (c : Hol
 
   first-is : First cells pinsL g x
   first-is =
-      let q = cells-split in
-      let f : formAt cells g ≡ formCell x = cc in
-      let s : firstAt cells g ≡ startAt cells g = cc in
-      let k : countAt cells g ≡ length (pins x) = cc in
+      let q = record-is inside (cells-split .0) in
+      let f : formAt cells g ≡ formCell x = q .form in
+      let s : firstAt cells g ≡ startAt cells g = q .first in
+      let k : countAt cells g ≡ length (pins x) = q .count in
       let good : formed x ≡ true = c .allFormed x (List·Memᴰ·head refl) in
       let run : map sigOf (runAt cells pinsL g) ≡ pins x =
       ap₂ (λ (m i : ℕ). map sigOf (take m (drop i pinsL))) k s
@@ -79,7 +85,7 @@ module _ {cells pinsL : List ℕ} {g : ℕ} {x : Gate} {xs : List Gate} (c : Hol
         form = f;
         start = s;
         size = k;
-        gate = gate-there cells pinsL g (omega (arith, c .cellsInside)) (omega (arith, c .pinsWithin, pins-next x xs)) ∙ ap₂ gateFrom f run ∙ gate-again x good;
+        gate = gate-there cells pinsL g (record-runs (startAt cells g) x inside (cells-split .0) (omega (arith, c .pinsWithin, pins-next x xs))) ∙ ap₂ gateFrom f run ∙ gate-again x good;
         fits =
             and-both (kindTakes (kindOf (formAt cells g)) (countAt cells g)) (eqb (firstAt cells g) (startAt cells g))
             (ap₂ (λ (a b : ℕ). kindTakes (kindOf a) b) f k ∙ takes-formed x ∙ good)
@@ -88,12 +94,10 @@ module _ {cells pinsL : List ℕ} {g : ℕ} {x : Gate} {xs : List Gate} (c : Hol
 
   later-holds : Holds cells pinsL (suc g) xs
   later-holds =
-      let q = cells-split in
       let k : countAt cells g ≡ length (pins x) = first-is .size in
       let e : startAt cells g + length (pins x) ≡ startAt cells g + countAt cells g = omega arith in
-      let r : take (length xs * gateWidth) (drop (suc g * gateWidth) cells) ≡ gateCells (startAt cells g + length (pins x)) xs = cc in
       record {
-        cellsHeld = r ∙ ap (λ (i : ℕ). gateCells i xs) e;
+        cellsHeld = cells-split .1 ∙ ap (λ (i : ℕ). gateCells i xs) e;
         pinsHeld = ap (λ (i : ℕ). take (length (pinCells xs)) (drop i pinsL)) (sym e) ∙ runs-split .1;
         cellsInside = omega (arith, c .cellsInside);
         pinsWithin = omega (arith, c .pinsWithin, pins-next x xs);

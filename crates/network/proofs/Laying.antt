@@ -3,18 +3,22 @@ use mathlib.Core.Path.{_≡_, refl, sym, ap, _∙_}
 use mathlib.Core.List.{List, [], _∷_, map}
 use Prim.Native.Nat.{ℕ, suc, _+_, _*_, _≤_}
 use native.Mathlib.Omega.{arith}
-use lib.ListN.{length, take, length-map}
+use lib.ListN.{length, take, length-map, length-append}
 use Rattle.lists.specs.Lists.{overwrite}
 use Rattle.lists.proofs.Over.{take-overwrite}
 use Rattle.signal.specs.Cell.{sigCell}
 use Rattle.gates.specs.Gate.{Gate, pins}
 use Rattle.network.specs.Net.{Net}
-use Rattle.network.specs.Cells.{gateWidth, gateCells, pinCells, lent, countsOf, Laid}
+use Rattle.network.specs.Cells.{lent, countsOf, Laid}
+use Rattle.network.specs.Record.{recordOf, gateWidth, gateCells, pinCells}
+use Rattle.network.proofs.RecordCells.{length-recordOf}
 
 pub length-gateCells : (at : ℕ) (xs : List Gate) → length (gateCells at xs) ≡ length xs * gateWidth
 unfolding gateCells
 length-gateCells at [] = refl
-length-gateCells at (x ∷ xs) = omega (arith, length-gateCells (at + length (pins x)) xs)
+length-gateCells at (x ∷ xs) =
+    length-append (recordOf at x) (gateCells (at + length (pins x)) xs)
+    ∙ omega (arith, length-recordOf at x, length-gateCells (at + length (pins x)) xs)
 
 -- where there is room, the cells in use are those of the network
 pub laid-overwrite : (net : Net) (gs ps os : List ℕ) → length (net .gates) * gateWidth ≤ length gs → length (pinCells (net .gates)) ≤ length ps

@@ -13,4 +13,5 @@ pub mod FittingRecords
 pub mod HeldGates
 pub mod Lent
 pub mod Laying
+pub mod LaidGates
 pub mod GateRead

@@ -8,7 +8,7 @@ use lib.ListN.{length, length-map, length-append}
 use Rattle.signal.specs.Signal.{Signal}
 use Rattle.signal.specs.Cell.{sigCell}
 use Rattle.gates.specs.Gate.{Gate, pins}
-use Rattle.network.specs.Cells.{pinCells}
+use Rattle.network.specs.Record.{pinCells}
 
 -- the first gate's pins and those of the others
 pub pins-next : (x : Gate) (xs : List Gate) → length (pinCells (x ∷ xs)) ≡ length (pins x) + length (pinCells xs)

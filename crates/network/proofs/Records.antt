@@ -3,7 +3,7 @@ use mathlib.Core.Path.{_≡_, refl, sym, ap, ap₂, _∙_}
 use mathlib.Core.Bool.{Bool, true, false, true≢false}
 use mathlib.Core.List.{List}
 use mathlib.Core.Option.{none}
-use Prim.Native.Nat.{ℕ, _+_, _-_, _*_, _/_, _≤_, _<_}
+use Prim.Native.Nat.{ℕ, suc, _+_, _-_, _*_, _/_, _≤_, _<_}
 use native.Mathlib.Omega.{arith}
 use native.Mathlib.Numerals.{add-one}
 use lib.Dec.{eqb, leb, ltb}
@@ -20,9 +20,11 @@ use Rattle.gates.specs.Decode.{withPins}
 use Rattle.gates.specs.declared.Kind.{Kind}
 use Rattle.gates.specs.declared.Decoded.{Decoded}
 use Rattle.gates.specs.declared.Decoded.the-variants.{Bad}
-use Rattle.network.specs.Cells.{maxInputs, maxOutputs, maxGates, maxPins, WithinSizes, gateWidth, formAt, firstAt, countAt, runAt, CellIs, hasRun, gateAt, decodedAt, sizesFit, startAt, recordFits, recordsFit, validNode, allValid, lent, isNetwork}
+use Rattle.network.specs.Cells.{sizesFit, startAt, recordFits, recordsFit, validNode, allValid, lent, isNetwork}
+use Rattle.network.specs.Sizes.{maxInputs, maxOutputs, maxGates, maxPins, WithinSizes}
+use Rattle.network.specs.Record.{gateWidth, formAt, firstAt, countAt, runAt, CellIs, hasRun, gateAt, decodedAt}
 use Rattle.network.specs.declared.Counts.{Counts}
-use Rattle.network.proofs.RecordCells.{gate-none, decoded-none, decoded-there}
+use Rattle.network.proofs.RecordCells.{record-below, gate-none, decoded-none, decoded-there}
 
 -- ---- valid signals
 
@@ -126,13 +128,13 @@ module _ {cells : List ℕ} {n at g : ℕ} (c : Following cells n at g) where
 -- ---- one gate
 
 module _ (cells pins : List ℕ) (g : ℕ) where
-  record-past : length cells / 3 ≤ g → hasRun cells pins g ≡ false
-  record-past h = rw (le-ltb (g * gateWidth + 2) (length cells) (omega arith))
+  record-past : length cells / gateWidth ≤ g → hasRun cells pins g ≡ false
+  record-past h = rw (lt-leb (suc g * gateWidth) (length cells) (omega arith))
 
-  pub no-record : length cells / 3 ≤ g → none ≡ gateAt cells pins g
+  pub no-record : length cells / gateWidth ≤ g → none ≡ gateAt cells pins g
   no-record h = sym (gate-none cells pins g (record-past h))
 
-  pub bad-record : length cells / 3 ≤ g → Bad ≡ decodedAt cells pins g
+  pub bad-record : length cells / gateWidth ≤ g → Bad ≡ decodedAt cells pins g
   bad-record h = sym (decoded-none cells pins g (record-past h))
 
   module _ {first count : ℕ} (f : CellIs (firstAt cells g) first) (c : CellIs (countAt cells g) count) where
@@ -140,7 +142,7 @@ module _ (cells pins : List ℕ) (g : ℕ) where
     end-is = sym (ap₂ _+_ (f .cell) (c .cell))
 
     run-past : length pins < first + count → hasRun cells pins g ≡ false
-    run-past h = rw (lt-leb (firstAt cells g + countAt cells g) (length pins) (omega (arith, end-is)), and-false (ltb (g * gateWidth + 2) (length cells)))
+    run-past h = rw (lt-leb (firstAt cells g + countAt cells g) (length pins) (omega (arith, end-is)), and-false (leb (suc g * gateWidth) (length cells)))
 
     pub no-run : length pins < first + count → none ≡ gateAt cells pins g
     no-run h = sym (gate-none cells pins g (run-past h))
@@ -152,11 +154,11 @@ module _ (cells pins : List ℕ) (g : ℕ) where
     pub cut-run : take (first + count - first) (drop first pins) ≡ runAt cells pins g
     cut-run = part-run first count pins ∙ ap₂ (λ (m i : ℕ). take m (drop i pins)) (c .cell) (f .cell)
 
-    pub gate-read : {form : ℕ} {k : Kind} {d : Decoded} → g < length cells / 3 → first + count ≤ length pins → form ≡ formAt cells g → k ≡ kindOf form
+    pub gate-read : {form : ℕ} {k : Kind} {d : Decoded} → g < length cells / gateWidth → first + count ≤ length pins → form ≡ formAt cells g → k ≡ kindOf form
         → d ≡ withPins k first (take (first + count - first) (drop first pins)) → d ≡ decodedAt cells pins g
     gate-read h l p q e =
         e ∙ (λ i. withPins ((q ∙ ap kindOf p) i) (f .cell i) (cut-run i))
-        ∙ sym (decoded-there cells pins g (omega arith) (omega (arith, end-is)))
+        ∙ sym (decoded-there cells pins g (record { cells = record-below h; within = omega (arith, end-is) }))
 
 -- ---- all of refusal 20
 

@@ -2,4 +2,6 @@ pub mod Net
 pub mod Clock
 pub mod Settle
 pub mod Renumber
+pub mod Sizes
+pub mod Record
 pub mod Cells

@@ -1,6 +1,8 @@
 // Networks in lent cells: valid signals, the layout that refusal 20 asks for, and one gate read out of the cells
 // (Quaigh's src/network/network.rs).
 use gates::Decoded;
+use gates::Gate;
+use lists::copy_cells;
 use signal::Signal;
 ghost use mathlib.Core.Path.{_≡_};
 ghost use mathlib.Core.List.{[], _∷_};
@@ -8,7 +10,10 @@ ghost use Prim.Native.Nat.{_+_, _*_, _≤_, _<_};
 ghost use lib.ListN.{length};
 ghost use Rattle.lists.specs.Lists.{overwriteAt};
 ghost use Rattle.signal.specs.Cell.{nodeOf};
-ghost use Rattle.network.specs.Cells.{gateWidth, maxGates, maxPins, formAt, firstAt, countAt, decodedAt, CellIs, lent, sizesFit, startAt, recordFits, recordsFit, validNode, allValid, isNetwork};
+ghost use Rattle.network.specs.Cells.{lent, sizesFit, startAt, recordFits, recordsFit, validNode, allValid, isNetwork};
+ghost use Rattle.network.specs.Sizes.{maxGates, maxPins};
+ghost use Rattle.gates.specs.Decode.{pinCount, pinsIn};
+ghost use Rattle.network.specs.Record.{RecordIn, RunFrom, LayRoom, GateLaid, handRecord, withFirst, recordAt, gateWidth, formAt, firstAt, countAt, decodedAt, CellIs};
 
 pub const MAX_INPUTS: usize = 256;
 
@@ -83,7 +88,7 @@ pub fn sizes_fit(counts: Counts, gates: usize, pins: usize, outputs: usize) -> b
 
 // Gate g's form number.
 pub fn form_at(gates: &[u32], g: usize) -> u32
-    requires { ⌜ g * gateWidth + 2 < length (now gates) ⌝ }
+    requires { ⌜ RecordIn (now gates) g ⌝ }
     ensures { λ r. ⌜ r ≡ formAt (now (gates .entry)) g ⌝ }
 {
     gates[g * GATE_CELLS]
@@ -91,7 +96,7 @@ pub fn form_at(gates: &[u32], g: usize) -> u32
 
 // Gate g's first pin.
 pub fn first_at(gates: &[u32], g: usize) -> usize
-    requires { ⌜ g * gateWidth + 2 < length (now gates) ⌝ }
+    requires { ⌜ RecordIn (now gates) g ⌝ }
     ensures { λ r. ⌜ CellIs (firstAt (now (gates .entry)) g) r ⌝ }
 {
     gates[g * GATE_CELLS + 1] as usize
@@ -99,25 +104,80 @@ pub fn first_at(gates: &[u32], g: usize) -> usize
 
 // Gate g's pin count.
 pub fn count_at(gates: &[u32], g: usize) -> usize
-    requires { ⌜ g * gateWidth + 2 < length (now gates) ⌝ }
+    requires { ⌜ RecordIn (now gates) g ⌝ }
     ensures { λ r. ⌜ CellIs (countAt (now (gates .entry)) g) r ⌝ }
 {
     gates[g * GATE_CELLS + 2] as usize
 }
 
-// Writes gate g's record.
-pub fn put_record(gates: &mut [u32], g: usize, form: u32, first: usize, count: usize)
-    requires { ⌜ (g * gateWidth + 2 < length (now gates)) × (g < maxGates) × (first ≤ maxPins) × (count ≤ maxPins) ⌝ }
-    ensures { λ r. ⌜ now (gates .exit) ≡ overwriteAt (g * gateWidth) (form ∷ first ∷ count ∷ []) (now (gates .entry)) ⌝ }
+// Writes the record of a gate in hand, whose pins start at cell first, as gate g.
+pub fn put_record(gates: &mut [u32], g: usize, first: usize, gate: Gate)
+    requires { ⌜ RecordIn (now gates) g × (first ≤ maxPins) × (pinCount gate ≤ maxPins) ⌝ }
+    ensures { λ r. ⌜ now (gates .exit) ≡ overwriteAt (g * gateWidth) (handRecord first gate) (now (gates .entry)) ⌝ }
 {
-    gates[g * GATE_CELLS] = form;
-    gates[g * GATE_CELLS + 1] = first as u32;
-    gates[g * GATE_CELLS + 2] = count as u32;
+    let at = g * GATE_CELLS;
+    gates[at] = gate.kind().number();
+    gates[at + 1] = first as u32;
+    gates[at + 2] = gate.pin_count() as u32;
+}
+
+// Writes two signals into the pins from cell at on.
+fn put_two(pins: &mut [u32], at: usize, a: Signal, b: Signal)
+    requires { ⌜ at + 2 ≤ length (now pins) ⌝ }
+    ensures { λ _. ⌜ now (pins .exit) ≡ overwriteAt at (a .a ∷ b .a ∷ []) (now (pins .entry)) ⌝ }
+{
+    pins[at] = a.raw();
+    pins[at + 1] = b.raw();
+}
+
+// Writes three signals into the pins from cell at on.
+fn put_three(pins: &mut [u32], at: usize, a: Signal, b: Signal, c: Signal)
+    requires { ⌜ at + 3 ≤ length (now pins) ⌝ }
+    ensures { λ _. ⌜ now (pins .exit) ≡ overwriteAt at (a .a ∷ b .a ∷ c .a ∷ []) (now (pins .entry)) ⌝ }
+{
+    pins[at] = a.raw();
+    pins[at + 1] = b.raw();
+    pins[at + 2] = c.raw();
+}
+
+// Writes the signals of a gate in hand into the pins from cell at on; the run of a Nary gate stands there already.
+fn put_pins(pins: &mut [u32], at: usize, gate: Gate)
+    requires { ⌜ (at + pinCount gate ≤ length (now pins)) × RunFrom at gate ⌝ }
+    ensures { λ _. ⌜ now (pins .exit) ≡ overwriteAt at (pinsIn gate (now (pins .entry))) (now (pins .entry)) ⌝ }
+{
+    match gate {
+        Gate::Binary(_, a, b) => put_two(pins, at, a, b),
+        Gate::Ternary(_, a, b, c) => put_three(pins, at, a, b, c),
+        Gate::Nary(_, _) => {}
+        Gate::Buf(a) => pins[at] = a.raw(),
+        Gate::Dff(d, e, r) => put_three(pins, at, d, e, r),
+    }
+}
+
+// Lays a gate in hand into the cells as gate g, with its pins from cell at on. Answers the cell behind its pins.
+pub fn lay_gate(gates: &mut [u32], g: usize, pins: &mut [u32], at: usize, gate: Gate) -> usize
+    requires { ⌜ LayRoom gate g at (now gates) (now pins) ⌝ }
+    ensures { λ r. ⌜ GateLaid gate g at (now (gates .entry)) (now (pins .entry)) (now (gates .exit)) (now (pins .exit)) r ⌝ }
+{
+    put_pins(pins, at, gate);
+    put_record(gates, g, at, gate);
+    at + gate.pin_count()
+}
+
+// Copies gate g's record to gate i of other cells, with another first pin.
+pub fn copy_record(gates: &[u32], g: usize, to: &mut [u32], i: usize, first: usize)
+    requires { ⌜ RecordIn (now gates) g × RecordIn (now to) i × (first ≤ maxPins) ⌝ }
+    ensures { λ _. ⌜ now (to .exit) ≡ overwriteAt (i * gateWidth) (withFirst first (recordAt (now (gates .entry)) g)) (now (to .entry)) ⌝ }
+{
+    let from = g * GATE_CELLS;
+    let at = i * GATE_CELLS;
+    copy_cells(&gates[from..from + GATE_CELLS], to, at);
+    to[at + 1] = first as u32;
 }
 
 // Whether gate g has a known form, a pin count that it can have, and its pins from cell at on.
 fn record_fits(gates: &[u32], g: usize, at: usize) -> bool
-    requires { ⌜ (g * gateWidth + 2 < length (now gates)) × (at ≡ startAt (now gates) g) ⌝ }
+    requires { ⌜ RecordIn (now gates) g × (at ≡ startAt (now gates) g) ⌝ }
     ensures { λ r. ⌜ r ≡ recordFits (now (gates .entry)) g ⌝ }
 {
     let kind = gates::kind_of(form_at(gates, g));

@@ -14,7 +14,8 @@ use Rattle.lists.proofs.Tests.{and-left, and-right}
 use Rattle.gates.specs.Gate.{PlainFlop, Dff}
 use Rattle.gates.specs.Forms.{gateFrom}
 use Rattle.network.specs.Net.{Net, GateIs, Loop}
-use Rattle.network.specs.Cells.{gateAt, gateCells, pinCells, sizesFit, recordsFit, allValid, isNetwork, netOf, Words}
+use Rattle.network.specs.Cells.{sizesFit, recordsFit, allValid, isNetwork, netOf, Words}
+use Rattle.network.specs.Record.{recordOf, gateAt, gateCells, pinCells}
 use Rattle.network.proofs.Lent.{network-laid}
 use Rattle.sort_order.specs.Order.{uses, useCount, recorded, order, sortOrder}
 use Rattle.sort_order.specs.Sorted.{sorted}
@@ -33,12 +34,12 @@ use Rattle.round_trip.specs.Witness.{flop, net, witness, cells}
 
 -- the cells hold the network
 holds : netOf witness ≡ net
-unfolding netOf gateAt gateCells pinCells gateFrom
+unfolding netOf gateAt recordOf gateCells pinCells gateFrom
 holds = refl
 
 -- by the layout of 20
 layout : isNetwork witness ≡ true
-unfolding isNetwork sizesFit recordsFit allValid gateCells pinCells
+unfolding isNetwork sizesFit recordsFit allValid recordOf gateCells pinCells
 layout = refl
 
 -- cells below a number
@@ -58,7 +59,7 @@ isSome (some x) = true
 
 -- it can be sorted
 sorts : isSome (sorted (netOf witness)) ≡ true
-unfolding isSome netOf gateAt gateFrom gateCells pinCells hit uses useCount recorded order sortOrder sorted
+unfolding isSome netOf gateAt gateFrom recordOf gateCells pinCells hit uses useCount recorded order sortOrder sorted
 sorts = refl
 
 -- so it has no loop

@@ -1,11 +1,14 @@
 -- A network that meets demand 3's conditions, with a flip-flop, an Xor, a Mux and an inverted output. Assumes nothing: these are
 -- definitions.
+use Prim.Native.Nat.{_*_}
 use mathlib.Core.List.{[], _∷_, map}
 use Rattle.signal.specs.Signal.{Input, Var, plain, zeroS, oneS, invert}
 use Rattle.signal.specs.Cell.{sigCell}
 use Rattle.gates.specs.Gate.{Mux3, XorN, FlipFlop, Comb, Dff}
 use Rattle.network.specs.Net.{Net}
-use Rattle.network.specs.Cells.{Lent, lent, gateCells, pinCells, countsOf}
+use Rattle.network.specs.Cells.{Lent, lent, countsOf}
+use Rattle.network.specs.Sizes.{maxGates}
+use Rattle.network.specs.Record.{gateWidth, gateCells, pinCells}
 use Rattle.blif_read.specs.Into.{Lengths, lengths}
 
 -- x0 takes x1 at each clock
@@ -26,4 +29,4 @@ witness = lent (countsOf net) (gateCells 0 (net .gates)) (pinCells (net .gates))
 
 -- as many cells as refusal 1 asks for
 abbrev pub cells : Lengths
-cells = lengths 3072 16384 256 3072 16384
+cells = lengths (maxGates * gateWidth) 16384 256 (maxGates * gateWidth) 16384

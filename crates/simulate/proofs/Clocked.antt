@@ -15,7 +15,9 @@ use Rattle.gates.specs.Gate.{Gate}
 use Rattle.network.specs.Net.{Net, GateIs, Loop}
 use Rattle.network.specs.Clock.{sigBit, gateBit, Fits, nextBit, Clock}
 use Rattle.network.specs.Settle.{bitAt, round, settle}
-use Rattle.network.specs.Cells.{maxGates, lent, netOf, gateAt, orBuf, cellGates}
+use Rattle.network.specs.Cells.{lent, netOf, orBuf, cellGates}
+use Rattle.network.specs.Sizes.{maxGates}
+use Rattle.network.specs.Record.{gateAt}
 use Rattle.network.specs.declared.Counts.{Counts}
 use Rattle.network.proofs.GateRead.{cell-at, cell-count}
 use Rattle.network.proofs.OneChoice.{Ranked, ranked, settle-fits}

@@ -30,8 +30,9 @@ use Rattle.signal.specs.declared.Signal as code
 use Rattle.gates.proofs.Decode.{none-kind}
 use Rattle.gates.proofs.Forms.{binary-count, ternary-count}
 use Rattle.network.specs.Clock.{gateBit, nextBit}
-use Rattle.network.specs.Cells.{formAt, firstAt, countAt, CellIs, gateAt, orBuf}
-use Rattle.network.proofs.RecordCells.{gate-there}
+use Rattle.network.specs.Cells.{orBuf}
+use Rattle.network.specs.Record.{gateWidth, formAt, firstAt, countAt, CellIs, gateAt}
+use Rattle.network.proofs.RecordCells.{record-below, gate-there}
 use Rattle.network.proofs.Records.{no-record, no-run, end-is, cut-run}
 use Rattle.simulate.specs.Bits.{signalBit, pinBits, Makes, MakesOfThree, NextOf}
 use Rattle.simulate.proofs.Bits.{all-by, any-by, none-by, odd-by, even-by, maj-by, one-bit, length-pins}
@@ -150,21 +151,21 @@ module _ (row bits : List Bool) (run : List ℕ) (held : Bool) where
 -- ---- gate g of the cells
 
 module _ (row bits : List Bool) (cells pins : List ℕ) (g : ℕ) (held : Bool) where
-  pub bit-no-record : length cells / 3 ≤ g → BitOf row bits [] held false (gateAt cells pins g)
+  pub bit-no-record : length cells / gateWidth ≤ g → BitOf row bits [] held false (gateAt cells pins g)
   bit-no-record h = ap (λ (x : Option Gate). gateBit (signalBit row bits) held (orBuf x)) (no-record cells pins g h)
 
   module _ {first count : ℕ} (f : CellIs (firstAt cells g) first) (c : CellIs (countAt cells g) count) where
     pub bit-no-run : length pins < first + count → BitOf row bits [] held false (gateAt cells pins g)
     bit-no-run h = ap (λ (x : Option Gate). gateBit (signalBit row bits) held (orBuf x)) (no-run cells pins g f c h)
 
-    gate-is : {form : ℕ} {k : Kind} → g < length cells / 3 → first + count ≤ length pins → form ≡ formAt cells g → k ≡ kindOf form
+    gate-is : {form : ℕ} {k : Kind} → g < length cells / gateWidth → first + count ≤ length pins → form ≡ formAt cells g → k ≡ kindOf form
         → gateOfKind k (map sigOf (take (first + count - first) (drop first pins))) ≡ gateAt cells pins g
     unfolding gateFrom
     gate-is h l p q =
         ap₂ (λ (x : Kind) (y : List ℕ). gateOfKind x (map sigOf y)) (q ∙ ap kindOf p) (cut-run cells pins g f c)
-        ∙ sym (gate-there cells pins g (omega arith) (omega (arith, end-is cells pins g f c)))
+        ∙ sym (gate-there cells pins g (record { cells = record-below h; within = omega (arith, end-is cells pins g f c) }))
 
-    pub bit-read : {form : ℕ} {k : Kind} {b : Bool} → g < length cells / 3 → first + count ≤ length pins → form ≡ formAt cells g → k ≡ kindOf form
+    pub bit-read : {form : ℕ} {k : Kind} {b : Bool} → g < length cells / gateWidth → first + count ≤ length pins → form ≡ formAt cells g → k ≡ kindOf form
         → BitOf row bits [] held b (gateOfKind k (map sigOf (take (first + count - first) (drop first pins)))) → BitOf row bits [] held b (gateAt cells pins g)
     bit-read h l p q e = e ∙ ap (λ (x : Option Gate). gateBit (signalBit row bits) held (orBuf x)) (gate-is h l p q)
 

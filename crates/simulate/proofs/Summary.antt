@@ -9,7 +9,8 @@ use lib.Dec.{eqb}
 use lib.ListN.{length, take}
 use Rattle.network.specs.Net.{Loop}
 use Rattle.network.specs.Clock.{Clock}
-use Rattle.network.specs.Cells.{maxGates, lent, netOf}
+use Rattle.network.specs.Cells.{lent, netOf}
+use Rattle.network.specs.Sizes.{maxGates}
 use Rattle.network.specs.declared.Counts.{Counts}
 use Rattle.simulate.specs.Bits.{bitsOf}
 use Rattle.simulate.specs.Sweep.{clockInto}

@@ -14,7 +14,8 @@ use Rattle.lists.proofs.Tests.{by-order, by-test, below-next, or-left, or-right
 use Rattle.signal.specs.Signal.{Var, Signal}
 use Rattle.gates.specs.Gate.{Form, Comb}
 use Rattle.network.specs.Clock.{sigBit, gateBit}
-use Rattle.network.specs.Cells.{gateAt, orBuf}
+use Rattle.network.specs.Cells.{orBuf}
+use Rattle.network.specs.Record.{gateAt}
 use Rattle.network.proofs.OneChoice.{gate-agrees}
 use Rattle.simulate.specs.Bits.{bitsOf, signalBit}
 use Rattle.simulate.specs.Sweep.{SweepOutcome, sweepOutcome, SettleOutcome, settleOutcome, bitOfGate, workOut, sweepTo, settleIn}

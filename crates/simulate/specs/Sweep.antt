@@ -13,7 +13,9 @@ use lib.ListN.{getD, set, replicate}
 use Rattle.lists.specs.Lists.{if_then_else_}
 use Rattle.signal.specs.Cell.{sigOf}
 use Rattle.network.specs.Clock.{gateBit, nextBit}
-use Rattle.network.specs.Cells.{maxGates, gateAt, orBuf}
+use Rattle.network.specs.Cells.{orBuf}
+use Rattle.network.specs.Sizes.{maxGates}
+use Rattle.network.specs.Record.{gateAt}
 use Rattle.network.specs.declared.Counts.{Counts}
 use Rattle.simulate.specs.Bits.{bitsOf, signalBit, bitDigit}
 

@@ -22,7 +22,8 @@ ghost use Rattle.signal.specs.Cell.{sigOf};
 ghost use Rattle.gates.specs.Gate.{ones, mux};
 ghost use Rattle.gates.specs.Forms.{gateOfKind, binaryForm, ternaryForm, naryForm};
 ghost use Rattle.network.specs.Clock.{gateBit, nextBit};
-ghost use Rattle.network.specs.Cells.{gateAt, orBuf};
+ghost use Rattle.network.specs.Cells.{orBuf};
+ghost use Rattle.network.specs.Record.{gateAt};
 ghost use Rattle.simulate.specs.Bits.{signalBit, pinBits, Makes, MakesOfThree, NextOf, bitDigit};
 ghost use Rattle.simulate.specs.Sweep.{sweepOutcome, sweepTo, settleOutcome, settleIn, steppedTo, shownTo, clockOutcome, clockInto};
 

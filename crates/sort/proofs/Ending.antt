@@ -18,7 +18,9 @@ use Rattle.gates.specs.Gate.{Buf, Gate, Comb, Dff, pins}
 use Rattle.gates.specs.Forms.{formCell}
 use Rattle.network.specs.declared.Counts.{Counts}
 use Rattle.network.specs.Net.{Net, GateIs, ValidNode}
-use Rattle.network.specs.Cells.{gateWidth, formAt, firstAt, countAt, runAt, lent, netOf, gateCells, pinCells}
+use Rattle.network.specs.Cells.{lent, netOf}
+use Rattle.network.specs.Record.{gateWidth, recordOf, recordAt, withFirst, firstAt, countAt, runAt, gateCells, pinCells}
+use Rattle.network.proofs.RecordCells.{withFirst-recordOf, recordOf-remap}
 use Rattle.network.specs.Renumber.{remapGate, placeOf, gateOr, permuted}
 use Rattle.network.proofs.PinCells.{pins-next}
 use Rattle.network.proofs.Permuting.{place-of}
@@ -32,7 +34,7 @@ use Rattle.sort.specs.Steps.{ordered, cellGraph, Numbers, PlacesTable, m
 use Rattle.sort_order.proofs.Ordering.{sort-length}
 use Rattle.sort_order.proofs.Sorting.{graph-valid, order-sorted, none-sorted, order-has, order-orders}
 use Rattle.sort_order.proofs.Keeps.{once, kept-pins}
-use Rattle.network.proofs.GateRead.{gate-is, cell-gate}
+use Rattle.network.proofs.GateRead.{gate-record, gate-is, cell-gate}
 use Rattle.sort.proofs.Reading.{net-gates, net-outputs, net-size, graph-cells, sortable-cells}
 
 -- a list of cells, each a 32-bit number
@@ -110,8 +112,10 @@ module _ (n : Counts) (gs ps os : List ℕ) {a b : ℕ} (s : Sortable (lent n gs
     gate-or : gateOr net g ≡ x
     gate-or = getD-place (Comb Buf []) (net .gates) g x net-gate
 
-    new-form : formAt gs g ≡ formCell (new g)
-    new-form = sym (ap (λ (y : Gate). formCell (remapGate π y)) gate-or ∙ form-remap π x ∙ gate-is gs ps g x (s .readable g u .1) .number)
+    new-record : (at : ℕ) → withFirst at (recordAt gs g) ≡ recordOf at (new g)
+    new-record at =
+        ap (withFirst at) (gate-record gs ps g x (s .readable g u .1)) ∙ withFirst-recordOf (firstAt gs g) at x ∙ sym (recordOf-remap π at x)
+        ∙ ap (λ (y : Gate). recordOf at (remapGate π y)) (sym gate-or)
 
     new-pins : pins (new g) ≡ map (remap π) (map sigOf (runAt gs ps g))
     new-pins =
@@ -190,10 +194,8 @@ module _ (n : Counts) (gs ps os : List ℕ) {a b : ℕ} (s : Sortable (lent n gs
     records-are at [] h = refl
     records-are at (g ∷ k) h =
         let u = h g (List·Memᴰ·head refl) in
-        let f = new-form g u in
-        let c = new-count g u in
-        ap₂ (λ (y z : ℕ). y ∷ at ∷ z ∷ movedGates gs ps (at + z) k) f c
-        ∙ ap (λ (r : List ℕ). formCell (new g) ∷ at ∷ length (pins (new g)) ∷ r) (records-are (at + length (pins (new g))) k (λ v m. h v (List·Memᴰ·tail m)))
+        ap₂ (λ (c : List ℕ) (z : ℕ). c ++ movedGates gs ps (at + z) k) (new-record g u at) (new-count g u)
+        ∙ ap (λ (r : List ℕ). recordOf at (new g) ++ r) (records-are (at + length (pins (new g))) k (λ v m. h v (List·Memᴰ·tail m)))
 
     outs-renamed : WordCells os → map (remapCell t) (take (n .outputs) os) ≡ map sigCell (permuted l net .outputs)
     outs-renamed w =

@@ -9,7 +9,8 @@ use lib.ListN.{length}
 use borrow.Author.Tests.{le-leb, lt-leb}
 use Rattle.lists.proofs.Tests.{and-false}
 use Rattle.network.specs.declared.Counts.{Counts}
-use Rattle.network.specs.Cells.{gateWidth, Lent, isNetwork, netOf, pinCells, Words}
+use Rattle.network.specs.Cells.{Lent, isNetwork, netOf, Words}
+use Rattle.network.specs.Record.{gateWidth, pinCells}
 use Rattle.network.proofs.Lent.{network-laid, network-readable, network-sizes}
 use Rattle.sort.specs.declared.Sorted.{Sorted}
 use Rattle.sort.specs.declared.Attempt.the-variants.{Refused, Done}

@@ -10,7 +10,9 @@ use Rattle.lists.specs.Lists.{overwrite, overwriteAt}
 use Rattle.lists.proofs.Places.{drop-next}
 use Rattle.lists.proofs.Tests.{below-next}
 use Rattle.signal.specs.Cell.{gateCell, remapCell}
-use Rattle.network.specs.Cells.{gateWidth, maxGates, formAt, runAt}
+use Rattle.network.specs.Sizes.{maxGates}
+use Rattle.network.specs.Record.{gateWidth, recordAt, withFirst, runAt}
+use Rattle.network.proofs.RecordCells.{record-in, length-recordAt}
 use Rattle.sort.specs.Steps.{Numbers, PlacesTable, movedGates, movedPins, pinsIn, RoomFor, GateMoved, Movable, Moved}
 use Rattle.lists.proofs.OverAt.{length-overwriteAt, overwriteAt-nil, overwrite-first, overwrite-append}
 
@@ -103,8 +105,7 @@ module _ {gates pins t o ng₀ np₀ ng np : List ℕ} {at i : ℕ} (m : Movable
   pub moving-fits : RoomFor i at (length run) ng np
   moving-fits =
       record {
-        low = omega (arith, m .few);
-        record-room = omega (arith, m .room, h .same-gates);
+        record-room = record-in l (omega (arith, m .room, h .same-gates));
         run-room = omega (arith, pins-left, h .end, m .pinRoom, h .same-pins);
         few = omega (arith, pins-left, h .end, m .fewPins);
       }
@@ -112,16 +113,17 @@ module _ {gates pins t o ng₀ np₀ ng np : List ℕ} {at i : ℕ} (m : Movable
   pub moving-next : {ng′ np′ : List ℕ} {r : ℕ} → GateMoved gates pins t (getD o i 0) i at ng np ng′ np′ r → Moving gates pins t o ng₀ np₀ ng′ np′ r (i + 1)
   moving-next {ng′} {np′} {r} g =
       let rest = drop (i + 1) o in
-      let w : (i + 1) * gateWidth ≡ i * gateWidth + 3 = omega arith in
-      let three = formAt gates (getD o i 0) ∷ at ∷ length run ∷ [] in
+      let cells = withFirst at (recordAt gates (getD o i 0)) in
+      let lc : length cells ≡ gateWidth = length-overwriteAt 1 (at ∷ []) (recordAt gates (getD o i 0)) ∙ length-recordAt gates (getD o i 0) (m .runs i l .cells) in
+      let w : (i + 1) * gateWidth ≡ i * gateWidth + length cells = omega (arith, lc) in
       let lr : length (map (remapCell t) run) ≡ length run = length-map run (remapCell t) in
       record {
         within = omega arith;
-        same-gates = ap length (g .records) ∙ length-overwriteAt (i * gateWidth) three ng ∙ h .same-gates;
+        same-gates = ap length (g .records) ∙ length-overwriteAt (i * gateWidth) cells ng ∙ h .same-gates;
         same-pins = ap length (g .runs) ∙ length-overwriteAt at (map (remapCell t) run) np ∙ h .same-pins;
         records =
             rw (w, g .end, g .records)
-            (sym (overwrite-append (i * gateWidth) three (movedGates gates pins (at + length run) rest) ng)
+            (sym (overwrite-append (i * gateWidth) cells (movedGates gates pins (at + length run) rest) ng)
             ∙ ap (λ (s : List ℕ). overwriteAt (i * gateWidth) (movedGates gates pins at s) ng) (sym (drop-next o i 0 l))
             ∙ h .records);
         runs =

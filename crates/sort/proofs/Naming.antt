@@ -12,7 +12,7 @@ use Rattle.lists.proofs.Places.{drop-next}
 use Rattle.signal.specs.Signal.{Node, Const, Input, Var, gateNode}
 use Rattle.signal.specs.Cell.{nodeOf, sigOf, gateNumber}
 use Rattle.signal.proofs.Cells.{gate-number}
-use Rattle.network.specs.Cells.{maxPins}
+use Rattle.network.specs.Sizes.{maxPins}
 use Rattle.sort_order.specs.Sorted.{nodeGate, gateNums}
 use Rattle.sort.specs.Steps.{gateNamed, gateIns, Raised, Countable}
 

@@ -16,7 +16,8 @@ use Rattle.gates.specs.Decode.{kindComb}
 use Rattle.gates.proofs.Forms.{comb-number}
 use Rattle.network.proofs.GateRead.{has-run, gate-is, cell-gate, cell-count}
 use Rattle.network.specs.declared.Counts.{Counts}
-use Rattle.network.specs.Cells.{gateWidth, formAt, firstAt, countAt, runAt, gateAt, cellGates, lent, netOf, pinCells, HasRun}
+use Rattle.network.specs.Cells.{cellGates, lent, netOf}
+use Rattle.network.specs.Record.{gateWidth, formAt, firstAt, countAt, runAt, gateAt, pinCells, HasRun}
 use Rattle.sort_order.specs.Order.{Graph, useCount}
 use Rattle.sort_order.specs.Sorted.{gateNums, combAt, insAt, graph}
 use Rattle.sort_order.specs.Sortable.{Sortable}
@@ -92,4 +93,4 @@ gates-room {gs} {ps} {n} h = go n (h .runs)
   where
     go : (k : ℕ) → ((g : ℕ) → g < k → HasRun gs ps g) → k * gateWidth ≤ length gs
     go zero r = omega arith
-    go (suc k) r = omega (arith, r k (omega arith) .cells)
+    go (suc k) r = omega (arith, r k (omega arith) .cells .within)

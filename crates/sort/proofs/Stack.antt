@@ -13,7 +13,7 @@ use Rattle.lists.proofs.Counting.{hit-or, once-short}
 use Rattle.lists.proofs.Places.{drop-next}
 use Rattle.signal.specs.Signal.{gateNode}
 use Rattle.signal.specs.Cell.{nodeOf, gateNumber}
-use Rattle.network.specs.Cells.{maxGates}
+use Rattle.network.specs.Sizes.{maxGates}
 use Rattle.sort_order.specs.Order.{Graph, lowered, pushed, countsAfter, stackAfter}
 use Rattle.sort_order.specs.Walk.{WalkState}
 use Rattle.sort.specs.Steps.{gateNamed, gateIns, fromTop, Walks, Lowers, Lowered}

@@ -13,7 +13,7 @@ use borrow.Author.Tests.{eq-eqb, ne-eqb, lt-ltb, le-ltb}
 use Rattle.lists.proofs.Counting.{hit-or}
 use Rattle.lists.proofs.Places.{drop-next}
 use Rattle.lists.proofs.Tests.{by-order}
-use Rattle.network.specs.Cells.{maxGates}
+use Rattle.network.specs.Sizes.{maxGates}
 use Rattle.sort_order.specs.Order.{Graph, pushed, flopsTo, startTo}
 use Rattle.sort.specs.Steps.{flopMark, FlopsPlaced, unmarked, Started, GatesMarked}
 use Rattle.sort.proofs.Stack.{fromTop-push, pushed-more}

@@ -8,7 +8,8 @@ use native.Mathlib.Numerals.{add-one}
 use lib.ListN.{length, getD, replicate, length-replicate}
 use Rattle.lists.specs.Lists.{occ, sumTo}
 use Rattle.lists.proofs.Counting.{front-le}
-use Rattle.network.specs.Cells.{maxGates, runAt}
+use Rattle.network.specs.Sizes.{maxGates}
+use Rattle.network.specs.Record.{runAt}
 use Rattle.sort_order.specs.Order.{Graph, uses, useCount}
 use Rattle.sort.specs.Steps.{gateIns, formComb, cellGraph, Cells, Raised, Countable, Counted}
 use Rattle.sort_order.proofs.Walk.{uses-comb, uses-flop, uses-ins}

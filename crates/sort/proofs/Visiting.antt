@@ -9,7 +9,7 @@ use lib.ListN.{length, getD, take, drop, set, length-set, take-append-drop}
 use lib.Seq.{drop-cons, getD-set-same, getD-set-other, drop-set-lt, take-set-le, take-take}
 use Rattle.lists.specs.Lists.{occ, listTo}
 use Rattle.lists.proofs.Counting.{hit-or, once-short, length-listTo, getD-listTo}
-use Rattle.network.specs.Cells.{maxGates}
+use Rattle.network.specs.Sizes.{maxGates}
 use Rattle.sort_order.specs.Order.{Graph, uses, pushed, lowered, kept, countsAfter, stackAfter, walk, recorded, useCount}
 use Rattle.sort_order.specs.Walk.{ValidGraph, WalkState}
 use Rattle.sort.specs.Steps.{gateIns, fromTop, Lowered, Walks, GatesMarked, Ready, Visited, Begins, Recorded}

@@ -9,7 +9,8 @@ use lib.ListN.{length}
 use Rattle.lists.specs.Lists.{overwrite}
 use Rattle.signal.specs.Cell.{sigCell}
 use Rattle.network.specs.Net.{Net}
-use Rattle.network.specs.Cells.{Lent, netOf, isNetwork, gateWidth, gateCells, pinCells}
+use Rattle.network.specs.Cells.{Lent, netOf, isNetwork}
+use Rattle.network.specs.Record.{gateWidth, gateCells, pinCells}
 use Rattle.sort.specs.declared.Sorted.{Sorted}
 use Rattle.sort.specs.declared.Sorted.the-variants.{Order, Loop}
 use Rattle.sort.specs.declared.Attempt.{Attempt}

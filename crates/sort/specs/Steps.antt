@@ -11,7 +11,9 @@ use Rattle.signal.specs.Signal.{gateNode}
 use Rattle.signal.specs.Cell.{nodeOf, gateNumber, gateCell, remapCell}
 use Rattle.gates.specs.Forms.{kindOf}
 use Rattle.gates.specs.Decode.{kindComb}
-use Rattle.network.specs.Cells.{gateWidth, maxGates, maxPins, formAt, firstAt, countAt, runAt, cellGates, HasRun}
+use Rattle.network.specs.Cells.{cellGates}
+use Rattle.network.specs.Sizes.{maxGates, maxPins}
+use Rattle.network.specs.Record.{gateWidth, recordAt, withFirst, RecordIn, formAt, firstAt, countAt, runAt, HasRun}
 use Rattle.sort_order.specs.Order.{Graph, uses, useCount, countsAfter, stackAfter, flopsTo, startTo, recorded}
 use Rattle.sort_order.specs.Sorted.{nodeGate, combAt, insAt}
 use Rattle.sort_order.specs.Walk.{ValidGraph, WalkState}
@@ -221,7 +223,7 @@ pub record PlacesTable (o : List ℕ) (k : ℕ) (t : List ℕ) : Type 0 where
 -- the records of the gates of an order, the first one's pins starting at cell `at`
 abbrev pub movedGates : List ℕ → List ℕ → ℕ → List ℕ → List ℕ
 movedGates gates pins at [] = []
-movedGates gates pins at (g ∷ o) = formAt gates g ∷ at ∷ length (runAt gates pins g) ∷ movedGates gates pins (at + length (runAt gates pins g)) o
+movedGates gates pins at (g ∷ o) = withFirst at (recordAt gates g) ++ movedGates gates pins (at + length (runAt gates pins g)) o
 
 -- the runs of the gates of an order, one after the other, renumbered by a table
 abbrev pub movedPins : List ℕ → List ℕ → List ℕ → List ℕ → List ℕ
@@ -230,10 +232,8 @@ movedPins gates pins t (g ∷ o) = map (remapCell t) (runAt gates pins g) ++ mov
 
 -- gate i's record and a run of so many pins from cell `at` on have room in the new cells
 pub record RoomFor (i at count : ℕ) (ng np : List ℕ) : Type 0 where
-  -- gate i is within the limit
-  pub low : i < maxGates
   -- its record is within the new gate cells
-  pub record-room : i * gateWidth + 2 < length ng
+  pub record-room : RecordIn ng i
   -- its run is within the new pin cells
   pub run-room : at + count ≤ length np
   -- and within "16,384 pins"
@@ -241,8 +241,8 @@ pub record RoomFor (i at count : ℕ) (ng np : List ℕ) : Type 0 where
 
 -- what moving gate g to gate i leaves in the new cells, with the cell after its pins
 pub record GateMoved (gates pins t : List ℕ) (g i at : ℕ) (ng np ng′ np′ : List ℕ) (r : ℕ) : Type 0 where
-  -- form number, first pin and pin count
-  pub records : ng′ ≡ overwriteAt (i * gateWidth) (formAt gates g ∷ at ∷ length (runAt gates pins g) ∷ []) ng
+  -- its record with the new first pin
+  pub records : ng′ ≡ overwriteAt (i * gateWidth) (withFirst at (recordAt gates g)) ng
   -- the renumbered pins
   pub runs : np′ ≡ overwriteAt at (map (remapCell t) (runAt gates pins g)) np
   -- the cell after them

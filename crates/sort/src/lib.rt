@@ -9,7 +9,9 @@ ghost use Prim.Native.Nat.{ℕ, _+_, _-_, _*_, _≤_, _<_};
 ghost use lib.ListN.{length, getD, take, replicate};
 ghost use Rattle.lists.specs.Lists.{overwrite, overwriteAt};
 ghost use Rattle.signal.specs.Cell.{remapCell};
-ghost use Rattle.network.specs.Cells.{gateWidth, maxGates, runAt, lent, netOf, HasRun};
+ghost use Rattle.network.specs.Cells.{lent, netOf};
+ghost use Rattle.network.specs.Sizes.{maxGates};
+ghost use Rattle.network.specs.Record.{gateWidth, RecordIn, runAt, HasRun};
 ghost use Rattle.sort_order.specs.Order.{uses, sortOrder};
 ghost use Rattle.sort_order.specs.Sorted.{sorted};
 ghost use Rattle.sort.specs.Into.{sortOutcome, sortInto, sortLent};
@@ -38,7 +40,7 @@ struct Place {
 
 // Whether gate g is combinational.
 fn is_comb(gates: &[u32], g: usize) -> bool
-    requires { ⌜ g * gateWidth + 2 < length (now gates) ⌝ }
+    requires { ⌜ RecordIn (now gates) g ⌝ }
     ensures { λ r. ⌜ r ≡ formComb (now (gates .entry)) g ⌝ }
 {
     gates::kind_of(network::form_at(gates, g)).is_comb()
@@ -141,7 +143,7 @@ fn lower_uses(pins: &[u32], counts: &mut [u32], stack: &mut [u32], top: usize) -
 
 // Marks gate g and puts it into the order, if it is a flip-flop.
 fn mark_flop(gates: &[u32], g: usize, marks: &mut [u8], order: &mut [u32], k: usize) -> usize
-    requires { ⌜ (g * gateWidth + 2 < length (now gates)) × (g < maxGates) × (length (now marks) ≡ maxGates) × (k ≤ g) × (g < length (now order)) ⌝ }
+    requires { ⌜ RecordIn (now gates) g × (g < maxGates) × (length (now marks) ≡ maxGates) × (k ≤ g) × (g < length (now order)) ⌝ }
     ensures { λ r. ⌜ ((o₀ : List ℕ) → FlopsPlaced (formComb (now (gates .entry))) g o₀ (now (marks .entry)) (now (order .entry)) k → FlopsPlaced (formComb (now (gates .entry))) (g + 1) o₀ (now (marks .exit)) (now (order .exit)) r) ⌝ }
 {
     if is_comb(gates, g) {
@@ -313,10 +315,9 @@ fn move_gate(
     ensures { λ r. ⌜ GateMoved (now (gates .entry)) (now (pins .entry)) (now (table .entry)) g i at (now («new_gates» .entry)) (now («new_pins» .entry)) (now («new_gates» .exit)) (now («new_pins» .exit)) r ⌝ }
 {
     let run = gate_pins(gates, pins, g);
-    let count = run.len();
-    network::put_record(new_gates, i, network::form_at(gates, g), at, count);
+    network::copy_record(gates, g, new_gates, i, at);
     move_pins(run, table, new_pins, at);
-    at + count
+    at + run.len()
 }
 
 // Copies all gates in the new order, their pins laid in gate order. Answers how many pins there are.

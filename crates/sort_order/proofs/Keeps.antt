@@ -14,7 +14,7 @@ use Rattle.signal.specs.Signal.{Node, Const, Input, Var, Signal, remap}
 use Rattle.gates.specs.Gate.{Form, Buf, Gate, Comb, Dff, pins}
 use Rattle.gates.specs.Forms.{canHave, formed}
 use Rattle.network.specs.Net.{Net, GateIs, Valid, Formed}
-use Rattle.network.specs.Cells.{pinCells}
+use Rattle.network.specs.Record.{pinCells}
 use Rattle.network.specs.Renumber.{remapGate, orZero, placeOf, gateOr, permuted}
 use Rattle.network.proofs.PinCells.{pins-next}
 use Rattle.network.proofs.Renumbering.{renumbered-valid, pins-remap, node-from, comb-from}

@@ -12,7 +12,7 @@ use Rattle.lists.proofs.Counting.{length-listTo, getD-listTo}
 use Rattle.signal.specs.Signal.{Var, Signal}
 use Rattle.gates.specs.Gate.{Form, Comb}
 use Rattle.network.specs.Net.{Net, GateIs, Valid, Loop}
-use Rattle.network.specs.Cells.{pinCells}
+use Rattle.network.specs.Record.{pinCells}
 use Rattle.network.specs.Clock.{zeroBits}
 use Rattle.network.specs.Settle.{runFrom, run}
 use Rattle.network.specs.Renumber.{placeOf, permuted}

@@ -5,7 +5,9 @@ use Prim.Native.Nat.{ℕ, _*_, _≤_, _<_}
 use lib.ListN.{length}
 use Rattle.gates.specs.Gate.{Gate}
 use Rattle.network.specs.Net.{Valid}
-use Rattle.network.specs.Cells.{Lent, gateAt, netOf, gateWidth, maxGates, maxPins, pinCells}
+use Rattle.network.specs.Cells.{Lent, netOf}
+use Rattle.network.specs.Sizes.{maxGates, maxPins}
+use Rattle.network.specs.Record.{gateAt, gateWidth, pinCells}
 
 -- what the sort asks of the cells: each gate can be read, wherever its run stands, the signals are valid, and the new cells have room
 pub record Sortable (l : Lent) (newGates newPins : ℕ) : Type 0 where

@@ -9,7 +9,7 @@ use lib.ListN.{length, getElem?}
 use Rattle.signal.specs.Signal.{Node, Const, Input, Var, Signal}
 use Rattle.gates.specs.Gate.{Gate, pins, isComb}
 use Rattle.network.specs.Net.{Net, Valid, Formed}
-use Rattle.network.specs.Cells.{pinCells}
+use Rattle.network.specs.Record.{pinCells}
 use Rattle.network.specs.Renumber.{permuted}
 use Rattle.sort_order.specs.Order.{Graph, sortOrder}
 

@@ -7,7 +7,8 @@ use native.Mathlib.Omega.{arith}
 use lib.ListN.{length}
 use Rattle.lists.specs.Lists.{if_then_else_, Bytes}
 use Rattle.refusals.specs.declared.Refusal.the-variants as refusal
-use Rattle.network.specs.Cells.{WithinSizes, Lent, countsOf}
+use Rattle.network.specs.Cells.{Lent, countsOf}
+use Rattle.network.specs.Sizes.{WithinSizes}
 use Rattle.network.specs.declared.Counts.{Counts}
 use Rattle.blif_text.specs.Places.{maxText}
 use Rattle.blif_reading.specs.Read.{Result, read, refused, readText}

@@ -11,7 +11,8 @@ use Rattle.refusals.specs.Numbers.{numberOf}
 use Rattle.network.specs.Net.{Net, Loop}
 use Rattle.network.specs.Clock.{NetRuns}
 use Rattle.network.specs.Settle.{run}
-use Rattle.network.specs.Cells.{WithinSizes, Lent, lent, netOf, isNetwork, Words}
+use Rattle.network.specs.Cells.{Lent, lent, netOf, isNetwork, Words}
+use Rattle.network.specs.Sizes.{WithinSizes}
 use Rattle.network.specs.declared.Counts.{Counts}
 use Rattle.blif_text.specs.Places.{maxText}
 use Rattle.blif_writing.specs.WrittenModel.{wide}

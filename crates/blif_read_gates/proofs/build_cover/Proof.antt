@@ -1,28 +1,22 @@
 -- `build_cover` builds the gates of no line, of one, or of more. Assumes nothing.
+use mathlib.Core.Path.{sym, ap, _∙_}
 use native.Mathlib.Omega.{arith}
-use mathlib.Core.Path.{sym, _∙_}
 use borrow.Author.Needs.{needs}
-use Rattle.blif_read_gates.proofs.CoverLaws.{first-there, first-good, rows-inputs, none-built, one-room, one-built}
+use Rattle.blif_read_gates.proofs.CoverLaws.{first-there, first-good, rows-inputs, none-room, none-built, one-room, one-built}
 use Rattle.blif_read_gates.proofs.build_cover.Statement.{statement}
 use Rattle.blif_read_gates.proofs.build_cover.Tie as tie
+use Rattle.blif_read_gates.proofs.join_lines.Reads as join-lines-reads
+use Rattle.blif_read_gates.proofs.put_row.Reads as put-row-reads
+use Rattle.blif_read_gates.proofs.sources_at.Reads as sources-at-reads
+use Rattle.blif_text.proofs.row_end.Reads as row-end-reads
+use Rattle.network.proofs.lay_gate.Reads as lay-gate-reads
+use Rattle.signal.proofs.Signal.zero.Reads as zero-reads
 
 zero-requires : tie.Need-zero-requires
 zero-requires c κs = search needs
 
-raw-requires : tie.Need-raw-requires
-raw-requires c κs = search needs
-
-mul-pins : tie.Need-mul-pins
-mul-pins c = search needs
-
-slice-write-pins : tie.Need-slice-write-pins
-slice-write-pins c = search needs
-
-put-record-requires : tie.Need-put-record-requires
-put-record-requires c κs = search needs
-
-add-result : tie.Need-add-result
-add-result c = search needs
+lay-gate-requires : tie.Need-lay-gate-requires
+lay-gate-requires c κs = none-room (c .before .before .before .before .before .before .before .before .pre .1) _
 
 same-length : tie.Need-same-length
 same-length c = search needs
@@ -31,12 +25,7 @@ same-length-2 : tie.Need-same-length-2
 same-length-2 c = search needs
 
 returns : tie.Need-returns
-returns c =
-    let before = c .before .before .before .before .before .before .before .before .before .before .before in
-    let if1 = c .before .before .before .before .before .before .if1 in
-    let zero = c .before .before .before .before .before .zero in
-    let s = before in
-    none-built _ (s .pre .1) (if1 .taken) (c .before .before .before .before .raw .ensures ∙ zero .ensures) (c .before .before .put-record .ensures)
+returns c = none-built (c .before .before .before .before .before .before .before .before .before .before .before .before .before .pre .1) _ _ (c .before .before .before .before .before .before .before .before .if1 .taken) (c .before .before .before .before .before .zero .ensures) (c .before .before .before .before .lay-gate .ensures)
 
 join-lines-requires : tie.Need-join-lines-requires
 join-lines-requires c κs = search needs
@@ -54,15 +43,11 @@ sources-at-requires : tie.Need-sources-at-requires
 sources-at-requires c κs = search needs
 
 row-end-requires : tie.Need-row-end-requires
-row-end-requires c κs =
-    let s = c .before .before .before .before .before .before .before .before in
-    (first-there (s .pre .0) (omega (arith, c .before .before .before .if1 .left)), s .pre .0 .rows .places .room)
+row-end-requires c κs = let s = c .before .before .before .before .before .before .before .before in (first-there (s .pre .0) (omega (arith, c .before .before .before .if1 .left)), s .pre .0 .rows .places .room)
 
 put-row-requires : tie.Need-put-row-requires
 put-row-requires c κs =
-    let s = c .before .before .before .before .before .before .before .before .before .before .before in
-    let from = c .before .before .before .sources-at .ensures in
-    let some = c .before .before .before .before .before .before .if1 .left in (
+    let s = c .before .before .before .before .before .before .before .before .before .before .before in let from = c .before .before .before .sources-at .ensures in let some = c .before .before .before .before .before .before .if1 .left in (
       first-good (rows-inputs (sym (from .1)) (s .pre .0)) (omega (arith, some)) (c .before .before .row-end .ensures),
       one-room some (c .before .before .before .before .before .if2 .left) (s .pre .0) (s .pre .1) (from .0) (from .1),
     )
@@ -75,25 +60,15 @@ same-length-6 c = search needs
 
 returns-3 : tie.Need-returns-3
 returns-3 c =
-    let before = c .before .before .before .before .before .before .before .before .before .before .before .before .before .before .before .before in
-    let if1 = c .before .before .before .before .before .before .before .before .before .before .before .if1 in
-    let if2 = c .before .before .before .before .before .before .before .before .before .before .if2 in
-    let sources-at = c .before .before .before .before .before .before .before .before .sources-at in
-    let row-end = c .before .before .before .before .before .before .before .row-end in
-    let s = before in
-    let from = sources-at .ensures in
-    one-built (if1 .left) (if2 .left) (s .pre .0) (s .pre .1) (from .0) (from .1) (row-end .ensures) (c .before .before .before .before .put-row .ensures)
+    let s = c .before .before .before .before .before .before .before .before .before .before .before .before .before .before .before .before in let from = c .before .before .before .before .before .before .before .before .sources-at .ensures in
+    one-built (c .before .before .before .before .before .before .before .before .before .before .before .if1 .left) (c .before .before .before .before .before .before .before .before .before .before .if2 .left) (s .pre .0) (s .pre .1) (from .0) (from .1) (c .before .before .before .before .before .before .before .row-end .ensures) (c .before .before .before .before .put-row .ensures)
 
 pub build-cover-spec : {M : Type 1} → statement M
 build-cover-spec =
     tie.close
     (tie.spec
     zero-requires
-    raw-requires
-    mul-pins
-    slice-write-pins
-    put-record-requires
-    add-result
+    lay-gate-requires
     same-length
     same-length-2
     returns

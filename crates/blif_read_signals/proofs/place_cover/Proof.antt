@@ -49,8 +49,8 @@ returns c =
 put-record-requires : tie.Need-put-record-requires
 put-record-requires c κs = search needs
 
-add-t13 : tie.Need-add-t13
-add-t13 c = search needs
+add-t14 : tie.Need-add-t14
+add-t14 c = search needs
 
 same-length-2 : tie.Need-same-length-2
 same-length-2 c = search needs
@@ -82,7 +82,7 @@ place-cover-spec =
     same-length
     returns
     put-record-requires
-    add-t13
+    add-t14
     same-length-2
     same-length-3
     returns-2)

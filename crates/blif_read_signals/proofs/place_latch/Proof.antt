@@ -1,113 +1,85 @@
--- `place_latch` finds the name, and writes two pins more and the record. Assumes nothing.
-use borrow.Author.Tests.{not-true, not-false}
+-- `place_latch` finds the input, and lays a flip-flop. Assumes nothing.
+use mathlib.Core.Path.{_≡_, ap, _∙_, subst}
+use Prim.Native.Nat.{ℕ, _+_}
 use native.Mathlib.Omega.{arith}
-use lib.ListN.{length-set}
-use Rattle.blif_read_signals.proofs.OneGate.{names-inside, names-fit, one-name, not-placed, latch-placed}
+use lib.ListN.{getD}
 use borrow.Author.Needs.{needs}
+use Rattle.blif_text.specs.Places.{InText, tokenOf}
+use Rattle.name_index.specs.Search.{signalIn}
+use Rattle.name_index.specs.Index.{entriesOf}
+use Rattle.blif_read_signals.proofs.OneGate.{latch-missing, latch-fits, latch-placed}
 use Rattle.blif_read_signals.proofs.place_latch.Statement.{statement}
 use Rattle.blif_read_signals.proofs.place_latch.Tie as tie
+use Rattle.blif_text.proofs.token.Reads as token-reads
+use Rattle.name_index.proofs.find_signal.Reads as find-signal-reads
+use Rattle.network.proofs.lay_gate.Reads as lay-gate-reads
+use Rattle.signal.proofs.Signal.one.Reads as one-reads
+use Rattle.signal.proofs.Signal.zero.Reads as zero-reads
 
-add-end : tie.Need-add-end
-add-end c = search needs
+mul-token : tie.Need-mul-token
+mul-token c = search needs
 
-mul-resolve-names : tie.Need-mul-resolve-names
-mul-resolve-names c = search needs
+shared-slice-read-token : tie.Need-shared-slice-read-token
+shared-slice-read-token c = search needs
 
-sub-resolve-names : tie.Need-sub-resolve-names
-sub-resolve-names c = search needs
+token-requires : tie.Need-token-requires
+token-requires c κs =
+    let h = c .before .before .before .before .before .before .pre .0 .1 in
+    let z : c .before .before .before .before .before .before .args .first + 0 ≡ c .before .before .before .before .before .before .args .first = omega arith in
+    subst (λ (i : ℕ). InText (c .before .before .before .before .before .before .args .text .now) (getD (c .before .before .before .before .before .before .args .tokens .now) i 0)) z (h .inside 0 (omega arith))
 
-part-resolve-names-start : tie.Need-part-resolve-names-start
-part-resolve-names-start c = search needs
+find-signal-requires : tie.Need-find-signal-requires
+find-signal-requires c κs = search needs
 
-part-resolve-names-end : tie.Need-part-resolve-names-end
-part-resolve-names-end c = search needs
+returns : tie.Need-returns
+returns c =
+    let s = c .before .before .before .before .before .before .before .before .before .args in
+    let name = c .before .before .token .ensures in
+    latch-missing (signalIn (entriesOf (s .text .now) (s .index .now) (s .k))) (tokenOf (s .text .now) (getD (s .tokens .now) (s .first) 0)) (tokenOf (s .text .now) (getD (s .tokens .now) (s .first + 1) 0))
+    (c .before .find-signal .ensures ∙ ap (signalIn (entriesOf (s .text .now) (s .index .now) (s .k))) name) (s .j) (s .at) (s .gates .now) (s .pins .now) (c .if1 .taken)
 
-mul-resolve-names-2 : tie.Need-mul-resolve-names-2
-mul-resolve-names-2 c = search needs
+one-requires : tie.Need-one-requires
+one-requires c κs = search needs
 
-sub-resolve-names-2 : tie.Need-sub-resolve-names-2
-sub-resolve-names-2 c = search needs
+zero-requires : tie.Need-zero-requires
+zero-requires c κs = search needs
 
-part-resolve-names-start-2 : tie.Need-part-resolve-names-start-2
-part-resolve-names-start-2 c = search needs
-
-part-resolve-names-end-2 : tie.Need-part-resolve-names-end-2
-part-resolve-names-end-2 c = search needs
-
-resolve-names-requires : tie.Need-resolve-names-requires
-resolve-names-requires c κs =
-    let s = c .before .before .before .before .before .before .before .pre in
-    (s .0 .0, (names-inside (s .0 .1), names-fit (s .0 .1) (omega arith) (s .1)))
+lay-gate-requires : tie.Need-lay-gate-requires
+lay-gate-requires c κs =
+    let s = c .before .before .before .before .before .before .before .before .before .before .before .before .before .args in
+    let sig = signalIn (entriesOf (s .text .now) (s .index .now) (s .k)) in
+    let x = tokenOf (s .text .now) (getD (s .tokens .now) (s .first) 0) in
+    let y = tokenOf (s .text .now) (getD (s .tokens .now) (s .first + 1) 0) in
+    let e : c .before .before .before .before .before .find-signal .result ≡ sig x = c .before .before .before .before .before .find-signal .ensures ∙ ap sig (c .before .before .before .before .before .before .token .ensures) in
+    latch-fits sig x y e (c .before .before .before .one .result) (c .before .before .zero .result) (s .j) (s .at) (s .gates .now) (s .pins .now) (c .before .before .before .before .before .before .before .before .before .before .before .before .before .pre .1)
 
 same-length : tie.Need-same-length
 same-length c = search needs
 
-returns : tie.Need-returns
-returns c =
-    let pre = c .before .before .before .before .before .before .before .before .before .before .before .pre in
-    not-placed (c .before .before .before .resolve-names .ensures) (one-name (pre .0 .1)) (not-true _ (c .if1 .taken))
-
-add-pins : tie.Need-add-pins
-add-pins c = search needs
-
-mul-pins : tie.Need-mul-pins
-mul-pins c = search needs
-
-slice-write-pins : tie.Need-slice-write-pins
-slice-write-pins c = search needs
-
-add-pins-2 : tie.Need-add-pins-2
-add-pins-2 c = search needs
-
-mul-pins-2 : tie.Need-mul-pins-2
-mul-pins-2 c = search needs
-
-slice-write-pins-2 : tie.Need-slice-write-pins-2
-slice-write-pins-2 c = simp length-set (omega arith)
-
-put-record-requires : tie.Need-put-record-requires
-put-record-requires c κs = search needs
-
-add-t12 : tie.Need-add-t12
-add-t12 c = search needs
-
 same-length-2 : tie.Need-same-length-2
 same-length-2 c = search needs
 
-same-length-3 : tie.Need-same-length-3
-same-length-3 c = search needs
-
 returns-2 : tie.Need-returns-2
 returns-2 c =
-    let pre = c .before .before .before .before .before .before .before .before .before .before .before .before .before .before .before .pre in
-    let resolve-names = c .before .before .before .before .before .before .before .resolve-names in
-    let s = pre in
-    latch-placed (resolve-names .ensures) (one-name (s .0 .1)) (not-false _ (c .before .before .before .before .if1 .left)) (s .1) (c .before .before .put-record .ensures)
+    let s = c .before .before .before .before .before .before .before .before .before .before .before .before .before .before .before .before .before .before .args in
+    let sig = signalIn (entriesOf (s .text .now) (s .index .now) (s .k)) in
+    let x = tokenOf (s .text .now) (getD (s .tokens .now) (s .first) 0) in
+    let y = tokenOf (s .text .now) (getD (s .tokens .now) (s .first + 1) 0) in
+    let e : c .before .before .before .before .before .before .before .before .before .before .find-signal .result ≡ sig x = c .before .before .before .before .before .before .before .before .before .before .find-signal .ensures ∙ ap sig (c .before .before .before .before .before .before .before .before .before .before .before .token .ensures) in
+    latch-placed sig x y e (c .before .before .before .before .before .before .before .before .one .result) (c .before .before .before .before .before .before .before .zero .result) (s .j) (s .at) (s .gates .now) (s .pins .now) (c .before .before .before .before .before .before .before .before .before .before .before .before .before .before .before .before .before .before .pre .1) (c .before .before .before .before .before .before .before .before .before .if1 .left) (c .before .before .before .before .before .before .before .before .one .ensures) (c .before .before .before .before .before .before .before .zero .ensures) (c .before .before .before .before .lay-gate .ensures)
 
 pub place-latch-spec : {M : Type 1} → statement M
 place-latch-spec =
     tie.close
     (tie.spec
-    add-end
-    mul-resolve-names
-    sub-resolve-names
-    part-resolve-names-start
-    part-resolve-names-end
-    mul-resolve-names-2
-    sub-resolve-names-2
-    part-resolve-names-start-2
-    part-resolve-names-end-2
-    resolve-names-requires
-    same-length
+    mul-token
+    shared-slice-read-token
+    token-requires
+    find-signal-requires
     returns
-    add-pins
-    mul-pins
-    slice-write-pins
-    add-pins-2
-    mul-pins-2
-    slice-write-pins-2
-    put-record-requires
-    add-t12
+    one-requires
+    zero-requires
+    lay-gate-requires
+    same-length
     same-length-2
-    same-length-3
     returns-2)

@@ -7,7 +7,7 @@ use lib.ListN.{length, getD}
 use borrow.Author.Needs.{needs}
 use Rattle.signal.specs.Cell.{nodeOf}
 use Rattle.signal.specs.Signal.{gateNode}
-use Rattle.network.specs.Cells.{maxPins}
+use Rattle.network.specs.Sizes.{maxPins}
 use Rattle.sort.proofs.Naming.{occ-own, named-none, raised-gate, raised-none}
 use Rattle.sort.proofs.add_use.Statement.{statement}
 use Rattle.sort.proofs.add_use.Tie as tie

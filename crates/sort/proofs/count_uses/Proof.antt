@@ -3,7 +3,7 @@ use mathlib.Core.Path.{sym, ap, _∙_}
 use Prim.Native.Nat.{ℕ, _-_}
 use native.Mathlib.Omega.{arith}
 use lib.ListN.{length, length-replicate}
-use Rattle.network.specs.Cells.{maxGates}
+use Rattle.network.specs.Sizes.{maxGates}
 use Rattle.sort.specs.Steps.{cellGraph}
 use Rattle.sort.proofs.Uses.{CountedTo, counted-start, counted-asks, counted-next, counted-done}
 use Rattle.sort.proofs.count_uses.Statement.{statement}

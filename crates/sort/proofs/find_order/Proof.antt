@@ -4,7 +4,7 @@ use Prim.Native.Nat.{ℕ}
 use native.Mathlib.Omega.{arith}
 use lib.ListN.{length-replicate}
 use borrow.Author.Needs.{needs}
-use Rattle.network.specs.Cells.{maxGates}
+use Rattle.network.specs.Sizes.{maxGates}
 use Rattle.sort.specs.Steps.{cellGraph}
 use Rattle.sort.proofs.Finding.{started-graph, found-is}
 use Rattle.sort.proofs.Starting.{flopped-same, flopped-marked}

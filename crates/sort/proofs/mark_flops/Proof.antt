@@ -4,7 +4,7 @@ use mathlib.Core.Path.{_≡_, refl, sym, ap, _∙_}
 use Prim.Native.Nat.{ℕ, _-_, _≤_}
 use native.Mathlib.Omega.{arith}
 use lib.ListN.{length, length-replicate}
-use Rattle.network.specs.Cells.{maxGates}
+use Rattle.network.specs.Sizes.{maxGates}
 use Rattle.sort.specs.Steps.{formComb, FlopsPlaced}
 use Rattle.sort.proofs.Starting.{flopped-none}
 use Rattle.sort.proofs.mark_flops.Statement.{statement}

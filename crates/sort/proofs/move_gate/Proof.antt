@@ -5,23 +5,18 @@ use lib.ListN.{length}
 use borrow.Author.Needs.{needs}
 use Rattle.sort.proofs.move_gate.Statement.{statement}
 use Rattle.sort.proofs.move_gate.Tie as tie
+use Rattle.network.proofs.copy_record.Reads as copy-record-reads
+use Rattle.sort.proofs.gate_pins.Reads as gate-pins-reads
+use Rattle.sort.proofs.move_pins.Reads as move-pins-reads
 
 gate-pins-requires : tie.Need-gate-pins-requires
 gate-pins-requires c κs = search needs
 
-form-at-requires : tie.Need-form-at-requires
-form-at-requires c κs = search needs
-
-put-record-requires : tie.Need-put-record-requires
-put-record-requires c κs =
-    let f = c .before .before .before .before .before .before .before .before .pre .1 in
-    let k = ap length (c .before .before .gate-pins .ensures) in
-    (f .record-room, f .low, omega (arith, f .few), omega (arith, k, f .few))
+copy-record-requires : tie.Need-copy-record-requires
+copy-record-requires c κs = search needs
 
 move-pins-requires : tie.Need-move-pins-requires
-move-pins-requires c κs =
-    let f = c .before .before .before .before .before .before .before .before .before .before .before .before .pre .1 in
-    omega (arith, ap length (c .before .before .before .before .before .before .gate-pins .ensures), f .run-room)
+move-pins-requires c κs = omega (arith, ap length (c .before .before .before .before .before .gate-pins .ensures), c .before .before .before .before .before .before .before .before .before .before .before .pre .1 .run-room)
 
 add-result : tie.Need-add-result
 add-result c = search needs
@@ -34,18 +29,15 @@ same-length-2 c = search needs
 
 returns : tie.Need-returns
 returns c =
-    let e = c .before .before .before .before .before .before .before .before .before .gate-pins .ensures in
-    let form = c .before .before .before .before .before .before .before .form-at .ensures in
-    let put = c .before .before .before .before .before .before .put-record .ensures in
-    record { records = rw (form, e) at put; runs = rw e at (c .before .before .move-pins .ensures); end = rw e refl }
+    let e = c .before .before .before .before .before .before .before .before .gate-pins .ensures in
+    record { records = c .before .before .before .before .before .before .copy-record .ensures; runs = rw e at (c .before .before .move-pins .ensures); end = rw e refl }
 
 pub move-gate-spec : {M : Type 1} → statement M
 move-gate-spec =
     tie.close
     (tie.spec
     gate-pins-requires
-    form-at-requires
-    put-record-requires
+    copy-record-requires
     move-pins-requires
     add-result
     same-length

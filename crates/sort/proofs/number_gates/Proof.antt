@@ -4,7 +4,7 @@ use Prim.Native.Nat.{_-_, _<_}
 use native.Mathlib.Omega.{arith}
 use lib.ListN.{length, getD}
 use borrow.Author.Needs.{needs}
-use Rattle.network.specs.Cells.{maxGates}
+use Rattle.network.specs.Sizes.{maxGates}
 use Rattle.sort.proofs.Moving.{Tabling, tabling-start, tabling-next, tabling-done}
 use Rattle.sort.proofs.number_gates.Statement.{statement}
 use Rattle.sort.proofs.number_gates.Tie as tie

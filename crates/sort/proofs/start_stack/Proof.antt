@@ -4,7 +4,7 @@ use mathlib.Core.Path.{_≡_, sym, _∙_}
 use Prim.Native.Nat.{ℕ, _-_, _≤_}
 use native.Mathlib.Omega.{arith}
 use lib.ListN.{length}
-use Rattle.network.specs.Cells.{maxGates}
+use Rattle.network.specs.Sizes.{maxGates}
 use Rattle.sort.specs.Steps.{Started}
 use Rattle.sort.proofs.Starting.{started-none}
 use Rattle.sort.proofs.start_stack.Statement.{statement}

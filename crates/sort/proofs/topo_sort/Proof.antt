@@ -6,7 +6,7 @@ use lib.Seq.{length-take-le}
 use lib.ListN.{length-replicate}
 use borrow.Author.Tests.{not-true, not-false}
 use borrow.Author.Needs.{needs}
-use Rattle.network.specs.Cells.{maxGates}
+use Rattle.network.specs.Sizes.{maxGates}
 use Rattle.sort.proofs.Ending.{found-some, found-none, ends-loop, ends-sorted, order-numbers, order-movable}
 use Rattle.sort.proofs.Reading.{sortable-cells, gates-room}
 use Rattle.sort.proofs.topo_sort.Statement.{statement}
