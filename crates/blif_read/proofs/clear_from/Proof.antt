@@ -7,24 +7,6 @@ use Rattle.blif_read.proofs.clear_from.Reads as reads
 use Rattle.blif_read.proofs.clear_from.Lts as lts
 use Rattle.lists.proofs.fill_zero.Reads as fill-zero-reads
 
-mul-fill-zero : tie.Need-mul-fill-zero
-mul-fill-zero c = search needs
-
-sub-fill-zero : tie.Need-sub-fill-zero
-sub-fill-zero c = search needs
-
-part-fill-zero-start : tie.Need-part-fill-zero-start
-part-fill-zero-start c = search needs
-
-part-fill-zero-end : tie.Need-part-fill-zero-end
-part-fill-zero-end c = search needs
-
-fill-zero-requires : tie.Need-fill-zero-requires
-fill-zero-requires c κs = search needs
-
-same-length : tie.Need-same-length
-same-length c = search needs
-
 returns : tie.Need-returns
 returns c = clear-part _ _ _ (c .before .before .before .before .if1 .taken) (c .before .before .fill-zero .ensures)
 
@@ -35,11 +17,5 @@ pub clear-from-spec : {M : Type 1} → statement M
 clear-from-spec =
     tie.close
     (tie.spec
-    mul-fill-zero
-    sub-fill-zero
-    part-fill-zero-start
-    part-fill-zero-end
-    fill-zero-requires
-    same-length
-    returns
-    returns-2)
+    (λ c. search needs) (λ c. search needs) (λ c. search needs) (λ c. search needs) (λ c κs. search needs)
+    (λ c. search needs) returns returns-2)

@@ -17,17 +17,9 @@ none : (a : ReadAnswer) → tagOf the-type a ≡ 1 → record { inputs = 0; gate
 none (Read counts) e = absurd (let z : 0 ≡ 1 = e in omega (arith, z))
 none (Refused k) e = refl
 
-enum-known-answer : tie.Need-enum-known-answer
-enum-known-answer c = search needs
-
-enum-told : tie.Need-enum-told
-enum-told c = search needs
-
-returns : tie.Need-returns
-returns c = search needs
-
 returns-2 : tie.Need-returns-2
 returns-2 c = none (c .before .before .args .answer) (c .before .match .keys2)
 
 pub counts-of-spec : {M : Type 1} → statement M
-counts-of-spec = tie.close (tie.spec enum-known-answer enum-told returns returns-2)
+counts-of-spec = tie.close (tie.spec
+    (λ c. search needs) (λ c. search needs) (λ c. search needs) returns-2)

@@ -6,9 +6,6 @@ use Rattle.blif_read.proofs.enough_cells.Tie as tie
 use Rattle.blif_read.proofs.enough_cells.Reads as reads
 use Rattle.blif_read.proofs.enough_cells.Lts as lts
 
-mul-if1 : tie.Need-mul-if1
-mul-if1 c = search needs
-
 returns : tie.Need-returns
 returns c = few-gates _ (c .if1 .taken)
 
@@ -18,9 +15,6 @@ returns-2 c = few-pins _ (c .if2 .taken)
 returns-3 : tie.Need-returns-3
 returns-3 c = few-outputs _ (c .if3 .taken)
 
-mul-if4 : tie.Need-mul-if4
-mul-if4 c = search needs
-
 returns-4 : tie.Need-returns-4
 returns-4 c = few-work-gates _ (c .if4 .taken)
 
@@ -29,4 +23,5 @@ returns-5 c = the-last _ (c .before .before .before .if1 .left) (c .before .befo
 
 pub enough-cells-spec : {M : Type 1} → statement M
 enough-cells-spec =
-    tie.close (tie.spec mul-if1 returns returns-2 returns-3 mul-if4 returns-4 returns-5)
+    tie.close (tie.spec
+    (λ c. search needs) returns returns-2 returns-3 (λ c. search needs) returns-4 returns-5)

@@ -24,45 +24,12 @@ topo-sort-requires c κs =
 enum-told : tie.Need-enum-told
 enum-told c = search needs
 
-enum-known-used-pins : tie.Need-enum-known-used-pins
-enum-known-used-pins c = search needs
-
-same-length : tie.Need-same-length
-same-length c = search needs
-
-same-length-2 : tie.Need-same-length-2
-same-length-2 c = search needs
-
-same-length-3 : tie.Need-same-length-3
-same-length-3 c = search needs
-
-same-length-4 : tie.Need-same-length-4
-same-length-4 c = search needs
-
-same-length-5 : tie.Need-same-length-5
-same-length-5 c = search needs
-
 returns : tie.Need-returns
 returns c =
     let pre = c .before .before .before .before .before .before .before .before .before .before .before .before .before .before .before .before .before .before .before .before .before .before .before .before .before .before .before .before .before .pre in
     let build-covers = c .before .before .before .before .before .before .before .before .before .before .before .before .before .before .before .before .before .before .build-covers in
     let topo-sort = c .before .before .before .before .before .before .before .before .topo-sort in
     holds-refused _ _ _ _ _ (loop-refused (pre .1 .0) (pre .1 .1) (build-covers .ensures) (omega (arith, pre .0 .workGates, build-covers .kept .1 .1 .1 .1 .1 .0)) (omega (arith, pre .0 .workPins, build-covers .kept .1 .1 .1 .1 .1 .1 .0)) (pre .0 .outputs) _ _ (pre .0 .gates) (pre .0 .pins) (topo-sort .ensures) (c .enum-told .given .1))
-
-same-length-6 : tie.Need-same-length-6
-same-length-6 c = search needs
-
-same-length-7 : tie.Need-same-length-7
-same-length-7 c = search needs
-
-same-length-8 : tie.Need-same-length-8
-same-length-8 c = search needs
-
-same-length-9 : tie.Need-same-length-9
-same-length-9 c = search needs
-
-same-length-10 : tie.Need-same-length-10
-same-length-10 c = search needs
 
 returns-2 : tie.Need-returns-2
 returns-2 c =
@@ -75,19 +42,6 @@ pub read-built-spec : {M : Type 1} → statement M
 read-built-spec =
     tie.close
     (tie.spec
-    build-covers-requires
-    topo-sort-requires
-    enum-told
-    enum-known-used-pins
-    same-length
-    same-length-2
-    same-length-3
-    same-length-4
-    same-length-5
-    returns
-    same-length-6
-    same-length-7
-    same-length-8
-    same-length-9
-    same-length-10
-    returns-2)
+    build-covers-requires topo-sort-requires enum-told (λ c. search needs) (λ c. search needs) (λ c. search needs)
+    (λ c. search needs) (λ c. search needs) (λ c. search needs) returns (λ c. search needs) (λ c. search needs)
+    (λ c. search needs) (λ c. search needs) (λ c. search needs) returns-2)

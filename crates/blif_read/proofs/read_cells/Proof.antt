@@ -11,9 +11,6 @@ use Rattle.blif_read.proofs.read_cells.Lts as lts
 use Rattle.blif_read.proofs.enough_cells.Reads as enough-cells-reads
 use Rattle.blif_read.proofs.read_text.Reads as read-text-reads
 
-enough-cells-requires : tie.Need-enough-cells-requires
-enough-cells-requires c κs = search needs
-
 returns : tie.Need-returns
 returns c = few-refused _ _ _ _ _ (sym (c .before .enough-cells .ensures) ∙ not-true _ (c .if1 .taken))
 
@@ -22,21 +19,6 @@ read-text-requires c κs =
     let the-enough-cells = c .before .before .before .before .before .before .enough-cells in
     let if1 = c .before .before .before .before .before .if1 in
     enough-cells _ _ _ _ _ (sym (the-enough-cells .ensures) ∙ not-false _ (if1 .left))
-
-same-length : tie.Need-same-length
-same-length c = search needs
-
-same-length-2 : tie.Need-same-length-2
-same-length-2 c = search needs
-
-same-length-3 : tie.Need-same-length-3
-same-length-3 c = search needs
-
-same-length-4 : tie.Need-same-length-4
-same-length-4 c = search needs
-
-same-length-5 : tie.Need-same-length-5
-same-length-5 c = search needs
 
 returns-2 : tie.Need-returns-2
 returns-2 c =
@@ -49,12 +31,5 @@ pub read-cells-spec : {M : Type 1} → statement M
 read-cells-spec =
     tie.close
     (tie.spec
-    enough-cells-requires
-    returns
-    read-text-requires
-    same-length
-    same-length-2
-    same-length-3
-    same-length-4
-    same-length-5
-    returns-2)
+    (λ c κs. search needs) returns read-text-requires (λ c. search needs) (λ c. search needs) (λ c. search needs)
+    (λ c. search needs) (λ c. search needs) returns-2)

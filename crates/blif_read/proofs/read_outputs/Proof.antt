@@ -27,12 +27,6 @@ resolve-names-requires c κs =
     let v = c .before .before .before .before .before .before .before .before .before .before .pre .1 in
     (v .tables .named .index-is, (inside-first _ (v .tables .outputs-in), outs-fit v _ (c .before .before .before .before .before .before .before .before .before .before .pre .0 .outputs)))
 
-same-length : tie.Need-same-length
-same-length c = search needs
-
-same-length-2 : tie.Need-same-length-2
-same-length-2 c = search needs
-
 returns : tie.Need-returns
 returns c =
     holds-refused _ _ _ _ _ (output-refused (c .before .before .before .before .before .before .before .before .before .before .before .before .before .before .pre .1) (c .before .before .before .resolve-names .ensures) (not-true _ (c .if1 .taken)))
@@ -42,39 +36,10 @@ read-blocks-requires c κs =
     let w = c .before .before .before .before .before .before .before .before .resolve-names in
     (enough-same (c .before .before .before .before .before .before .before .before .before .before .before .before .before .before .before .before .before .before .before .pre .0) refl refl (w .kept .1 .1 .1 .1 .0) refl refl, outputs-found (c .before .before .before .before .before .before .before .before .before .before .before .before .before .before .before .before .before .before .before .pre .1) (w .ensures) (not-false _ (c .before .before .before .before .before .if1 .left)) (c .before .before .before .before .before .before .before .before .before .before .before .before .before .before .before .before .before .before .before .pre .0 .outputs))
 
-same-length-3 : tie.Need-same-length-3
-same-length-3 c = search needs
-
-same-length-4 : tie.Need-same-length-4
-same-length-4 c = search needs
-
-same-length-5 : tie.Need-same-length-5
-same-length-5 c = search needs
-
-same-length-6 : tie.Need-same-length-6
-same-length-6 c = search needs
-
-same-length-7 : tie.Need-same-length-7
-same-length-7 c = search needs
-
-returns-2 : tie.Need-returns-2
-returns-2 c = search needs
-
 pub read-outputs-spec : {M : Type 1} → statement M
 read-outputs-spec =
     tie.close
     (tie.spec
-    add-resolve-names
-    slice-reshare-prefix-resolve-names
-    slice-aggregate-resolve-names
-    resolve-names-requires
-    same-length
-    same-length-2
-    returns
-    read-blocks-requires
-    same-length-3
-    same-length-4
-    same-length-5
-    same-length-6
-    same-length-7
-    returns-2)
+    add-resolve-names slice-reshare-prefix-resolve-names slice-aggregate-resolve-names resolve-names-requires
+    (λ c. search needs) (λ c. search needs) returns read-blocks-requires (λ c. search needs) (λ c. search needs)
+    (λ c. search needs) (λ c. search needs) (λ c. search needs) (λ c. search needs))

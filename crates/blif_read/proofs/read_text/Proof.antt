@@ -14,9 +14,6 @@ use Rattle.blif_read.proofs.read_tokens.Reads as read-tokens-reads
 returns : tie.Need-returns
 returns c = holds-refused _ _ _ _ _ (too-long _ (lt-ltb maxText _ (c .if1 .taken)))
 
-has-high-byte-requires : tie.Need-has-high-byte-requires
-has-high-byte-requires c κs = search needs
-
 returns-2 : tie.Need-returns-2
 returns-2 c = holds-refused _ _ _ _ _ (high-byte _ (le-ltb maxText _ (c .before .before .if1 .left)) (sym (c .before .has-high-byte .ensures) ∙ c .if2 .taken))
 
@@ -28,35 +25,9 @@ read-tokens-requires c κs =
     let if2 = c .before .before .before .before .before .if2 in
     (pre, readable _ (le-ltb maxText _ (if1 .left)) (if1 .left) (sym (has-high-byte .ensures) ∙ if2 .left))
 
-same-length : tie.Need-same-length
-same-length c = search needs
-
-same-length-2 : tie.Need-same-length-2
-same-length-2 c = search needs
-
-same-length-3 : tie.Need-same-length-3
-same-length-3 c = search needs
-
-same-length-4 : tie.Need-same-length-4
-same-length-4 c = search needs
-
-same-length-5 : tie.Need-same-length-5
-same-length-5 c = search needs
-
-returns-3 : tie.Need-returns-3
-returns-3 c = search needs
-
 pub read-text-spec : {M : Type 1} → statement M
 read-text-spec =
     tie.close
     (tie.spec
-    returns
-    has-high-byte-requires
-    returns-2
-    read-tokens-requires
-    same-length
-    same-length-2
-    same-length-3
-    same-length-4
-    same-length-5
-    returns-3)
+    returns (λ c κs. search needs) returns-2 read-tokens-requires (λ c. search needs) (λ c. search needs)
+    (λ c. search needs) (λ c. search needs) (λ c. search needs) (λ c. search needs))

@@ -16,12 +16,6 @@ first-bad-requires : tie.Need-first-bad-requires
 first-bad-requires c κs =
     (c .before .before .before .mark-tokens .ensures .0, omega (arith, c .before .before .before .mark-tokens .ensures .0 .few, c .before .before .before .mark-tokens .kept .1 .0, c .before .before .before .before .before .before .before .before .before .before .before .pre .0 .pins))
 
-enum-known-bad : tie.Need-enum-known-bad
-enum-known-bad c = search needs
-
-same-length : tie.Need-same-length
-same-length c = search needs
-
 returns : tie.Need-returns
 returns c =
     holds-refused _ _ _ _ _ (bad-statement (c .before .before .before .before .before .before .before .before .before .before .before .before .before .before .before .pre .1) (sym (c .before .before .before .first-bad .ensures) ∙ c .before .bad .given .1))
@@ -32,9 +26,6 @@ enum-told c = search needs
 too-large-requires : tie.Need-too-large-requires
 too-large-requires c κs =
     (stmts-start (c .before .before .before .before .before .before .before .mark-tokens .ensures .0) (omega (arith, c .before .before .before .before .before .before .before .mark-tokens .ensures .0 .few, c .before .before .before .before .before .before .before .mark-tokens .kept .1 .0, c .before .before .before .before .before .before .before .before .before .before .before .before .before .before .before .pre .0 .pins)) (sym (c .before .before .before .first-bad .ensures) ∙ c .before .enum-told .given .1), c .before .before .before .before .before .before .before .mark-tokens .ensures .0 .few)
-
-same-length-2 : tie.Need-same-length-2
-same-length-2 c = search needs
 
 returns-2 : tie.Need-returns-2
 returns-2 c =
@@ -47,41 +38,10 @@ read-names-requires c κs =
     let small = sym (c .before .before .before .before .before .before .too-large .ensures) ∙ c .before .before .before .before .before .if1 .left in
     (enough-same (c .before .before .before .before .before .before .before .before .before .before .before .before .before .before .before .before .before .before .before .before .before .before .pre .0) refl (w .kept .1 .0) refl refl refl, sized (c .before .before .before .before .before .before .before .before .before .before .before .before .before .before .before .before .before .before .before .before .before .before .pre .1) (w .ensures .0) (omega (arith, c .before .before .before .before .before .before .before .before .before .before .before .before .before .before .mark-tokens .ensures .0 .few, c .before .before .before .before .before .before .before .before .before .before .before .before .before .before .mark-tokens .kept .1 .0, c .before .before .before .before .before .before .before .before .before .before .before .before .before .before .before .before .before .before .before .before .before .before .pre .0 .pins)) fine small)
 
-same-length-3 : tie.Need-same-length-3
-same-length-3 c = search needs
-
-same-length-4 : tie.Need-same-length-4
-same-length-4 c = search needs
-
-same-length-5 : tie.Need-same-length-5
-same-length-5 c = search needs
-
-same-length-6 : tie.Need-same-length-6
-same-length-6 c = search needs
-
-same-length-7 : tie.Need-same-length-7
-same-length-7 c = search needs
-
-returns-3 : tie.Need-returns-3
-returns-3 c = search needs
-
 pub read-tokens-spec : {M : Type 1} → statement M
 read-tokens-spec =
     tie.close
     (tie.spec
-    mark-tokens-requires
-    first-bad-requires
-    enum-known-bad
-    same-length
-    returns
-    enum-told
-    too-large-requires
-    same-length-2
-    returns-2
-    read-names-requires
-    same-length-3
-    same-length-4
-    same-length-5
-    same-length-6
-    same-length-7
-    returns-3)
+    mark-tokens-requires first-bad-requires (λ c. search needs) (λ c. search needs) returns enum-told
+    too-large-requires (λ c. search needs) returns-2 read-names-requires (λ c. search needs) (λ c. search needs)
+    (λ c. search needs) (λ c. search needs) (λ c. search needs) (λ c. search needs))

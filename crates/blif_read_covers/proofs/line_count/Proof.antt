@@ -11,11 +11,9 @@ of-cover : (names lines : ℕ) → (names ≡ 0 → ⊥) → lines ≡ linesIn n
 of-cover zero lines f = absurd (f refl)
 of-cover (suc k) lines f = refl
 
-returns : tie.Need-returns
-returns c = search needs
-
 returns-2 : tie.Need-returns-2
 returns-2 c = of-cover (c .before .before .args .block .names) (c .before .before .args .block .lines) (c .if1 .left)
 
 pub line-count-spec : {M : Type 1} → statement M
-line-count-spec = tie.close (tie.spec returns returns-2)
+line-count-spec = tie.close (tie.spec
+    (λ c. search needs) returns-2)

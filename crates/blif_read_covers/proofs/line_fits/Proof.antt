@@ -38,9 +38,6 @@ other Wrong (inr e) = absurd (let z : ⊥ = omega arith in z)
 returns : tie.Need-returns
 returns c = too-many (c .before .args .tokens) (c .before .args .columns) _ (c .before .args .output) (omega (arith, c .if1 .taken))
 
-sub-if2 : tie.Need-sub-if2
-sub-if2 c = search needs
-
 returns-2 : tie.Need-returns-2
 returns-2 c = miscounted (c .before .before .args .tokens) (c .before .before .args .columns) _ (c .before .before .args .output) (omega (arith, c .before .if1 .left)) (c .if2 .taken)
 
@@ -58,4 +55,5 @@ returns-4 c =
     other (s .output) (c .match .keys2) ∙ by-output (s .tokens) (s .columns) _ (s .output) (omega (arith, c .before .before .if1 .left)) (c .before .if2 .left)
 
 pub line-fits-spec : {M : Type 1} → statement M
-line-fits-spec = tie.close (tie.spec returns sub-if2 returns-2 enum-told returns-3 returns-4)
+line-fits-spec = tie.close (tie.spec
+    returns (λ c. search needs) returns-2 enum-told returns-3 returns-4)

@@ -8,20 +8,12 @@ use Rattle.blif_read_covers.proofs.with_output.Tie as tie
 enum-told : tie.Need-enum-told
 enum-told c = search needs
 
-enum-told-2 : tie.Need-enum-told-2
-enum-told-2 c = search needs
-
-enum-told-3 : tie.Need-enum-told-3
-enum-told-3 c = search needs
-
 returns : tie.Need-returns
 returns c = sym (ap (withOutput (c .before .before .args .met)) (c .enum-told .given .1))
 
 returns-2 : tie.Need-returns-2
 returns-2 c = sym (ap (withOutput (c .before .before .args .met)) (c .enum-told2 .given .1))
 
-returns-3 : tie.Need-returns-3
-returns-3 c = search needs
-
 pub with-output-spec : {M : Type 1} → statement M
-with-output-spec = tie.close (tie.spec enum-told enum-told-2 enum-told-3 returns returns-2 returns-3)
+with-output-spec = tie.close (tie.spec
+    enum-told (λ c. search needs) (λ c. search needs) returns returns-2 (λ c. search needs))

@@ -5,9 +5,6 @@ use Rattle.blif_read_gates.proofs.BlockLaws.{latch-built, cover-names, 
 use Rattle.blif_read_gates.proofs.build_block.Statement.{statement}
 use Rattle.blif_read_gates.proofs.build_block.Tie as tie
 
-block-at-requires : tie.Need-block-at-requires
-block-at-requires c κs = search needs
-
 returns : tie.Need-returns
 returns c =
     let s = c .before .before .before .before .before .before .before .before in
@@ -25,9 +22,6 @@ build-cover-requires c κs =
     let e = c .before .before .before .before .before .block-at .ensures in
     (cover-rows some (s .pre .0 .0) (s .pre .0 .1) e (s .pre .1), cover-room some (s .pre .0 .0) (s .pre .0 .1) e (s .pre .1))
 
-new-gates-requires : tie.Need-new-gates-requires
-new-gates-requires c κs = search needs
-
 add-t20 : tie.Need-add-t20
 add-t20 c =
     let before = c .before .before .before .before .before .before .before .before .before .before .before .before .before .before .before .before .before .before in
@@ -35,12 +29,6 @@ add-t20 c =
     let if1 = c .before .before .before .before .before .before .before .before .before .before .if1 in
     let s = before in
     omega (arith, c .before .new-gates .ensures, cover-room (if1 .left) (s .pre .0 .0) (s .pre .0 .1) (block-at .ensures) (s .pre .1) .low)
-
-same-length : tie.Need-same-length
-same-length c = search needs
-
-same-length-2 : tie.Need-same-length-2
-same-length-2 c = search needs
 
 returns-2 : tie.Need-returns-2
 returns-2 c =
@@ -55,12 +43,5 @@ pub build-block-spec : {M : Type 1} → statement M
 build-block-spec =
     tie.close
     (tie.spec
-    block-at-requires
-    returns
-    add-row
-    build-cover-requires
-    new-gates-requires
-    add-t20
-    same-length
-    same-length-2
-    returns-2)
+    (λ c κs. search needs) returns add-row build-cover-requires (λ c κs. search needs) add-t20 (λ c. search needs)
+    (λ c. search needs) returns-2)

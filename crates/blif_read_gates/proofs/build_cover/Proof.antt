@@ -12,35 +12,11 @@ use Rattle.blif_text.proofs.row_end.Reads as row-end-reads
 use Rattle.network.proofs.lay_gate.Reads as lay-gate-reads
 use Rattle.signal.proofs.Signal.zero.Reads as zero-reads
 
-zero-requires : tie.Need-zero-requires
-zero-requires c κs = search needs
-
 lay-gate-requires : tie.Need-lay-gate-requires
 lay-gate-requires c κs = none-room (c .before .before .before .before .before .before .before .before .pre .1) _
 
-same-length : tie.Need-same-length
-same-length c = search needs
-
-same-length-2 : tie.Need-same-length-2
-same-length-2 c = search needs
-
 returns : tie.Need-returns
 returns c = none-built (c .before .before .before .before .before .before .before .before .before .before .before .before .before .pre .1) _ _ (c .before .before .before .before .before .before .before .before .if1 .taken) (c .before .before .before .before .before .zero .ensures) (c .before .before .before .before .lay-gate .ensures)
-
-join-lines-requires : tie.Need-join-lines-requires
-join-lines-requires c κs = search needs
-
-same-length-3 : tie.Need-same-length-3
-same-length-3 c = search needs
-
-same-length-4 : tie.Need-same-length-4
-same-length-4 c = search needs
-
-returns-2 : tie.Need-returns-2
-returns-2 c = search needs
-
-sources-at-requires : tie.Need-sources-at-requires
-sources-at-requires c κs = search needs
 
 row-end-requires : tie.Need-row-end-requires
 row-end-requires c κs = let s = c .before .before .before .before .before .before .before .before in (first-there (s .pre .0) (omega (arith, c .before .before .before .if1 .left)), s .pre .0 .rows .places .room)
@@ -52,12 +28,6 @@ put-row-requires c κs =
       one-room some (c .before .before .before .before .before .if2 .left) (s .pre .0) (s .pre .1) (from .0) (from .1),
     )
 
-same-length-5 : tie.Need-same-length-5
-same-length-5 c = search needs
-
-same-length-6 : tie.Need-same-length-6
-same-length-6 c = search needs
-
 returns-3 : tie.Need-returns-3
 returns-3 c =
     let s = c .before .before .before .before .before .before .before .before .before .before .before .before .before .before .before .before in let from = c .before .before .before .before .before .before .before .before .sources-at .ensures in
@@ -67,18 +37,6 @@ pub build-cover-spec : {M : Type 1} → statement M
 build-cover-spec =
     tie.close
     (tie.spec
-    zero-requires
-    lay-gate-requires
-    same-length
-    same-length-2
-    returns
-    join-lines-requires
-    same-length-3
-    same-length-4
-    returns-2
-    sources-at-requires
-    row-end-requires
-    put-row-requires
-    same-length-5
-    same-length-6
-    returns-3)
+    (λ c κs. search needs) lay-gate-requires (λ c. search needs) (λ c. search needs) returns (λ c κs. search needs)
+    (λ c. search needs) (λ c. search needs) (λ c. search needs) (λ c κs. search needs) row-end-requires
+    put-row-requires (λ c. search needs) (λ c. search needs) returns-3)

@@ -6,17 +6,9 @@ use Rattle.lists.specs.Lists.{Bytes, same}
 use Rattle.blif_read_gates.proofs.is_one.Statement.{statement}
 use Rattle.blif_read_gates.proofs.is_one.Tie as tie
 
-token-requires : tie.Need-token-requires
-token-requires c κs = search needs
-
-slice-aggregate-equal : tie.Need-slice-aggregate-equal
-slice-aggregate-equal c = search needs
-
-equal-requires : tie.Need-equal-requires
-equal-requires c κs = search needs
-
 returns : tie.Need-returns
 returns c = c .equal .ensures ∙ ap (λ (t : Bytes). same t (49 ∷ [])) (c .before .before .token .ensures)
 
 pub is-one-spec : {M : Type 1} → statement M
-is-one-spec = tie.close (tie.spec token-requires slice-aggregate-equal equal-requires returns)
+is-one-spec = tie.close (tie.spec
+    (λ c κs. search needs) (λ c. search needs) (λ c κs. search needs) returns)

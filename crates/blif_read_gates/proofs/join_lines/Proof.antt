@@ -17,20 +17,8 @@ use Rattle.blif_read_gates.proofs.sources_at.Reads as sources-at-reads
 use Rattle.blif_text.proofs.row_end.Reads as row-end-reads
 use Rattle.network.proofs.put_record.Reads as put-record-reads
 
-sources-at-requires : tie.Need-sources-at-requires
-sources-at-requires c κs = search needs
-
 row-end-requires : tie.Need-row-end-requires
 row-end-requires c κs = let s = c .before .before .before .before .before .before in (first-there (s .pre .0 .1) (omega (arith, s .pre .0 .0)), s .pre .0 .1 .rows .places .room)
-
-sub-last : tie.Need-sub-last
-sub-last c = search needs
-
-mul-last : tie.Need-mul-last
-mul-last c = search needs
-
-shared-slice-read-last : tie.Need-shared-slice-read-last
-shared-slice-read-last c = search needs
 
 put-joins-requires : tie.Need-put-joins-requires
 put-joins-requires c κs = let s = c .before .before .before .before .before .before .before .before .before in joins-room (s .pre .0 .0) (s .pre .0 .1) (s .pre .1)
@@ -38,14 +26,8 @@ put-joins-requires c κs = let s = c .before .before .before .before .before .be
 is-one-requires : tie.Need-is-one-requires
 is-one-requires c κs = let s = c .before .before .before .before .before .before .before .before .before .before .before .before .before in last-inside (first-good (s .pre .0 .1) (omega (arith, s .pre .0 .0)) (c .before .before .before .before .before .before .row-end .ensures))
 
-join-gate-requires : tie.Need-join-gate-requires
-join-gate-requires c κs = search needs
-
 put-record-requires : tie.Need-put-record-requires
 put-record-requires c κs = let s = c .before .before .before .before .before .before .before .before .before .before .before .before .before .before .before in joined-fit (s .pre .0 .0) (s .pre .0 .1) (s .pre .1) (c .before .is-one .result) (c .join-gate .ensures)
-
-add-build-lines : tie.Need-add-build-lines
-add-build-lines c = search needs
 
 build-lines-requires : tie.Need-build-lines-requires
 build-lines-requires c κs =
@@ -53,12 +35,6 @@ build-lines-requires c κs =
       rows-inputs (sym (from .1)) (s .pre .0 .1),
       joined-room (s .pre .0 .0) (s .pre .0 .1) (s .pre .1) (c .before .before .before .before .before .before .is-one .result) (from .0) (from .1) (join-put (c .before .before .before .before .before .before .is-one .result) (s .args .at) (s .args .count) (s .args .gates .now) (s .args .j * gateWidth) (c .before .before .before .before .before .join-gate .ensures) (c .before .before .before .before .put-record .ensures)) (c .before .before .before .before .before .before .before .before .before .before .put-joins .ensures),
     )
-
-same-length : tie.Need-same-length
-same-length c = search needs
-
-same-length-2 : tie.Need-same-length-2
-same-length-2 c = search needs
 
 returns : tie.Need-returns
 returns c =
@@ -71,17 +47,6 @@ pub join-lines-spec : {M : Type 1} → statement M
 join-lines-spec =
     tie.close
     (tie.spec
-    sources-at-requires
-    row-end-requires
-    sub-last
-    mul-last
-    shared-slice-read-last
-    put-joins-requires
-    is-one-requires
-    join-gate-requires
-    put-record-requires
-    add-build-lines
-    build-lines-requires
-    same-length
-    same-length-2
-    returns)
+    (λ c κs. search needs) row-end-requires (λ c. search needs) (λ c. search needs) (λ c. search needs)
+    put-joins-requires is-one-requires (λ c κs. search needs) put-record-requires (λ c. search needs)
+    build-lines-requires (λ c. search needs) (λ c. search needs) returns)

@@ -16,11 +16,9 @@ returns c = hand-many true (c .before .before .before .args .at) (c .before .bef
 returns-2 : tie.Need-returns-2
 returns-2 c = hand-many false (c .before .before .before .args .at) (c .before .before .before .args .count) (c .before .before .before .args .pins .now) (c .before .if1 .taken) (c .before .before .before .pre .1) ∙ sym (ap (λ (b : Bool). lineInHand b (c .before .before .before .args .at) (take (c .before .before .before .args .count) (drop (c .before .before .before .args .at) (c .before .before .before .args .pins .now)))) (c .if2 .left))
 
-single-pin-requires : tie.Need-single-pin-requires
-single-pin-requires c κs = search needs
-
 returns-3 : tie.Need-returns-3
 returns-3 c = hand-single (c .before .before .before .args .one) (c .before .before .before .args .at) (c .before .before .before .args .count) (c .before .before .before .args .pins .now) (c .before .if1 .left) (c .before .before .before .pre .0) (c .single-pin .ensures)
 
 pub line-gate-spec : {M : Type 1} → statement M
-line-gate-spec = tie.close (tie.spec returns returns-2 single-pin-requires returns-3)
+line-gate-spec = tie.close (tie.spec
+    returns returns-2 (λ c κs. search needs) returns-3)

@@ -15,32 +15,14 @@ abbrev μ-loop : tie.MeasureT-loop
 loop-holds : tie.Need-loop-holds Inv-loop μ-loop
 loop-holds c = joining-start
 
-add-from-var : tie.Need-add-from-var Inv-loop μ-loop
-add-from-var c = omega arith
-
-cast-from-var : tie.Need-cast-from-var Inv-loop μ-loop
-cast-from-var c = omega arith
-
 from-var-requires : tie.Need-from-var-requires Inv-loop μ-loop
 from-var-requires c κs = tt
 
 raw-requires : tie.Need-raw-requires Inv-loop μ-loop
 raw-requires c κs = tt
 
-add-pins : tie.Need-add-pins Inv-loop μ-loop
-add-pins c = omega arith
-
-mul-pins : tie.Need-mul-pins Inv-loop μ-loop
-mul-pins c = omega arith
-
 slice-write-pins : tie.Need-slice-write-pins Inv-loop μ-loop
 slice-write-pins c = omega (arith, c .before .before .before .loop .inv .laying .kept)
-
-add-i : tie.Need-add-i Inv-loop μ-loop
-add-i c = omega arith
-
-loop-less : tie.Need-loop-less Inv-loop μ-loop
-loop-less c = omega arith
 
 loop-again : tie.Need-loop-again Inv-loop μ-loop
 loop-again c =
@@ -57,18 +39,6 @@ pub put-joins-spec : {M : Type 1} → statement M
 put-joins-spec =
     tie.close
     (tie.spec
-    Inv-loop
-    μ-loop
-    loop-holds
-    add-from-var
-    cast-from-var
-    from-var-requires
-    raw-requires
-    add-pins
-    mul-pins
-    slice-write-pins
-    add-i
-    loop-less
-    loop-again
-    same-length
-    returns)
+    Inv-loop μ-loop loop-holds (λ c. omega arith) (λ c. omega arith) from-var-requires raw-requires
+    (λ c. omega arith) (λ c. omega arith) slice-write-pins (λ c. omega arith) (λ c. omega arith) loop-again
+    same-length returns)

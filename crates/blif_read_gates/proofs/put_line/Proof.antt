@@ -7,20 +7,11 @@ use Rattle.blif_read_gates.proofs.line_gate.Reads as line-gate-reads
 use Rattle.blif_read_gates.proofs.write_literals.Reads as write-literals-reads
 use Rattle.network.proofs.lay_gate.Reads as lay-gate-reads
 
-write-literals-requires : tie.Need-write-literals-requires
-write-literals-requires c κs = search needs
-
 line-gate-requires : tie.Need-line-gate-requires
 line-gate-requires c κs = let s = c .before .before .before .before .before .before .before .before in hand-room (s .args .columns .now) (s .args .one) (s .args .source) (s .args .at) (s .args .h) (s .args .gates .now) (s .args .pins .now) (c .before .before .before .write-literals .ensures) (s .pre)
 
 lay-gate-requires : tie.Need-lay-gate-requires
 lay-gate-requires c κs = let s = c .before .before .before .before .before .before .before .before .before .before .before in line-room (s .args .columns .now) (s .args .one) (s .args .source) (s .args .at) (s .args .h) (s .args .gates .now) (s .args .pins .now) (c .before .before .before .before .before .before .write-literals .ensures) (s .pre) (c .before .before .line-gate .ensures)
-
-same-length : tie.Need-same-length
-same-length c = search needs
-
-same-length-2 : tie.Need-same-length-2
-same-length-2 c = search needs
 
 returns : tie.Need-returns
 returns c = let s = c .before .before .before .before .before .before .before .before .before .before .before .before .before .before .before .before in line-put (s .args .columns .now) (s .args .one) (s .args .source) (s .args .at) (s .args .h) (s .args .gates .now) (s .args .pins .now) (c .before .before .before .before .before .before .before .before .before .before .before .write-literals .ensures) (s .pre) (c .before .before .before .before .before .before .before .line-gate .ensures) (c .before .before .before .before .lay-gate .ensures)
@@ -29,9 +20,4 @@ pub put-line-spec : {M : Type 1} → statement M
 put-line-spec =
     tie.close
     (tie.spec
-    write-literals-requires
-    line-gate-requires
-    lay-gate-requires
-    same-length
-    same-length-2
-    returns)
+    (λ c κs. search needs) line-gate-requires lay-gate-requires (λ c. search needs) (λ c. search needs) returns)

@@ -8,18 +8,6 @@ use Rattle.blif_read_gates.proofs.GateLaws.{line-named, room-wide}
 use Rattle.blif_read_gates.proofs.put_row.Statement.{statement}
 use Rattle.blif_read_gates.proofs.put_row.Tie as tie
 
-line-columns-requires : tie.Need-line-columns-requires
-line-columns-requires c κs = search needs
-
-sub-is-one : tie.Need-sub-is-one
-sub-is-one c = search needs
-
-mul-is-one : tie.Need-mul-is-one
-mul-is-one c = search needs
-
-shared-slice-read-is-one : tie.Need-shared-slice-read-is-one
-shared-slice-read-is-one c = search needs
-
 is-one-requires : tie.Need-is-one-requires
 is-one-requires c κs = last-inside (c .before .before .before .before .before .before .pre .0)
 
@@ -27,12 +15,6 @@ put-line-requires : tie.Need-put-line-requires
 put-line-requires c κs =
     let s = c .before .before .before .before .before .before .before .before .before in
     room-wide (sym (ap (λ (t : Bytes). length t) (c .before .before .before .before .line-columns .ensures) ∙ row-wide (s .pre .0))) (s .pre .1)
-
-same-length : tie.Need-same-length
-same-length c = search needs
-
-same-length-2 : tie.Need-same-length-2
-same-length-2 c = search needs
 
 returns : tie.Need-returns
 returns c =
@@ -46,12 +28,5 @@ pub put-row-spec : {M : Type 1} → statement M
 put-row-spec =
     tie.close
     (tie.spec
-    line-columns-requires
-    sub-is-one
-    mul-is-one
-    shared-slice-read-is-one
-    is-one-requires
-    put-line-requires
-    same-length
-    same-length-2
-    returns)
+    (λ c κs. search needs) (λ c. search needs) (λ c. search needs) (λ c. search needs) is-one-requires
+    put-line-requires (λ c. search needs) (λ c. search needs) returns)

@@ -10,38 +10,17 @@ use Rattle.blif_read_gates.proofs.LiteralLaws.{single-none, single-some
 use Rattle.blif_read_gates.proofs.single_pin.Statement.{statement}
 use Rattle.blif_read_gates.proofs.single_pin.Tie as tie
 
-zero-requires : tie.Need-zero-requires
-zero-requires c κs = search needs
-
-xor-requires : tie.Need-xor-requires
-xor-requires c κs = search needs
-
-raw-requires : tie.Need-raw-requires
-raw-requires c κs = search needs
-
 returns : tie.Need-returns
 returns c =
     let s = c .before .before .before .before .before in
     let literal = getD (s .args .pins .now) (s .args .at) 0 in
     single-none (s .args .one) (s .args .count) literal (c .before .before .zero .result .a) (c .raw .result) (c .before .before .before .if1 .taken) (c .before .before .zero .ensures) (c .raw .ensures ∙ c .before .xor .ensures)
 
-mul-literal : tie.Need-mul-literal
-mul-literal c = search needs
-
-shared-slice-read-literal : tie.Need-shared-slice-read-literal
-shared-slice-read-literal c = search needs
-
 returns-2 : tie.Need-returns-2
 returns-2 c =
     let s = c .before .before .before .before in
     let literal = getD (s .args .pins .now) (s .args .at) 0 in
     sym (single-some (s .args .one) (s .args .count) literal (c .before .before .if1 .left) ∙ ap (λ (b : Bool). cond b literal (turnCell literal)) (c .if2 .taken))
-
-not-requires : tie.Need-not-requires
-not-requires c κs = search needs
-
-raw-requires-2 : tie.Need-raw-requires-2
-raw-requires-2 c κs = search needs
 
 returns-3 : tie.Need-returns-3
 returns-3 c =
@@ -54,13 +33,5 @@ pub single-pin-spec : {M : Type 1} → statement M
 single-pin-spec =
     tie.close
     (tie.spec
-    zero-requires
-    xor-requires
-    raw-requires
-    returns
-    mul-literal
-    shared-slice-read-literal
-    returns-2
-    not-requires
-    raw-requires-2
-    returns-3)
+    (λ c κs. search needs) (λ c κs. search needs) (λ c κs. search needs) returns (λ c. search needs)
+    (λ c. search needs) returns-2 (λ c κs. search needs) (λ c κs. search needs) returns-3)

@@ -15,20 +15,11 @@ abbrev μ-loop : tie.MeasureT-loop
 loop-holds : tie.Need-loop-holds Inv-loop μ-loop
 loop-holds c = writing-start
 
-add-cell : tie.Need-add-cell Inv-loop μ-loop
-add-cell c = omega arith
-
-mul-cell : tie.Need-mul-cell Inv-loop μ-loop
-mul-cell c = omega arith
-
 slice-read-cell : tie.Need-slice-read-cell Inv-loop μ-loop
 slice-read-cell c =
     let l = c .before in
     let s = l .before .before .before .before in
     writing-source (s .pre .0) (s .pre .1) (l .before .loop .inv) (l .loop-test .taken)
-
-shared-slice-read-write-literal : tie.Need-shared-slice-read-write-literal Inv-loop μ-loop
-shared-slice-read-write-literal c = omega arith
 
 add-write-literal : tie.Need-add-write-literal Inv-loop μ-loop
 add-write-literal c = omega (arith, c .before .before .before .before .loop .inv .few)
@@ -70,18 +61,5 @@ pub write-literals-spec : {M : Type 1} → statement M
 write-literals-spec =
     tie.close
     (tie.spec
-    Inv-loop
-    μ-loop
-    loop-holds
-    add-cell
-    mul-cell
-    slice-read-cell
-    shared-slice-read-write-literal
-    add-write-literal
-    write-literal-requires
-    add-m
-    add-i
-    loop-less
-    loop-again
-    same-length
-    returns)
+    Inv-loop μ-loop loop-holds (λ c. omega arith) (λ c. omega arith) slice-read-cell (λ c. omega arith)
+    add-write-literal write-literal-requires add-m add-i loop-less loop-again same-length returns)

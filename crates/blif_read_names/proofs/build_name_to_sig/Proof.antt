@@ -25,9 +25,6 @@ define-row-requires : tie.Need-define-row-requires Inv-loop μ-loop
 define-row-requires c κs =
     (c .before .before .before .before .before .loop .inv .0, c .before .before .before .if1 .taken)
 
-enum-known-step : tie.Need-enum-known-step Inv-loop μ-loop
-enum-known-step c = search needs
-
 loop-less : tie.Need-loop-less Inv-loop μ-loop
 loop-less c =
     let s = going-next (subst (Steps _ _ _ _ _ _ _) (c .before .step .given .1) (c .before .before .before .before .before .before .before .before .before .define-row .ensures)) in
@@ -39,9 +36,6 @@ loop-again c =
     let v = c .before .before .before .before .before .before .before .before .before .before .before .before .before .before .before .loop .inv in
     let s = going-next (subst (Steps _ _ _ _ _ _ _) (c .before .step .given .1) (c .before .before .before .before .before .before .before .before .before .define-row .ensures)) in
     (s .1, k .0 ∙ v .1, k .1 .0 ∙ v .2, k .1 .1 .0 ∙ v .3)
-
-enum-known-step-2 : tie.Need-enum-known-step-2 Inv-loop μ-loop
-enum-known-step-2 c = search needs
 
 same-length : tie.Need-same-length Inv-loop μ-loop
 same-length c =
@@ -79,19 +73,5 @@ pub build-name-to-sig-spec : {M : Type 1} → statement M
 build-name-to-sig-spec =
     tie.close
     (tie.spec
-    Inv-loop
-    μ-loop
-    loop-holds
-    define-row-requires
-    enum-known-step
-    loop-less
-    loop-again
-    enum-known-step-2
-    same-length
-    same-length-2
-    same-length-3
-    returns
-    same-length-4
-    same-length-5
-    same-length-6
-    returns-2)
+    Inv-loop μ-loop loop-holds define-row-requires (λ c. search needs) loop-less loop-again (λ c. search needs)
+    same-length same-length-2 same-length-3 returns same-length-4 same-length-5 same-length-6 returns-2)

@@ -9,18 +9,6 @@ use Rattle.blif_read_names.proofs.define_last.Tie as tie
 returns : tie.Need-returns
 returns c = record { empty = λ e. refl; last = λ f. absurd (f (c .if1 .taken)) }
 
-add-last : tie.Need-add-last
-add-last c = search needs
-
-sub-last : tie.Need-sub-last
-sub-last c = search needs
-
-mul-define-gate : tie.Need-mul-define-gate
-mul-define-gate c = search needs
-
-shared-slice-read-define-gate : tie.Need-shared-slice-read-define-gate
-shared-slice-read-define-gate c = search needs
-
 define-gate-requires : tie.Need-define-gate-requires
 define-gate-requires c κs =
     let s = c .before .before .before .before .before .before .before .before .before .before in
@@ -36,12 +24,6 @@ define-gate-requires c κs =
       lines = s .pre .1;
     }
 
-same-length : tie.Need-same-length
-same-length c = search needs
-
-same-length-2 : tie.Need-same-length-2
-same-length-2 c = search needs
-
 returns-2 : tie.Need-returns-2
 returns-2 c =
     let if1 = c .before .before .before .before .before .before .before .before .before .if1 in
@@ -51,12 +33,5 @@ pub define-last-spec : {M : Type 1} → statement M
 define-last-spec =
     tie.close
     (tie.spec
-    returns
-    add-last
-    sub-last
-    mul-define-gate
-    shared-slice-read-define-gate
-    define-gate-requires
-    same-length
-    same-length-2
-    returns-2)
+    returns (λ c. search needs) (λ c. search needs) (λ c. search needs) (λ c. search needs) define-gate-requires
+    (λ c. search needs) (λ c. search needs) returns-2)

@@ -10,94 +10,34 @@ use Rattle.blif_read_names.proofs.Walking.{inputs-fit, outputs-fit, out
 use Rattle.blif_read_names.proofs.define_row.Statement.{statement}
 use Rattle.blif_read_names.proofs.define_row.Tie as tie
 
-row-at-requires : tie.Need-row-at-requires
-row-at-requires c κs = search needs
-
 enum-told : tie.Need-enum-told
 enum-told c = search needs
-
-refuse-if-requires : tie.Need-refuse-if-requires
-refuse-if-requires c κs = search needs
-
-step-of-requires : tie.Need-step-of-requires
-step-of-requires c κs = search needs
-
-enum-told-2 : tie.Need-enum-told-2
-enum-told-2 c = search needs
-
-refuse-if-requires-2 : tie.Need-refuse-if-requires-2
-refuse-if-requires-2 c κs = search needs
-
-step-of-requires-2 : tie.Need-step-of-requires-2
-step-of-requires-2 c κs = search needs
-
-enum-told-3 : tie.Need-enum-told-3
-enum-told-3 c = search needs
-
-sub-next : tie.Need-sub-next
-sub-next c = search needs
-
-sub-next-2 : tie.Need-sub-next-2
-sub-next-2 c = search needs
 
 add-next : tie.Need-add-next
 add-next c =
     omega (arith, inputs-fit (c .before .before .before .before .before .before .before .before .before .before .pre .0) (row-as (c .before .before .before .before .row-at .ensures) (c .before .before .enum-told3 .given .1)) .inputs)
 
-add-enter-inputs : tie.Need-add-enter-inputs
-add-enter-inputs c = search needs
-
 enter-inputs-requires : tie.Need-enter-inputs-requires
 enter-inputs-requires c κs =
     inputs-fit (c .before .before .before .before .before .before .before .before .before .before .before .before .pre .0) (row-as (c .before .before .before .before .before .before .row-at .ensures) (c .before .before .before .before .enum-told3 .given .1))
-
-step-of-requires-3 : tie.Need-step-of-requires-3
-step-of-requires-3 c κs = search needs
-
-enum-told-4 : tie.Need-enum-told-4
-enum-told-4 c = search needs
-
-sub-next-3 : tie.Need-sub-next-3
-sub-next-3 c = search needs
-
-sub-next-4 : tie.Need-sub-next-4
-sub-next-4 c = search needs
 
 add-next-2 : tie.Need-add-next-2
 add-next-2 c =
     omega (arith, outputs-small (c .before .before .before .before .before .before .before .before .before .before .pre .0) (row-as (c .before .before .before .before .row-at .ensures) (c .before .before .enum-told4 .given .1)))
 
-add-copy-outputs : tie.Need-add-copy-outputs
-add-copy-outputs c = search needs
-
 copy-outputs-requires : tie.Need-copy-outputs-requires
 copy-outputs-requires c κs =
     outputs-fit (c .before .before .before .before .before .before .before .before .before .before .before .before .pre .0) (row-as (c .before .before .before .before .before .before .row-at .ensures) (c .before .before .before .before .enum-told4 .given .1))
 
-enum-told-5 : tie.Need-enum-told-5
-enum-told-5 c = search needs
-
 define-latch-requires : tie.Need-define-latch-requires
 define-latch-requires c κs =
     latch-fit (c .before .before .before .before .before .before .before .before .before .before .pre .0) (row-as (c .before .before .before .before .row-at .ensures) (c .before .before .enum-told5 .given .1))
-
-enum-told-6 : tie.Need-enum-told-6
-enum-told-6 c = search needs
 
 define-cover-requires : tie.Need-define-cover-requires
 define-cover-requires c κs =
     let pre = c .before .before .before .before .before .before .before .before .before .before .pre in
     let w = c .before .before .before .before .row-at .ensures in
     (cover-fit (pre .0) (row-as (c .before .before .before .before .row-at .ensures) (c .before .before .enum-told6 .given .1)), (w .rest, pre .0 .few, w .low))
-
-enum-told-7 : tie.Need-enum-told-7
-enum-told-7 c = search needs
-
-enum-told-8 : tie.Need-enum-told-8
-enum-told-8 c = search needs
-
-enum-told-9 : tie.Need-enum-told-9
-enum-told-9 c = search needs
 
 returns : tie.Need-returns
 returns c =
@@ -107,38 +47,20 @@ returns-2 : tie.Need-returns-2
 returns-2 c =
     subst (Steps _ _ _ _ _ _ _) (step-is _ (c .step-of2 .ensures) (c .before .refuse-if2 .ensures)) (go-end (c .before .before .before .before .before .before .before .before .before .before .before .pre .0) (row-as (c .before .before .before .before .before .row-at .ensures) (c .before .before .before .enum-told2 .given .1)))
 
-same-length : tie.Need-same-length
-same-length c = search needs
-
 returns-3 : tie.Need-returns-3
 returns-3 c =
     let row = row-as (c .before .before .before .before .before .before .before .before .before .before .row-at .ensures) (c .before .before .before .before .before .before .before .before .enum-told3 .given .1) in
     subst (Steps _ _ _ _ _ _ _) (sym (c .step-of3 .ensures)) (go-inputs (c .before .before .before .before .before .before .before .before .before .before .before .before .before .before .before .before .pre .0) row (c .before .before .before .enter-inputs .ensures))
-
-same-length-2 : tie.Need-same-length-2
-same-length-2 c = search needs
 
 returns-4 : tie.Need-returns-4
 returns-4 c =
     let row = row-as (c .before .before .before .before .before .before .before .before .before .row-at .ensures) (c .before .before .before .before .before .before .before .enum-told4 .given .1) in
     go-outputs (c .before .before .before .before .before .before .before .before .before .before .before .before .before .before .before .pre .0) row (c .before .before .copy-outputs .ensures) (c .before .before .copy-outputs .kept .1 .1 .1 .0)
 
-same-length-3 : tie.Need-same-length-3
-same-length-3 c = search needs
-
-same-length-4 : tie.Need-same-length-4
-same-length-4 c = search needs
-
 returns-5 : tie.Need-returns-5
 returns-5 c =
     let row = row-as (c .before .before .before .before .before .before .before .before .before .row-at .ensures) (c .before .before .before .before .before .before .before .enum-told5 .given .1) in
     go-latch (c .before .before .before .before .before .before .before .before .before .before .before .before .before .before .before .pre .0) row (c .before .before .before .before .define-latch .ensures) (c .before .before .before .before .define-latch .kept .1 .1 .1 .0)
-
-same-length-5 : tie.Need-same-length-5
-same-length-5 c = search needs
-
-same-length-6 : tie.Need-same-length-6
-same-length-6 c = search needs
 
 returns-6 : tie.Need-returns-6
 returns-6 c =
@@ -161,45 +83,11 @@ pub define-row-spec : {M : Type 1} → statement M
 define-row-spec =
     tie.close
     (tie.spec
-    row-at-requires
-    enum-told
-    refuse-if-requires
-    step-of-requires
-    enum-told-2
-    refuse-if-requires-2
-    step-of-requires-2
-    enum-told-3
-    sub-next
-    sub-next-2
-    add-next
-    add-enter-inputs
-    enter-inputs-requires
-    step-of-requires-3
-    enum-told-4
-    sub-next-3
-    sub-next-4
-    add-next-2
-    add-copy-outputs
-    copy-outputs-requires
-    enum-told-5
-    define-latch-requires
-    enum-told-6
-    define-cover-requires
-    enum-told-7
-    enum-told-8
-    enum-told-9
-    returns
-    returns-2
-    same-length
-    returns-3
-    same-length-2
-    returns-4
-    same-length-3
-    same-length-4
-    returns-5
-    same-length-5
-    same-length-6
-    returns-6
-    returns-7
-    returns-8
-    returns-9)
+    (λ c κs. search needs) enum-told (λ c κs. search needs) (λ c κs. search needs) (λ c. search needs)
+    (λ c κs. search needs) (λ c κs. search needs) (λ c. search needs) (λ c. search needs) (λ c. search needs)
+    add-next (λ c. search needs) enter-inputs-requires (λ c κs. search needs) (λ c. search needs)
+    (λ c. search needs) (λ c. search needs) add-next-2 (λ c. search needs) copy-outputs-requires
+    (λ c. search needs) define-latch-requires (λ c. search needs) define-cover-requires (λ c. search needs)
+    (λ c. search needs) (λ c. search needs) returns returns-2 (λ c. search needs) returns-3 (λ c. search needs)
+    returns-4 (λ c. search needs) (λ c. search needs) returns-5 (λ c. search needs) (λ c. search needs) returns-6
+    returns-7 returns-8 returns-9)

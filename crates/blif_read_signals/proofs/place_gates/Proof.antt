@@ -27,12 +27,6 @@ place-block-requires c κs =
     let h = c .before .before .loop-test .taken in
     ((s .0, blocks-to (c .before .before .before .loop .j) h (s .1)), placing-room (c .before .before .before .loop .inv) h)
 
-enum-known-placed : tie.Need-enum-known-placed Inv-loop μ-loop
-enum-known-placed c = search needs
-
-enum-known-placed-2 : tie.Need-enum-known-placed-2 Inv-loop μ-loop
-enum-known-placed-2 c = search needs
-
 same-length : tie.Need-same-length Inv-loop μ-loop
 same-length c =
     c .before .before .before .before .before .before .before .place-block .kept .1 .1 .1 .1 .1 .1 .1 .0 ∙ c .before .before .before .before .before .before .before .before .before .before .before .loop .inv .same-gates
@@ -71,18 +65,5 @@ pub place-gates-spec : {M : Type 1} → statement M
 place-gates-spec =
     tie.close
     (tie.spec
-    Inv-loop
-    μ-loop
-    loop-holds
-    place-block-requires
-    enum-known-placed
-    enum-known-placed-2
-    same-length
-    same-length-2
-    returns
-    add-j
-    loop-less
-    loop-again
-    same-length-3
-    same-length-4
-    returns-2)
+    Inv-loop μ-loop loop-holds place-block-requires (λ c. search needs) (λ c. search needs) same-length
+    same-length-2 returns add-j loop-less loop-again same-length-3 same-length-4 returns-2)

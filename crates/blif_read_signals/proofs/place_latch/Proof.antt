@@ -16,20 +16,11 @@ use Rattle.network.proofs.lay_gate.Reads as lay-gate-reads
 use Rattle.signal.proofs.Signal.one.Reads as one-reads
 use Rattle.signal.proofs.Signal.zero.Reads as zero-reads
 
-mul-token : tie.Need-mul-token
-mul-token c = search needs
-
-shared-slice-read-token : tie.Need-shared-slice-read-token
-shared-slice-read-token c = search needs
-
 token-requires : tie.Need-token-requires
 token-requires c κs =
     let h = c .before .before .before .before .before .before .pre .0 .1 in
     let z : c .before .before .before .before .before .before .args .first + 0 ≡ c .before .before .before .before .before .before .args .first = omega arith in
     subst (λ (i : ℕ). InText (c .before .before .before .before .before .before .args .text .now) (getD (c .before .before .before .before .before .before .args .tokens .now) i 0)) z (h .inside 0 (omega arith))
-
-find-signal-requires : tie.Need-find-signal-requires
-find-signal-requires c κs = search needs
 
 returns : tie.Need-returns
 returns c =
@@ -37,12 +28,6 @@ returns c =
     let name = c .before .before .token .ensures in
     latch-missing (signalIn (entriesOf (s .text .now) (s .index .now) (s .k))) (tokenOf (s .text .now) (getD (s .tokens .now) (s .first) 0)) (tokenOf (s .text .now) (getD (s .tokens .now) (s .first + 1) 0))
     (c .before .find-signal .ensures ∙ ap (signalIn (entriesOf (s .text .now) (s .index .now) (s .k))) name) (s .j) (s .at) (s .gates .now) (s .pins .now) (c .if1 .taken)
-
-one-requires : tie.Need-one-requires
-one-requires c κs = search needs
-
-zero-requires : tie.Need-zero-requires
-zero-requires c κs = search needs
 
 lay-gate-requires : tie.Need-lay-gate-requires
 lay-gate-requires c κs =
@@ -52,12 +37,6 @@ lay-gate-requires c κs =
     let y = tokenOf (s .text .now) (getD (s .tokens .now) (s .first + 1) 0) in
     let e : c .before .before .before .before .before .find-signal .result ≡ sig x = c .before .before .before .before .before .find-signal .ensures ∙ ap sig (c .before .before .before .before .before .before .token .ensures) in
     latch-fits sig x y e (c .before .before .before .one .result) (c .before .before .zero .result) (s .j) (s .at) (s .gates .now) (s .pins .now) (c .before .before .before .before .before .before .before .before .before .before .before .before .before .pre .1)
-
-same-length : tie.Need-same-length
-same-length c = search needs
-
-same-length-2 : tie.Need-same-length-2
-same-length-2 c = search needs
 
 returns-2 : tie.Need-returns-2
 returns-2 c =
@@ -72,14 +51,5 @@ pub place-latch-spec : {M : Type 1} → statement M
 place-latch-spec =
     tie.close
     (tie.spec
-    mul-token
-    shared-slice-read-token
-    token-requires
-    find-signal-requires
-    returns
-    one-requires
-    zero-requires
-    lay-gate-requires
-    same-length
-    same-length-2
-    returns-2)
+    (λ c. search needs) (λ c. search needs) token-requires (λ c κs. search needs) returns (λ c κs. search needs)
+    (λ c κs. search needs) lay-gate-requires (λ c. search needs) (λ c. search needs) returns-2)

@@ -17,12 +17,6 @@ abbrev μ-loop : tie.MeasureT-loop
 loop-holds : tie.Need-loop-holds Inv-loop μ-loop
 loop-holds c = resolving-start
 
-mul-token : tie.Need-mul-token Inv-loop μ-loop
-mul-token c = omega arith
-
-shared-slice-read-token : tie.Need-shared-slice-read-token Inv-loop μ-loop
-shared-slice-read-token c = omega arith
-
 token-requires : tie.Need-token-requires Inv-loop μ-loop
 token-requires c κs = c .before .before .before .before .before .before .before .pre .1 .0 .inside _ (c .before .loop-test .taken)
 
@@ -47,12 +41,6 @@ slice-write-signals c =
     let v = loop .inv in
     omega (arith, v .laying .kept, c .before .before .before .before .loop-test .taken, pre .1 .1)
 
-add-i : tie.Need-add-i Inv-loop μ-loop
-add-i c = omega arith
-
-loop-less : tie.Need-loop-less Inv-loop μ-loop
-loop-less c = omega arith
-
 loop-again : tie.Need-loop-again Inv-loop μ-loop
 loop-again c =
     resolving-next (c .before .before .before .before .before .loop .inv) (c .before .before .before .before .loop-test .taken)
@@ -68,19 +56,6 @@ pub resolve-names-spec : {M : Type 1} → statement M
 resolve-names-spec =
     tie.close
     (tie.spec
-    Inv-loop
-    μ-loop
-    loop-holds
-    mul-token
-    shared-slice-read-token
-    token-requires
-    find-signal-requires
-    same-length
-    returns
-    mul-signals
-    slice-write-signals
-    add-i
-    loop-less
-    loop-again
-    same-length-2
-    returns-2)
+    Inv-loop μ-loop loop-holds (λ c. omega arith) (λ c. omega arith) token-requires find-signal-requires
+    same-length returns mul-signals slice-write-signals (λ c. omega arith) (λ c. omega arith) loop-again
+    same-length-2 returns-2)

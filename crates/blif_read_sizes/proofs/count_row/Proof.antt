@@ -6,52 +6,13 @@ use Rattle.blif_read_sizes.proofs.SizeLaws.{count-inputs, count-outputs
 use Rattle.blif_read_sizes.proofs.count_row.Statement.{statement}
 use Rattle.blif_read_sizes.proofs.count_row.Tie as tie
 
-row-at-requires : tie.Need-row-at-requires
-row-at-requires c κs = search needs
-
-sub-names : tie.Need-sub-names
-sub-names c = search needs
-
-sub-names-2 : tie.Need-sub-names-2
-sub-names-2 c = search needs
-
 enum-told : tie.Need-enum-told
 enum-told c = search needs
-
-add-sizes : tie.Need-add-sizes
-add-sizes c = search needs
-
-enum-told-2 : tie.Need-enum-told-2
-enum-told-2 c = search needs
-
-add-sizes-2 : tie.Need-add-sizes-2
-add-sizes-2 c = search needs
-
-enum-told-3 : tie.Need-enum-told-3
-enum-told-3 c = search needs
-
-add-sizes-3 : tie.Need-add-sizes-3
-add-sizes-3 c = search needs
-
-add-sizes-4 : tie.Need-add-sizes-4
-add-sizes-4 c = search needs
-
-enum-told-4 : tie.Need-enum-told-4
-enum-told-4 c = search needs
-
-cover-lines-requires : tie.Need-cover-lines-requires
-cover-lines-requires c κs = search needs
-
-cover-gates-requires : tie.Need-cover-gates-requires
-cover-gates-requires c κs = search needs
 
 add-sizes-5 : tie.Need-add-sizes-5
 add-sizes-5 c =
     let pre = c .before .before .before .before .before .before .before .before .pre in
     omega (arith, added-few (c .before .before .cover-lines .result .count), c .before .cover-gates .ensures, c .before .before .cover-lines .ensures .low, c .before .before .cover-lines .ensures .rest .rows .high, pre)
-
-cover-pins-requires : tie.Need-cover-pins-requires
-cover-pins-requires c κs = search needs
 
 add-sizes-6 : tie.Need-add-sizes-6
 add-sizes-6 c =
@@ -61,21 +22,6 @@ add-sizes-6 c =
     let w = row-at .ensures in
     let s = before in
     omega (arith, pins-few (c .before .cover-pins .ensures) (omega (arith, l .low, l .rest .rows .high, s .pre)) (omega (arith, w .rest .rows .high, s .pre)), s .pre)
-
-enum-told-5 : tie.Need-enum-told-5
-enum-told-5 c = search needs
-
-enum-told-6 : tie.Need-enum-told-6
-enum-told-6 c = search needs
-
-enum-told-7 : tie.Need-enum-told-7
-enum-told-7 c = search needs
-
-enum-told-8 : tie.Need-enum-told-8
-enum-told-8 c = search needs
-
-enum-told-9 : tie.Need-enum-told-9
-enum-told-9 c = search needs
 
 returns : tie.Need-returns
 returns c =
@@ -118,33 +64,8 @@ pub count-row-spec : {M : Type 1} → statement M
 count-row-spec =
     tie.close
     (tie.spec
-    row-at-requires
-    sub-names
-    sub-names-2
-    enum-told
-    add-sizes
-    enum-told-2
-    add-sizes-2
-    enum-told-3
-    add-sizes-3
-    add-sizes-4
-    enum-told-4
-    cover-lines-requires
-    cover-gates-requires
-    add-sizes-5
-    cover-pins-requires
-    add-sizes-6
-    enum-told-5
-    enum-told-6
-    enum-told-7
-    enum-told-8
-    enum-told-9
-    returns
-    returns-2
-    returns-3
-    returns-4
-    returns-5
-    returns-6
-    returns-7
-    returns-8
-    returns-9)
+    (λ c κs. search needs) (λ c. search needs) (λ c. search needs) enum-told (λ c. search needs)
+    (λ c. search needs) (λ c. search needs) (λ c. search needs) (λ c. search needs) (λ c. search needs)
+    (λ c. search needs) (λ c κs. search needs) (λ c κs. search needs) add-sizes-5 (λ c κs. search needs)
+    add-sizes-6 (λ c. search needs) (λ c. search needs) (λ c. search needs) (λ c. search needs) (λ c. search needs)
+    returns returns-2 returns-3 returns-4 returns-5 returns-6 returns-7 returns-8 returns-9)

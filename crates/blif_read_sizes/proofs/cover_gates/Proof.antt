@@ -5,9 +5,6 @@ use Rattle.blif_reading.specs.Read.{added}
 use Rattle.blif_read_sizes.proofs.cover_gates.Statement.{statement}
 use Rattle.blif_read_sizes.proofs.cover_gates.Tie as tie
 
-add-result : tie.Need-add-result
-add-result c = search needs
-
 returns : tie.Need-returns
 unfolding added
 returns c = rw (lt-ltb 1 (c .before .args .lines) (c .if1 .taken))
@@ -17,4 +14,5 @@ unfolding added
 returns-2 c = rw (le-ltb 1 (c .before .args .lines) (c .if1 .left))
 
 pub cover-gates-spec : {M : Type 1} → statement M
-cover-gates-spec = tie.close (tie.spec add-result returns returns-2)
+cover-gates-spec = tie.close (tie.spec
+    (λ c. search needs) returns returns-2)

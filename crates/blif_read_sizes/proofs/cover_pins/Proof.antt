@@ -7,25 +7,13 @@ use borrow.Author.Needs.{needs}
 use Rattle.blif_read_sizes.proofs.cover_pins.Statement.{statement}
 use Rattle.blif_read_sizes.proofs.cover_pins.Tie as tie
 
-add-result : tie.Need-add-result
-add-result c = search needs
-
-mul-result : tie.Need-mul-result
-mul-result c = search needs
-
 returns : tie.Need-returns
 returns c =
     let e : 2 ≡ c .before .args .names - 1 + 2 = omega (arith, c .if1 .taken) in
     ap (λ (k : ℕ). (c .before .args .lines + 1) * k) e
 
-add-result-2 : tie.Need-add-result-2
-add-result-2 c = search needs
-
 sub-result : tie.Need-sub-result
 sub-result c = omega (arith, c .if1 .left)
-
-add-result-3 : tie.Need-add-result-3
-add-result-3 c = omega arith
 
 mul-result-2 : tie.Need-mul-result-2
 mul-result-2 c =
@@ -39,4 +27,6 @@ returns-2 c = refl
 pub cover-pins-spec : {M : Type 1} → statement M
 cover-pins-spec =
     tie.close
-    (tie.spec add-result mul-result returns add-result-2 sub-result add-result-3 mul-result-2 returns-2)
+    (tie.spec
+    (λ c. search needs) (λ c. search needs) returns (λ c. search needs) sub-result (λ c. omega arith) mul-result-2
+    returns-2)

@@ -38,14 +38,9 @@ none (place.Latch first) k = refl
 none (place.Cube run) k = absurd (apart 7 k refl)
 none (place.Refused n) k = refl
 
-enum-told : tie.Need-enum-told
-enum-told c = search needs
-
-returns : tie.Need-returns
-returns c = search needs
-
 returns-2 : tie.Need-returns-2
 returns-2 c = none (c .before .args .statement) (c .match .keys2)
 
 pub is-cube-spec : {M : Type 1} → statement M
-is-cube-spec = tie.close (tie.spec enum-told returns returns-2)
+is-cube-spec = tie.close (tie.spec
+    (λ c. search needs) (λ c. search needs) returns-2)

@@ -5,9 +5,6 @@ use Rattle.blif_read_sizes.proofs.RowStarts.{row-is}
 use Rattle.blif_read_sizes.proofs.row_at.Statement.{statement}
 use Rattle.blif_read_sizes.proofs.row_at.Tie as tie
 
-row-end-requires : tie.Need-row-end-requires
-row-end-requires c κs = search needs
-
 statement-at-requires : tie.Need-statement-at-requires
 statement-at-requires c κs =
     let s = c .before .before .before in
@@ -20,4 +17,5 @@ returns c =
     row-is (s .pre .0) (s .pre .1) (c .before .row-end .ensures) (c .statement-at .ensures)
 
 pub row-at-spec : {M : Type 1} → statement M
-row-at-spec = tie.close (tie.spec row-end-requires statement-at-requires returns)
+row-at-spec = tie.close (tie.spec
+    (λ c κs. search needs) statement-at-requires returns)

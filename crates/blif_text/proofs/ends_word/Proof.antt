@@ -17,11 +17,9 @@ returns-3 c = lf-ends (c .before .before .before .args .c) (c .if3 .taken)
 returns-4 : tie.Need-returns-4
 returns-4 c = hash-ends (c .before .before .before .before .args .c) (c .if4 .taken)
 
-is-blank-requires : tie.Need-is-blank-requires
-is-blank-requires c κs = search needs
-
 returns-5 : tie.Need-returns-5
 returns-5 c = c .is-blank .ensures ∙ blank-ends (c .before .before .before .before .before .args .c) (c .before .if4 .left)
 
 pub ends-word-spec : {M : Type 1} → statement M
-ends-word-spec = tie.close (tie.spec returns returns-2 returns-3 returns-4 is-blank-requires returns-5)
+ends-word-spec = tie.close (tie.spec
+    returns returns-2 returns-3 returns-4 (λ c κs. search needs) returns-5)

@@ -29,9 +29,6 @@ statement-at-requires c κs =
 refusal-of-requires : tie.Need-refusal-of-requires Inv-loop μ-loop
 refusal-of-requires c κs = tt
 
-enum-known-bad : tie.Need-enum-known-bad Inv-loop μ-loop
-enum-known-bad c = search needs
-
 returns : tie.Need-returns Inv-loop μ-loop
 returns c =
     let v = c .before .before .before .before .before .before .before .loop .inv in
@@ -61,15 +58,5 @@ pub first-bad-spec : {M : Type 1} → statement M
 first-bad-spec =
     tie.close
     (tie.spec
-    Inv-loop
-    μ-loop
-    loop-holds
-    row-end-requires
-    statement-at-requires
-    refusal-of-requires
-    enum-known-bad
-    returns
-    enum-told
-    loop-less
-    loop-again
-    returns-2)
+    Inv-loop μ-loop loop-holds row-end-requires statement-at-requires refusal-of-requires (λ c. search needs)
+    returns enum-told loop-less loop-again returns-2)

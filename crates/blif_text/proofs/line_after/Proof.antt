@@ -5,12 +5,6 @@ use borrow.Author.Needs.{needs}
 use Rattle.blif_text.proofs.line_after.Statement.{statement}
 use Rattle.blif_text.proofs.line_after.Tie as tie
 
-line-end-requires : tie.Need-line-end-requires
-line-end-requires c κs = search needs
-
-add-result : tie.Need-add-result
-add-result c = search needs
-
 returns : tie.Need-returns
 returns c = record { end = c .before .line-end .result; to = c .before .line-end .ensures; is = inl (c .if1 .taken, refl) }
 
@@ -18,4 +12,5 @@ returns-2 : tie.Need-returns-2
 returns-2 c = record { end = c .before .line-end .result; to = c .before .line-end .ensures; is = inr (c .if1 .left, refl) }
 
 pub line-after-spec : {M : Type 1} → statement M
-line-after-spec = tie.close (tie.spec line-end-requires add-result returns returns-2)
+line-after-spec = tie.close (tie.spec
+    (λ c κs. search needs) (λ c. search needs) returns returns-2)

@@ -5,22 +5,10 @@ use Rattle.blif_text.proofs.ColumnLaws.{no-columns, first-columns}
 use Rattle.blif_text.proofs.line_columns.Statement.{statement}
 use Rattle.blif_text.proofs.line_columns.Tie as tie
 
-sub-if1 : tie.Need-sub-if1
-sub-if1 c = search needs
-
-slice-aggregate-result : tie.Need-slice-aggregate-result
-slice-aggregate-result c = search needs
-
 returns : tie.Need-returns
 returns c =
     let s = c .before .before .before .before in
     no-columns (s .args .text .now) (s .args .tokens .now) (s .args .row) (s .args .end) (s .pre .0) (s .pre .1 .room) (c .before .if1 .taken)
-
-mul-token : tie.Need-mul-token
-mul-token c = search needs
-
-shared-slice-read-token : tie.Need-shared-slice-read-token
-shared-slice-read-token c = search needs
 
 token-requires : tie.Need-token-requires
 token-requires c κs =
@@ -36,10 +24,5 @@ pub line-columns-spec : {M : Type 1} → statement M
 line-columns-spec =
     tie.close
     (tie.spec
-    sub-if1
-    slice-aggregate-result
-    returns
-    mul-token
-    shared-slice-read-token
-    token-requires
+    (λ c. search needs) (λ c. search needs) returns (λ c. search needs) (λ c. search needs) token-requires
     returns-2)

@@ -10,17 +10,8 @@ use Rattle.blif_text.proofs.line_stop.Tie as tie
 returns : tie.Need-returns
 returns c = one-stops (c .before .pre .0) (at-end (c .if1 .taken) refl)
 
-shared-slice-read-byte : tie.Need-shared-slice-read-byte
-shared-slice-read-byte c = search needs
-
-add-result : tie.Need-add-result
-add-result c = search needs
-
 returns-2 : tie.Need-returns-2
 returns-2 c = one-stops (omega arith) (at-lf (c .before .before .if1 .left) (c .if2 .taken) refl)
-
-add-lf : tie.Need-add-lf
-add-lf c = search needs
 
 returns-3 : tie.Need-returns-3
 returns-3 c = none-stops (c .before .before .before .if1 .left) (c .before .if2 .left) (λ l e d. let z : ⊥ = omega (arith, c .if3 .taken) in z)
@@ -28,16 +19,10 @@ returns-3 c = none-stops (c .before .before .before .if1 .left) (c .before .if2 
 returns-4 : tie.Need-returns-4
 returns-4 c = none-stops (c .before .before .before .before .if1 .left) (c .before .before .if2 .left) (λ l e d. c .if4 .taken e)
 
-shared-slice-read-if5 : tie.Need-shared-slice-read-if5
-shared-slice-read-if5 c = search needs
-
 returns-5 : tie.Need-returns-5
 returns-5 c =
     let if1 = c .before .before .before .before .before .before .if1 in
     none-stops (if1 .left) (c .before .before .before .before .if2 .left) (λ l e d. c .if5 .taken d)
-
-add-result-2 : tie.Need-add-result-2
-add-result-2 c = search needs
 
 returns-6 : tie.Need-returns-6
 returns-6 c = one-stops (omega arith) (at-cr (c .before .before .before .if3 .left) (c .before .before .if4 .left) (c .if5 .left) refl)
@@ -46,14 +31,5 @@ pub line-stop-spec : {M : Type 1} → statement M
 line-stop-spec =
     tie.close
     (tie.spec
-    returns
-    shared-slice-read-byte
-    add-result
-    returns-2
-    add-lf
-    returns-3
-    returns-4
-    shared-slice-read-if5
-    returns-5
-    add-result-2
-    returns-6)
+    returns (λ c. search needs) (λ c. search needs) returns-2 (λ c. search needs) returns-3 returns-4
+    (λ c. search needs) returns-5 (λ c. search needs) returns-6)

@@ -8,25 +8,13 @@ use Rattle.blif_text.proofs.ScanSteps.{scan-lf, scan-comment, scan-blan
 use Rattle.blif_text.proofs.mark_step.Statement.{statement}
 use Rattle.blif_text.proofs.mark_step.Tie as tie
 
-shared-slice-read-c : tie.Need-shared-slice-read-c
-shared-slice-read-c c = search needs
-
-ends-word-requires : tie.Need-ends-word-requires
-ends-word-requires c κs = search needs
-
 mark-word-requires : tie.Need-mark-word-requires
 mark-word-requires c κs =
     let before = c .before .before .before .before .before .before in
     let s = before in (s .pre .0, s .pre .1, sym (c .before .before .ends-word .ensures) ∙ not-true _ (c .before .if1 .taken))
 
-same-length : tie.Need-same-length
-same-length c = search needs
-
 returns : tie.Need-returns
 returns c = c .before .before .mark-word .ensures
-
-line-after-requires : tie.Need-line-after-requires
-line-after-requires c κs = search needs
 
 returns-2 : tie.Need-returns-2
 returns-2 c =
@@ -35,17 +23,8 @@ returns-2 c =
       comment-moves (s .pre .1) (c .before .if2 .taken) (c .line-after .ensures),
     )
 
-add-t14 : tie.Need-add-t14
-add-t14 c = search needs
-
 returns-3 : tie.Need-returns-3
 returns-3 c = let s = c .before .before .before .before .before .before .before in (scan-lf (s .pre .0) (s .pre .1) (c .if3 .taken), omega arith)
-
-add-skip-spaces : tie.Need-add-skip-spaces
-add-skip-spaces c = search needs
-
-skip-spaces-requires : tie.Need-skip-spaces-requires
-skip-spaces-requires c κs = search needs
 
 returns-4 : tie.Need-returns-4
 returns-4 c =
@@ -60,15 +39,6 @@ pub mark-step-spec : {M : Type 1} → statement M
 mark-step-spec =
     tie.close
     (tie.spec
-    shared-slice-read-c
-    ends-word-requires
-    mark-word-requires
-    same-length
-    returns
-    line-after-requires
-    returns-2
-    add-t14
-    returns-3
-    add-skip-spaces
-    skip-spaces-requires
+    (λ c. search needs) (λ c κs. search needs) mark-word-requires (λ c. search needs) returns
+    (λ c κs. search needs) returns-2 (λ c. search needs) returns-3 (λ c. search needs) (λ c κs. search needs)
     returns-4)

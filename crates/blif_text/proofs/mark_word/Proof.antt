@@ -5,27 +5,12 @@ use Rattle.blif_text.proofs.ScanSteps.{word-room, word-place, scan-word
 use Rattle.blif_text.proofs.mark_word.Statement.{statement}
 use Rattle.blif_text.proofs.mark_word.Tie as tie
 
-add-word-end : tie.Need-add-word-end
-add-word-end c = search needs
-
-word-end-requires : tie.Need-word-end-requires
-word-end-requires c κs = search needs
-
-sub-if1 : tie.Need-sub-if1
-sub-if1 c = search needs
-
-shared-slice-read-if1 : tie.Need-shared-slice-read-if1
-shared-slice-read-if1 c = search needs
-
 put-word-requires : tie.Need-put-word-requires
 put-word-requires c κs =
     let s = c .before .before .before .before .before .before in
     let w = c .before .before .before .word-end .ensures in
     let p = word-place (s .pre .0) (s .pre .1) (s .pre .2) w in
     (word-room (s .pre .0) (s .pre .1) (s .pre .2) w, p .0, omega (arith, w .passed .low), omega (arith, p .1))
-
-same-length : tie.Need-same-length
-same-length c = search needs
 
 returns : tie.Need-returns
 returns c =
@@ -37,18 +22,12 @@ returns c =
       omega (arith, c .before .before .put-word .ensures .place, w .passed .low),
     )
 
-line-stop-requires : tie.Need-line-stop-requires
-line-stop-requires c κs = search needs
-
 put-word-requires-2 : tie.Need-put-word-requires-2
 put-word-requires-2 c κs =
     let s = c .before .before .before .before .before .before .before .before in
     let w = c .before .before .before .before .before .word-end .ensures in
     let p = word-place (s .pre .0) (s .pre .1) (s .pre .2) w in
     (word-room (s .pre .0) (s .pre .1) (s .pre .2) w, p .0, omega (arith, w .passed .low), omega (arith, p .1))
-
-same-length-2 : tie.Need-same-length-2
-same-length-2 c = search needs
 
 returns-2 : tie.Need-returns-2
 returns-2 c =
@@ -61,9 +40,6 @@ returns-2 c =
       omega (arith, c .before .before .put-word2 .ensures .place, w .passed .low),
     )
 
-add-if3 : tie.Need-add-if3
-add-if3 c = search needs
-
 returns-3 : tie.Need-returns-3
 returns-3 c =
     let s = c .before .before .before .before .before .before .before .before in
@@ -74,18 +50,12 @@ returns-3 c =
       goes-moves (s .pre .0) (s .pre .1) (s .pre .2) w e t,
     )
 
-sub-put-word : tie.Need-sub-put-word
-sub-put-word c = search needs
-
 put-word-requires-3 : tie.Need-put-word-requires-3
 put-word-requires-3 c κs =
     let s = c .before .before .before .before .before .before .before .before .before in
     let w = c .before .before .before .before .before .before .word-end .ensures in
     let p = word-place (s .pre .0) (s .pre .1) (s .pre .2) w in
     (word-room (s .pre .0) (s .pre .1) (s .pre .2) w, p .0, omega (arith, w .passed .low), omega (arith, p .1))
-
-same-length-3 : tie.Need-same-length-3
-same-length-3 c = search needs
 
 returns-4 : tie.Need-returns-4
 returns-4 c =
@@ -105,20 +75,6 @@ pub mark-word-spec : {M : Type 1} → statement M
 mark-word-spec =
     tie.close
     (tie.spec
-    add-word-end
-    word-end-requires
-    sub-if1
-    shared-slice-read-if1
-    put-word-requires
-    same-length
-    returns
-    line-stop-requires
-    put-word-requires-2
-    same-length-2
-    returns-2
-    add-if3
-    returns-3
-    sub-put-word
-    put-word-requires-3
-    same-length-3
-    returns-4)
+    (λ c. search needs) (λ c κs. search needs) (λ c. search needs) (λ c. search needs) put-word-requires
+    (λ c. search needs) returns (λ c κs. search needs) put-word-requires-2 (λ c. search needs) returns-2
+    (λ c. search needs) returns-3 (λ c. search needs) put-word-requires-3 (λ c. search needs) returns-4)

@@ -38,9 +38,6 @@ none (place.Latch first) k = refl
 none (place.Cube run) k = refl
 none (place.Refused n) k = absurd (let z : 8 < 8 = below 8 k in omega arith)
 
-enum-known-s : tie.Need-enum-known-s
-enum-known-s c = search needs
-
 returns : tie.Need-returns
 returns c = sym (ap refusalIn (c .before .s .given .1))
 
@@ -48,4 +45,5 @@ returns-2 : tie.Need-returns-2
 returns-2 c = none (c .before .args .s) (c .match .keys2)
 
 pub refusal-of-spec : {M : Type 1} → statement M
-refusal-of-spec = tie.close (tie.spec enum-known-s returns returns-2)
+refusal-of-spec = tie.close (tie.spec
+    (λ c. search needs) returns returns-2)

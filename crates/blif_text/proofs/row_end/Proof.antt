@@ -15,29 +15,11 @@ Inv-loop cells at n i₀ i = NoneTo isFirst cells (at + 1) i × (i ≤ n)
 abbrev μ-loop : tie.MeasureT-loop
 μ-loop cells at n i₀ i = n - i
 
-add-i : tie.Need-add-i Inv-loop μ-loop
-add-i c = search needs
-
 loop-holds : tie.Need-loop-holds Inv-loop μ-loop
 loop-holds c = (none-start isFirst (omega arith), omega arith)
 
-mul-is-first : tie.Need-mul-is-first Inv-loop μ-loop
-mul-is-first c = search needs
-
-shared-slice-read-is-first : tie.Need-shared-slice-read-is-first Inv-loop μ-loop
-shared-slice-read-is-first c = search needs
-
-is-first-requires : tie.Need-is-first-requires Inv-loop μ-loop
-is-first-requires c κs = search needs
-
 returns : tie.Need-returns Inv-loop μ-loop
 returns c = row-stop (c .before .before .before .before .loop .inv .0) (omega arith) (λ h. sym (c .before .is-first .ensures) ∙ c .if1 .taken)
-
-add-i-2 : tie.Need-add-i-2 Inv-loop μ-loop
-add-i-2 c = search needs
-
-loop-less : tie.Need-loop-less Inv-loop μ-loop
-loop-less c = search needs
 
 loop-again : tie.Need-loop-again Inv-loop μ-loop
 loop-again c =
@@ -51,15 +33,5 @@ pub row-end-spec : {M : Type 1} → statement M
 row-end-spec =
     tie.close
     (tie.spec
-    Inv-loop
-    μ-loop
-    add-i
-    loop-holds
-    mul-is-first
-    shared-slice-read-is-first
-    is-first-requires
-    returns
-    add-i-2
-    loop-less
-    loop-again
-    returns-2)
+    Inv-loop μ-loop (λ c. search needs) loop-holds (λ c. search needs) (λ c. search needs) (λ c κs. search needs)
+    returns (λ c. search needs) (λ c. search needs) loop-again returns-2)

@@ -22,21 +22,6 @@ loop-holds c = none-start (eqb 10) (c .before .pre)
 sub-loop : tie.Need-sub-loop Inv-loop μ-loop
 sub-loop c = c .loop .inv .high
 
-add-e : tie.Need-add-e Inv-loop μ-loop
-add-e c = omega arith
-
-sub-has-line-end : tie.Need-sub-has-line-end Inv-loop μ-loop
-sub-has-line-end c = omega arith
-
-part-has-line-end-start : tie.Need-part-has-line-end-start Inv-loop μ-loop
-part-has-line-end-start c = search needs
-
-part-has-line-end-end : tie.Need-part-has-line-end-end Inv-loop μ-loop
-part-has-line-end-end c = search needs
-
-has-line-end-requires : tie.Need-has-line-end-requires Inv-loop μ-loop
-has-line-end-requires c κs = search needs
-
 returns : tie.Need-returns Inv-loop μ-loop
 returns c = c .before .before .before .before .loop .inv
 
@@ -53,16 +38,5 @@ pub skip-blocks-spec : {M : Type 1} → statement M
 skip-blocks-spec =
     tie.close
     (tie.spec
-    Inv-loop
-    μ-loop
-    loop-holds
-    sub-loop
-    add-e
-    sub-has-line-end
-    part-has-line-end-start
-    part-has-line-end-end
-    has-line-end-requires
-    returns
-    loop-less
-    loop-again
-    returns-2)
+    Inv-loop μ-loop loop-holds sub-loop (λ c. omega arith) (λ c. omega arith) (λ c. search needs)
+    (λ c. search needs) (λ c κs. search needs) returns loop-less loop-again returns-2)

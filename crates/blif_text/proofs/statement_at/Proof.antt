@@ -7,21 +7,6 @@ use Rattle.blif_text.specs.declared.Keyword.{Keyword}
 use Rattle.blif_text.proofs.statement_at.Statement.{statement}
 use Rattle.blif_text.proofs.statement_at.Tie as tie
 
-mul-first : tie.Need-mul-first
-mul-first c = search needs
-
-shared-slice-read-first : tie.Need-shared-slice-read-first
-shared-slice-read-first c = search needs
-
-token-requires : tie.Need-token-requires
-token-requires c κs = search needs
-
-keyword-of-requires : tie.Need-keyword-of-requires
-keyword-of-requires c κs = search needs
-
-statement-of-requires : tie.Need-statement-of-requires
-statement-of-requires c κs = search needs
-
 returns : tie.Need-returns
 returns c =
     let at = c .before .before .before .before .before .before .args .at in
@@ -33,9 +18,5 @@ pub statement-at-spec : {M : Type 1} → statement M
 statement-at-spec =
     tie.close
     (tie.spec
-    mul-first
-    shared-slice-read-first
-    token-requires
-    keyword-of-requires
-    statement-of-requires
+    (λ c. search needs) (λ c. search needs) (λ c κs. search needs) (λ c κs. search needs) (λ c κs. search needs)
     returns)

@@ -4,53 +4,14 @@ use Rattle.blif_text.proofs.StatementLaws.{of-keyword, of-model, of-no-
 use Rattle.blif_text.proofs.statement_of.Statement.{statement}
 use Rattle.blif_text.proofs.statement_of.Tie as tie
 
-add-t5 : tie.Need-add-t5
-add-t5 c = search needs
-
-sub-t6 : tie.Need-sub-t6
-sub-t6 c = search needs
-
-sub-t7 : tie.Need-sub-t7
-sub-t7 c = search needs
-
 enum-told : tie.Need-enum-told
 enum-told c = search needs
 
 returns : tie.Need-returns
 returns c = of-no-model (c .before .before .before .before .args .at) (c .before .before .before .before .args .end) (c .before .before .enum-told .given .1) (c .if1 .taken)
 
-enum-told-2 : tie.Need-enum-told-2
-enum-told-2 c = search needs
-
-enum-told-3 : tie.Need-enum-told-3
-enum-told-3 c = search needs
-
-enum-told-4 : tie.Need-enum-told-4
-enum-told-4 c = search needs
-
 returns-2 : tie.Need-returns-2
 returns-2 c = of-no-latch (c .before .before .before .before .args .at) (c .before .before .before .before .args .end) (c .before .before .enum-told4 .given .1) (c .if2 .taken)
-
-add-t13 : tie.Need-add-t13
-add-t13 c = search needs
-
-enum-told-5 : tie.Need-enum-told-5
-enum-told-5 c = search needs
-
-enum-told-6 : tie.Need-enum-told-6
-enum-told-6 c = search needs
-
-enum-told-7 : tie.Need-enum-told-7
-enum-told-7 c = search needs
-
-enum-told-8 : tie.Need-enum-told-8
-enum-told-8 c = search needs
-
-enum-told-9 : tie.Need-enum-told-9
-enum-told-9 c = search needs
-
-sub-t15 : tie.Need-sub-t15
-sub-t15 c = search needs
 
 returns-3 : tie.Need-returns-3
 returns-3 c = of-model (c .before .before .before .before .args .at) (c .before .before .before .before .args .end) (c .before .before .enum-told .given .1) (c .if1 .left)
@@ -83,28 +44,7 @@ pub statement-of-spec : {M : Type 1} → statement M
 statement-of-spec =
     tie.close
     (tie.spec
-    add-t5
-    sub-t6
-    sub-t7
-    enum-told
-    returns
-    enum-told-2
-    enum-told-3
-    enum-told-4
-    returns-2
-    add-t13
-    enum-told-5
-    enum-told-6
-    enum-told-7
-    enum-told-8
-    enum-told-9
-    sub-t15
-    returns-3
-    returns-4
-    returns-5
-    returns-6
-    returns-7
-    returns-8
-    returns-9
-    returns-10
-    returns-11)
+    (λ c. search needs) (λ c. search needs) (λ c. search needs) enum-told returns (λ c. search needs)
+    (λ c. search needs) (λ c. search needs) returns-2 (λ c. search needs) (λ c. search needs) (λ c. search needs)
+    (λ c. search needs) (λ c. search needs) (λ c. search needs) (λ c. search needs) returns-3 returns-4 returns-5
+    returns-6 returns-7 returns-8 returns-9 returns-10 returns-11)

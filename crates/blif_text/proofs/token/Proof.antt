@@ -14,24 +14,6 @@ part-is-token : (text : List ℕ) (cell : ℕ) {s l : ℕ} → s ≡ tokenStart 
 unfolding tokenOf
 part-is-token text cell {s} {l} p q = let e : s + l - s ≡ tokenLength cell = omega arith in ap₂ (λ (a k : ℕ). take k (drop a text)) p e
 
-token-start-requires : tie.Need-token-start-requires
-token-start-requires c κs = search needs
-
-token-length-requires : tie.Need-token-length-requires
-token-length-requires c κs = search needs
-
-add-end : tie.Need-add-end
-add-end c = search needs
-
-sub-result : tie.Need-sub-result
-sub-result c = search needs
-
-part-result-start : tie.Need-part-result-start
-part-result-start c = search needs
-
-part-result-end : tie.Need-part-result-end
-part-result-end c = search needs
-
 returns : tie.Need-returns
 returns c =
     let s = c .before .before .before .before in
@@ -41,10 +23,5 @@ pub token-spec : {M : Type 1} → statement M
 token-spec =
     tie.close
     (tie.spec
-    token-start-requires
-    token-length-requires
-    add-end
-    sub-result
-    part-result-start
-    part-result-end
-    returns)
+    (λ c κs. search needs) (λ c κs. search needs) (λ c. search needs) (λ c. search needs) (λ c. search needs)
+    (λ c. search needs) returns)

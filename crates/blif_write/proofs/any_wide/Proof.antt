@@ -27,9 +27,6 @@ form-at-requires c κs = held-run (c .before .before .before .before .pre .read 
 count-at-requires : tie.Need-count-at-requires Inv-loop μ-loop
 count-at-requires c κs = held-run (c .before .before .before .before .before .pre .read _ (c .before .loop-test .taken)) .cells
 
-is-wide-requires : tie.Need-is-wide-requires Inv-loop μ-loop
-is-wide-requires c κs = search needs
-
 returns : tie.Need-returns Inv-loop μ-loop
 returns c =
     let pre = c .before .before .before .before .before .before .before .before .pre in
@@ -55,14 +52,5 @@ pub any-wide-spec : {M : Type 1} → statement M
 any-wide-spec =
     tie.close
     (tie.spec
-    Inv-loop
-    μ-loop
-    loop-holds
-    form-at-requires
-    count-at-requires
-    is-wide-requires
-    returns
-    add-g
-    loop-less
-    loop-again
-    returns-2)
+    Inv-loop μ-loop loop-holds form-at-requires count-at-requires (λ c κs. search needs) returns add-g loop-less
+    loop-again returns-2)

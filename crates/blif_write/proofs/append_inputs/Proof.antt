@@ -21,9 +21,6 @@ Inv-loop out₀ at n end₀ i₀ t6 out end i = Before (λ (j k : ℕ). spaced (
 abbrev μ-loop : tie.MeasureT-loop
 μ-loop out₀ at n end₀ i₀ t6 out end i = n - i
 
-add-result : tie.Need-add-result Inv-loop μ-loop
-add-result c = search needs
-
 returns : tie.Need-returns Inv-loop μ-loop
 returns c = append-past (c .if1 .taken)
 
@@ -36,17 +33,8 @@ same-length c = going-kept (c .before .before .loop .inv .going)
 returns-2 : tie.Need-returns-2 Inv-loop μ-loop
 returns-2 c = going-full (c .before .before .loop .inv .going) (c .if2 .taken)
 
-slice-aggregate-append-name : tie.Need-slice-aggregate-append-name Inv-loop μ-loop
-slice-aggregate-append-name c = search needs
-
 cast-from-input : tie.Need-cast-from-input Inv-loop μ-loop
 cast-from-input c = omega (arith, c .before .before .before .loop-test .taken, c .before .before .before .before .before .before .before .pre)
-
-from-input-requires : tie.Need-from-input-requires Inv-loop μ-loop
-from-input-requires c κs = search needs
-
-append-name-requires : tie.Need-append-name-requires Inv-loop μ-loop
-append-name-requires c κs = search needs
 
 add-i : tie.Need-add-i Inv-loop μ-loop
 add-i c = omega (arith, c .before .before .before .before .before .before .before .loop-test .taken)
@@ -71,19 +59,6 @@ pub append-inputs-spec : {M : Type 1} → statement M
 append-inputs-spec =
     tie.close
     (tie.spec
-    Inv-loop
-    μ-loop
-    add-result
-    returns
-    loop-holds
-    same-length
-    returns-2
-    slice-aggregate-append-name
-    cast-from-input
-    from-input-requires
-    append-name-requires
-    add-i
-    loop-less
-    loop-again
-    same-length-2
+    Inv-loop μ-loop (λ c. search needs) returns loop-holds same-length returns-2 (λ c. search needs)
+    cast-from-input (λ c κs. search needs) (λ c κs. search needs) add-i loop-less loop-again same-length-2
     returns-3)

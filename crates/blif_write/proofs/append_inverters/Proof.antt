@@ -8,30 +8,6 @@ use Rattle.blif_write.proofs.Used.{inverters-written}
 use Rattle.blif_write.proofs.append_inverters.Statement.{statement}
 use Rattle.blif_write.proofs.append_inverters.Tie as tie
 
-slice-aggregate-get-inverted-signals : tie.Need-slice-aggregate-get-inverted-signals
-slice-aggregate-get-inverted-signals c = search needs
-
-slice-aggregate-get-inverted-signals-2 : tie.Need-slice-aggregate-get-inverted-signals-2
-slice-aggregate-get-inverted-signals-2 c = search needs
-
-get-inverted-signals-requires : tie.Need-get-inverted-signals-requires
-get-inverted-signals-requires c κs = search needs
-
-slice-aggregate-append-gate-inverters : tie.Need-slice-aggregate-append-gate-inverters
-slice-aggregate-append-gate-inverters c = search needs
-
-append-gate-inverters-requires : tie.Need-append-gate-inverters-requires
-append-gate-inverters-requires c κs = search needs
-
-slice-aggregate-append-input-inverters : tie.Need-slice-aggregate-append-input-inverters
-slice-aggregate-append-input-inverters c = search needs
-
-append-input-inverters-requires : tie.Need-append-input-inverters-requires
-append-input-inverters-requires c κs = search needs
-
-same-length : tie.Need-same-length
-same-length c = search needs
-
 returns : tie.Need-returns
 returns c =
     let args = c .before .before .before .before .before .before .before .before .before .before .before .before .before .before .before .before .before .before .before .args in
@@ -44,12 +20,5 @@ pub append-inverters-spec : {M : Type 1} → statement M
 append-inverters-spec =
     tie.close
     (tie.spec
-    slice-aggregate-get-inverted-signals
-    slice-aggregate-get-inverted-signals-2
-    get-inverted-signals-requires
-    slice-aggregate-append-gate-inverters
-    append-gate-inverters-requires
-    slice-aggregate-append-input-inverters
-    append-input-inverters-requires
-    same-length
-    returns)
+    (λ c. search needs) (λ c. search needs) (λ c κs. search needs) (λ c. search needs) (λ c κs. search needs)
+    (λ c. search needs) (λ c κs. search needs) (λ c. search needs) returns)

@@ -16,9 +16,6 @@ Inv-loop out₀ at gates pins n end₀ g₀ out end g = Before (λ (h k : ℕ). 
 abbrev μ-loop : tie.MeasureT-loop
 μ-loop out₀ at gates pins n end₀ g₀ out end g = n - g
 
-add-result : tie.Need-add-result Inv-loop μ-loop
-add-result c = search needs
-
 returns : tie.Need-returns Inv-loop μ-loop
 returns c = append-past (c .if1 .taken)
 
@@ -31,15 +28,6 @@ same-length c = going-kept (c .before .before .loop .inv .going)
 returns-2 : tie.Need-returns-2 Inv-loop μ-loop
 returns-2 c = going-full (c .before .before .loop .inv .going) (c .if2 .taken)
 
-sub-write-latch-at : tie.Need-sub-write-latch-at Inv-loop μ-loop
-sub-write-latch-at c = search needs
-
-part-write-latch-at-start : tie.Need-part-write-latch-at-start Inv-loop μ-loop
-part-write-latch-at-start c = search needs
-
-part-write-latch-at-end : tie.Need-part-write-latch-at-end Inv-loop μ-loop
-part-write-latch-at-end c = search needs
-
 write-latch-at-requires : tie.Need-write-latch-at-requires Inv-loop μ-loop
 write-latch-at-requires c κs = c .before .before .before .before .before .before .before .before .pre .read _ (c .before .before .loop-test .taken)
 
@@ -48,12 +36,6 @@ add-end c =
     let good = c .before .before .before .before .before .before .before .before .before .before .before .good in
     let loop = c .before .before .before .before .before .before .loop in
     let z = going-high (loop .inv .going) (c .before .before .before .before .if2 .left) (c .before .before .write-latch-at .ensures) in omega (arith, z, good .0 .1)
-
-add-g : tie.Need-add-g Inv-loop μ-loop
-add-g c = search needs
-
-loop-less : tie.Need-loop-less Inv-loop μ-loop
-loop-less c = search needs
 
 loop-again : tie.Need-loop-again Inv-loop μ-loop
 loop-again c =
@@ -71,20 +53,6 @@ pub append-latches-spec : {M : Type 1} → statement M
 append-latches-spec =
     tie.close
     (tie.spec
-    Inv-loop
-    μ-loop
-    add-result
-    returns
-    loop-holds
-    same-length
-    returns-2
-    sub-write-latch-at
-    part-write-latch-at-start
-    part-write-latch-at-end
-    write-latch-at-requires
-    add-end
-    add-g
-    loop-less
-    loop-again
-    same-length-2
-    returns-3)
+    Inv-loop μ-loop (λ c. search needs) returns loop-holds same-length returns-2 (λ c. search needs)
+    (λ c. search needs) (λ c. search needs) write-latch-at-requires add-end (λ c. search needs) (λ c. search needs)
+    loop-again same-length-2 returns-3)

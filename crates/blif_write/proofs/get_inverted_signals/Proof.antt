@@ -18,9 +18,6 @@ Inv-loop gate-marks₀ input-marks₀ gates pins n outputs g₀ gate-marks input
 abbrev μ-loop : tie.MeasureT-loop
 μ-loop gate-marks₀ input-marks₀ gates pins n outputs g₀ gate-marks input-marks g = n - g
 
-mark-signals-requires : tie.Need-mark-signals-requires Inv-loop μ-loop
-mark-signals-requires c κs = search needs
-
 loop-holds : tie.Need-loop-holds Inv-loop μ-loop
 loop-holds c = marking-start (rw sub-zero)
 
@@ -56,14 +53,5 @@ pub get-inverted-signals-spec : {M : Type 1} → statement M
 get-inverted-signals-spec =
     tie.close
     (tie.spec
-    Inv-loop
-    μ-loop
-    mark-signals-requires
-    loop-holds
-    mark-gate-requires
-    add-g
-    loop-less
-    loop-again
-    same-length
-    same-length-2
-    returns)
+    Inv-loop μ-loop (λ c κs. search needs) loop-holds mark-gate-requires add-g loop-less loop-again same-length
+    same-length-2 returns)

@@ -18,31 +18,10 @@ first-at-requires c κs = held-run (c .before .before .before .before .before .b
 count-at-requires : tie.Need-count-at-requires
 count-at-requires c κs = held-run (c .before .before .before .before .before .before .before .pre) .cells
 
-add-end : tie.Need-add-end
-add-end c = search needs
-
-mul-mark-signals : tie.Need-mul-mark-signals
-mul-mark-signals c = search needs
-
-sub-mark-signals : tie.Need-sub-mark-signals
-sub-mark-signals c = search needs
-
-part-mark-signals-start : tie.Need-part-mark-signals-start
-part-mark-signals-start c = search needs
-
 part-mark-signals-end : tie.Need-part-mark-signals-end
 part-mark-signals-end c =
     let pre = c .before .before .before .before .before .before .before .before .before .before .pre in
     omega (arith, held-run (pre) .within, c .before .before .before .first-at .ensures .cell, c .before .before .count-at .ensures .cell)
-
-mark-signals-requires : tie.Need-mark-signals-requires
-mark-signals-requires c κs = search needs
-
-same-length : tie.Need-same-length
-same-length c = search needs
-
-same-length-2 : tie.Need-same-length-2
-same-length-2 c = search needs
 
 returns-2 : tie.Need-returns-2
 returns-2 c =
@@ -57,16 +36,6 @@ pub mark-gate-spec : {M : Type 1} → statement M
 mark-gate-spec =
     tie.close
     (tie.spec
-    form-at-requires
-    returns
-    first-at-requires
-    count-at-requires
-    add-end
-    mul-mark-signals
-    sub-mark-signals
-    part-mark-signals-start
-    part-mark-signals-end
-    mark-signals-requires
-    same-length
-    same-length-2
-    returns-2)
+    form-at-requires returns first-at-requires count-at-requires (λ c. search needs) (λ c. search needs)
+    (λ c. search needs) (λ c. search needs) part-mark-signals-end (λ c κs. search needs) (λ c. search needs)
+    (λ c. search needs) returns-2)

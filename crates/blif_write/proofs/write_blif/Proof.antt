@@ -9,15 +9,6 @@ use Rattle.blif_write.proofs.Whole.{network-read, answers-layout, answe
 use Rattle.blif_write.proofs.write_blif.Statement.{statement}
 use Rattle.blif_write.proofs.write_blif.Tie as tie
 
-check-layout-requires : tie.Need-check-layout-requires
-check-layout-requires c κs = search needs
-
-refuse-requires : tie.Need-refuse-requires
-refuse-requires c κs = search needs
-
-same-length : tie.Need-same-length
-same-length c = search needs
-
 returns : tie.Need-returns
 returns c =
     let args = c .before .before .before .before .before .before .before .before .before .before .args in
@@ -26,12 +17,6 @@ returns c =
 
 any-wide-requires : tie.Need-any-wide-requires
 any-wide-requires c κs = network-read _ (λ i. omega (arith, c .before .before .before .before .shared-slice-known2 .given i)) (λ i. omega (arith, c .before .before .before .shared-slice-known3 .given i)) (sym (c .before .check-layout .ensures) ∙ not-false _ (c .if1 .left))
-
-refuse-requires-2 : tie.Need-refuse-requires-2
-refuse-requires-2 c κs = search needs
-
-same-length-2 : tie.Need-same-length-2
-same-length-2 c = search needs
 
 returns-2 : tie.Need-returns-2
 unfolding netOf
@@ -49,24 +34,10 @@ write-network-requires c κs =
     let shared-slice-known3 = c .before .before .before .before .before .before .shared-slice-known3 in
     record { network = (sym (c .before .before .before .before .check-layout .ensures) ∙ not-false _ (c .before .before .before .if1 .left)); narrow = sym (c .before .before .any-wide .ensures) ∙ c .before .if2 .left; readable = network-read _ (λ i. omega (arith, shared-slice-known2 .given i)) (λ i. omega (arith, shared-slice-known3 .given i)) (sym (c .before .before .before .before .check-layout .ensures) ∙ not-false _ (c .before .before .before .if1 .left)) }
 
-same-length-3 : tie.Need-same-length-3
-same-length-3 c = search needs
-
-returns-3 : tie.Need-returns-3
-returns-3 c = search needs
-
 pub write-blif-spec : {M : Type 1} → statement M
 write-blif-spec =
     tie.close
     (tie.spec
-    check-layout-requires
-    refuse-requires
-    same-length
-    returns
-    any-wide-requires
-    refuse-requires-2
-    same-length-2
-    returns-2
-    write-network-requires
-    same-length-3
-    returns-3)
+    (λ c κs. search needs) (λ c κs. search needs) (λ c. search needs) returns any-wide-requires
+    (λ c κs. search needs) (λ c. search needs) returns-2 write-network-requires (λ c. search needs)
+    (λ c. search needs))

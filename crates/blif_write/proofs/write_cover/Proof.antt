@@ -20,32 +20,11 @@ run c = c .before .before .gate3 .given .0 .1 .0
 ends : (c : tie.After-struct-known) → run c .first + run c .count ≤ length (entry c .args .pins .now)
 ends c = run-ends (entry c .args .pins .now) (c .before .before .gate3 .given .1) (entry c .pre .1)
 
-enum-known-gate : tie.Need-enum-known-gate
-enum-known-gate c = search needs
-
-write-binary-requires : tie.Need-write-binary-requires
-write-binary-requires c κs = search needs
-
-enum-known-gate-2 : tie.Need-enum-known-gate-2
-enum-known-gate-2 c = search needs
-
-write-ternary-requires : tie.Need-write-ternary-requires
-write-ternary-requires c κs = search needs
-
-enum-known-gate-3 : tie.Need-enum-known-gate-3
-enum-known-gate-3 c = search needs
-
 add-end : tie.Need-add-end
 add-end c = omega (arith, ends c)
 
 mul-write-nary : tie.Need-mul-write-nary
 mul-write-nary c = omega (arith, ends (c .before))
-
-sub-write-nary : tie.Need-sub-write-nary
-sub-write-nary c = search needs
-
-part-write-nary-start : tie.Need-part-write-nary-start
-part-write-nary-start c = search needs
 
 part-write-nary-end : tie.Need-part-write-nary-end
 part-write-nary-end c = omega (arith, ends (c .before))
@@ -55,17 +34,8 @@ write-nary-requires c κs =
     let start = entry (c .before .before) in
     (start .pre .0, narrow-run (start .args .pins .now) (c .before .before .before .before .gate3 .given .1) (start .pre .2))
 
-enum-known-gate-4 : tie.Need-enum-known-gate-4
-enum-known-gate-4 c = search needs
-
-write-buf-requires : tie.Need-write-buf-requires
-write-buf-requires c κs = search needs
-
 enum-told : tie.Need-enum-told
 enum-told c = search needs
-
-same-length : tie.Need-same-length
-same-length c = search needs
 
 returns : tie.Need-returns
 returns c =
@@ -73,26 +43,17 @@ returns c =
     let gate = c .before .before .before .before .before .gate in
     as-wrote (cover-binary (args .g) (args .pins .now) (gate .given .1)) (c .before .before .write-binary .ensures)
 
-same-length-2 : tie.Need-same-length-2
-same-length-2 c = search needs
-
 returns-2 : tie.Need-returns-2
 returns-2 c =
     let args = c .before .before .before .before .before .before .before .before .before .args in
     let gate2 = c .before .before .before .before .before .gate2 in
     as-wrote (cover-ternary (args .g) (args .pins .now) (gate2 .given .1)) (c .before .before .write-ternary .ensures)
 
-same-length-3 : tie.Need-same-length-3
-same-length-3 c = search needs
-
 returns-3 : tie.Need-returns-3
 returns-3 c =
     let start = entry (c .before .before .before .before .before) in
     let gate3 = c .before .before .before .before .before .before .before .gate3 in
     as-wrote (cover-nary (start .args .g) (start .args .pins .now) (gate3 .given .1)) (c .before .before .write-nary .ensures)
-
-same-length-4 : tie.Need-same-length-4
-same-length-4 c = search needs
 
 returns-4 : tie.Need-returns-4
 returns-4 c =
@@ -107,26 +68,7 @@ pub write-cover-spec : {M : Type 1} → statement M
 write-cover-spec =
     tie.close
     (tie.spec
-    enum-known-gate
-    write-binary-requires
-    enum-known-gate-2
-    write-ternary-requires
-    enum-known-gate-3
-    add-end
-    mul-write-nary
-    sub-write-nary
-    part-write-nary-start
-    part-write-nary-end
-    write-nary-requires
-    enum-known-gate-4
-    write-buf-requires
-    enum-told
-    same-length
-    returns
-    same-length-2
-    returns-2
-    same-length-3
-    returns-3
-    same-length-4
-    returns-4
-    returns-5)
+    (λ c. search needs) (λ c κs. search needs) (λ c. search needs) (λ c κs. search needs) (λ c. search needs)
+    add-end mul-write-nary (λ c. search needs) (λ c. search needs) part-write-nary-end write-nary-requires
+    (λ c. search needs) (λ c κs. search needs) enum-told (λ c. search needs) returns (λ c. search needs) returns-2
+    (λ c. search needs) returns-3 (λ c. search needs) returns-4 returns-5)

@@ -16,12 +16,6 @@ form-at-requires c κs = held-run (c .before .before .before .pre .0) .cells
 returns : tie.Need-returns
 returns c = as-wrote (cover-none (c .before .before .before .before .before .pre .0) (c .before .form-at .ensures) (c .if1 .taken)) wrote-nothing
 
-gate-at-requires : tie.Need-gate-at-requires
-gate-at-requires c κs = search needs
-
-enum-known-gate : tie.Need-enum-known-gate
-enum-known-gate c = search needs
-
 enum-told : tie.Need-enum-told
 enum-told c = search needs
 
@@ -41,9 +35,6 @@ write-cover-requires c κs =
       ap wide (read-good (args .gates .now) (args .pins .now) (args .g) decoded is) ∙ pre .1,
     )
 
-same-length : tie.Need-same-length
-same-length c = search needs
-
 returns-3 : tie.Need-returns-3
 returns-3 c =
     let args = c .before .before .before .before .before .before .before .before .before .before .before .before .before .args in
@@ -55,12 +46,5 @@ pub write-cover-at-spec : {M : Type 1} → statement M
 write-cover-at-spec =
     tie.close
     (tie.spec
-    form-at-requires
-    returns
-    gate-at-requires
-    enum-known-gate
-    enum-told
-    returns-2
-    write-cover-requires
-    same-length
-    returns-3)
+    form-at-requires returns (λ c κs. search needs) (λ c. search needs) enum-told returns-2 write-cover-requires
+    (λ c. search needs) returns-3)

@@ -11,21 +11,6 @@ use Rattle.blif_write.proofs.write_latch.Tie as tie
 enum-told : tie.Need-enum-told
 enum-told c = search needs
 
-enum-told-2 : tie.Need-enum-told-2
-enum-told-2 c = search needs
-
-enum-told-3 : tie.Need-enum-told-3
-enum-told-3 c = search needs
-
-enum-told-4 : tie.Need-enum-told-4
-enum-told-4 c = search needs
-
-enum-known-gate : tie.Need-enum-known-gate
-enum-known-gate c = search needs
-
-write-stored-requires : tie.Need-write-stored-requires
-write-stored-requires c κs = search needs
-
 returns : tie.Need-returns
 unfolding latchText flatMap
 returns c = as-wrote (latch-at (c .before .before .before .args .g) (c .enum-told .given .1) refl) wrote-nothing
@@ -42,9 +27,6 @@ returns-4 : tie.Need-returns-4
 unfolding latchText flatMap
 returns-4 c = as-wrote (latch-at (c .before .before .before .args .g) (c .enum-told4 .given .1) refl) wrote-nothing
 
-same-length : tie.Need-same-length
-same-length c = search needs
-
 returns-5 : tie.Need-returns-5
 returns-5 c =
     let args = c .before .before .before .before .before .before .before .before .args in
@@ -55,15 +37,5 @@ pub write-latch-spec : {M : Type 1} → statement M
 write-latch-spec =
     tie.close
     (tie.spec
-    enum-told
-    enum-told-2
-    enum-told-3
-    enum-told-4
-    enum-known-gate
-    write-stored-requires
-    returns
-    returns-2
-    returns-3
-    returns-4
-    same-length
-    returns-5)
+    enum-told (λ c. search needs) (λ c. search needs) (λ c. search needs) (λ c. search needs)
+    (λ c κs. search needs) returns returns-2 returns-3 returns-4 (λ c. search needs) returns-5)

@@ -14,12 +14,6 @@ form-at-requires c κs = held-run (c .before .before .before .pre) .cells
 returns : tie.Need-returns
 returns c = as-wrote (latch-none (c .before .before .before .before .before .pre) (c .before .form-at .ensures) (c .if1 .taken)) wrote-nothing
 
-gate-at-requires : tie.Need-gate-at-requires
-gate-at-requires c κs = search needs
-
-enum-known-gate : tie.Need-enum-known-gate
-enum-known-gate c = search needs
-
 enum-told : tie.Need-enum-told
 enum-told c = search needs
 
@@ -30,9 +24,6 @@ returns-2 c =
 
 write-latch-requires : tie.Need-write-latch-requires
 write-latch-requires c κs = c .before .before .before .before .before .before .before .before .before .before .pre .low
-
-same-length : tie.Need-same-length
-same-length c = search needs
 
 returns-3 : tie.Need-returns-3
 returns-3 c =
@@ -45,12 +36,5 @@ pub write-latch-at-spec : {M : Type 1} → statement M
 write-latch-at-spec =
     tie.close
     (tie.spec
-    form-at-requires
-    returns
-    gate-at-requires
-    enum-known-gate
-    enum-told
-    returns-2
-    write-latch-requires
-    same-length
-    returns-3)
+    form-at-requires returns (λ c κs. search needs) (λ c. search needs) enum-told returns-2 write-latch-requires
+    (λ c. search needs) returns-3)

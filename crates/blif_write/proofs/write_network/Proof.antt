@@ -9,12 +9,6 @@ use Rattle.blif_write.proofs.Whole.{ends-long, ends-written}
 use Rattle.blif_write.proofs.write_network.Statement.{statement}
 use Rattle.blif_write.proofs.write_network.Tie as tie
 
-room-in-requires : tie.Need-room-in-requires
-room-in-requires c κs = search needs
-
-slice-relend-prefix-write-text : tie.Need-slice-relend-prefix-write-text
-slice-relend-prefix-write-text c = search needs
-
 slice-aggregate-write-text : tie.Need-slice-aggregate-write-text
 slice-aggregate-write-text c =
     let args = c .before .before .before .before .before .before .args in
@@ -32,12 +26,6 @@ write-text-requires c κs =
     let pre = c .before .before .before .before .before .before .before .pre in
     (pre .readable, network-sizes _ (pre .network) .few .inputs, pre .narrow)
 
-refuse-requires : tie.Need-refuse-requires
-refuse-requires c κs = search needs
-
-same-length : tie.Need-same-length
-same-length c = search needs
-
 returns : tie.Need-returns
 unfolding netOf
 returns c =
@@ -46,21 +34,6 @@ returns c =
     let room-in = c .before .before .before .before .before .before .before .before .before .before .room-in in
     let write-text = c .before .before .before .before .before .before .before .write-text in
     c .before .before .refuse .ensures ∙ ends-long _ (args .out .now) (pre) (room-in .ensures) (write-text .ensures) (c .before .before .before .before .if1 .taken)
-
-sub-fill-zero-bytes : tie.Need-sub-fill-zero-bytes
-sub-fill-zero-bytes c = search needs
-
-part-fill-zero-bytes-start : tie.Need-part-fill-zero-bytes-start
-part-fill-zero-bytes-start c = search needs
-
-part-fill-zero-bytes-end : tie.Need-part-fill-zero-bytes-end
-part-fill-zero-bytes-end c = search needs
-
-fill-zero-bytes-requires : tie.Need-fill-zero-bytes-requires
-fill-zero-bytes-requires c κs = search needs
-
-same-length-2 : tie.Need-same-length-2
-same-length-2 c = search needs
 
 returns-2 : tie.Need-returns-2
 unfolding netOf
@@ -75,17 +48,6 @@ pub write-network-spec : {M : Type 1} → statement M
 write-network-spec =
     tie.close
     (tie.spec
-    room-in-requires
-    slice-relend-prefix-write-text
-    slice-aggregate-write-text
-    slice-aggregate-write-text-2
-    write-text-requires
-    refuse-requires
-    same-length
-    returns
-    sub-fill-zero-bytes
-    part-fill-zero-bytes-start
-    part-fill-zero-bytes-end
-    fill-zero-bytes-requires
-    same-length-2
-    returns-2)
+    (λ c κs. search needs) (λ c. search needs) slice-aggregate-write-text slice-aggregate-write-text-2
+    write-text-requires (λ c κs. search needs) (λ c. search needs) returns (λ c. search needs) (λ c. search needs)
+    (λ c. search needs) (λ c κs. search needs) (λ c. search needs) returns-2)

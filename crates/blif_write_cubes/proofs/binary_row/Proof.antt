@@ -14,9 +14,6 @@ mul-result c = omega (arith, binary-at (c .enum-told .given .1) (c .before .befo
 array-copy-out-result : tie.Need-array-copy-out-result
 array-copy-out-result c = binary-at (c .enum-told .given .1) (c .before .before .pre)
 
-enum-told-2 : tie.Need-enum-told-2
-enum-told-2 c = search needs
-
 mul-result-2 : tie.Need-mul-result-2
 mul-result-2 c = omega (arith, binary-at (c .enum-told2 .given .1) (c .before .before .pre))
 
@@ -33,11 +30,5 @@ pub binary-row-spec : {M : Type 1} → statement M
 binary-row-spec =
     tie.close
     (tie.spec
-    enum-told
-    mul-result
-    array-copy-out-result
-    enum-told-2
-    mul-result-2
-    array-copy-out-result-2
-    returns
+    enum-told mul-result array-copy-out-result (λ c. search needs) mul-result-2 array-copy-out-result-2 returns
     returns-2)

@@ -26,12 +26,6 @@ same-length c = putting-kept (c .before .before .loop .inv)
 returns : tie.Need-returns Inv-loop μ-loop
 returns c = putting-full (c .before .before .loop .inv) (columns-next _ _ _ (c .before .loop-test .taken)) (c .if1 .taken)
 
-cast-out : tie.Need-cast-out Inv-loop μ-loop
-cast-out c = omega arith
-
-add-out : tie.Need-add-out Inv-loop μ-loop
-add-out c = omega arith
-
 slice-write-out : tie.Need-slice-write-out Inv-loop μ-loop
 slice-write-out c = omega (arith, c .if1 .left)
 
@@ -54,17 +48,5 @@ pub put-columns-spec : {M : Type 1} → statement M
 put-columns-spec =
     tie.close
     (tie.spec
-    Inv-loop
-    μ-loop
-    loop-holds
-    add-result
-    same-length
-    returns
-    cast-out
-    add-out
-    slice-write-out
-    add-i
-    loop-less
-    loop-again
-    same-length-2
-    returns-2)
+    Inv-loop μ-loop loop-holds add-result same-length returns (λ c. omega arith) (λ c. omega arith) slice-write-out
+    add-i loop-less loop-again same-length-2 returns-2)

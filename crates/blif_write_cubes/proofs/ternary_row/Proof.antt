@@ -14,26 +14,17 @@ mul-result c = omega (arith, ternary-at (c .enum-told .given .1) (c .before .bef
 array-copy-out-result : tie.Need-array-copy-out-result
 array-copy-out-result c = ternary-at (c .enum-told .given .1) (c .before .before .pre)
 
-enum-told-2 : tie.Need-enum-told-2
-enum-told-2 c = search needs
-
 mul-result-2 : tie.Need-mul-result-2
 mul-result-2 c = omega (arith, ternary-at (c .enum-told2 .given .1) (c .before .before .pre))
 
 array-copy-out-result-2 : tie.Need-array-copy-out-result-2
 array-copy-out-result-2 c = ternary-at (c .enum-told2 .given .1) (c .before .before .pre)
 
-enum-told-3 : tie.Need-enum-told-3
-enum-told-3 c = search needs
-
 mul-result-3 : tie.Need-mul-result-3
 mul-result-3 c = omega (arith, ternary-at (c .enum-told3 .given .1) (c .before .before .pre))
 
 array-copy-out-result-3 : tie.Need-array-copy-out-result-3
 array-copy-out-result-3 c = ternary-at (c .enum-told3 .given .1) (c .before .before .pre)
-
-enum-told-4 : tie.Need-enum-told-4
-enum-told-4 c = search needs
 
 mul-result-4 : tie.Need-mul-result-4
 mul-result-4 c = omega (arith, ternary-at (c .enum-told4 .given .1) (c .before .before .pre))
@@ -57,19 +48,6 @@ pub ternary-row-spec : {M : Type 1} → statement M
 ternary-row-spec =
     tie.close
     (tie.spec
-    enum-told
-    mul-result
-    array-copy-out-result
-    enum-told-2
-    mul-result-2
-    array-copy-out-result-2
-    enum-told-3
-    mul-result-3
-    array-copy-out-result-3
-    enum-told-4
-    mul-result-4
-    array-copy-out-result-4
-    returns
-    returns-2
-    returns-3
-    returns-4)
+    enum-told mul-result array-copy-out-result (λ c. search needs) mul-result-2 array-copy-out-result-2
+    (λ c. search needs) mul-result-3 array-copy-out-result-3 (λ c. search needs) mul-result-4
+    array-copy-out-result-4 returns returns-2 returns-3 returns-4)

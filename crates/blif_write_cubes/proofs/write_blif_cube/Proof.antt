@@ -5,15 +5,6 @@ use Rattle.blif_write_names.proofs.Laws.{and-append, from-start, to-start}
 use Rattle.blif_write_cubes.proofs.write_blif_cube.Statement.{statement}
 use Rattle.blif_write_cubes.proofs.write_blif_cube.Tie as tie
 
-put-columns-requires : tie.Need-put-columns-requires
-put-columns-requires c κs = search needs
-
-append-output-requires : tie.Need-append-output-requires
-append-output-requires c κs = search needs
-
-same-length : tie.Need-same-length
-same-length c = search needs
-
 returns : tie.Need-returns
 unfolding cubeOf
 returns c =
@@ -22,4 +13,5 @@ returns c =
 
 pub write-blif-cube-spec : {M : Type 1} → statement M
 write-blif-cube-spec =
-    tie.close (tie.spec put-columns-requires append-output-requires same-length returns)
+    tie.close (tie.spec
+    (λ c κs. search needs) (λ c κs. search needs) (λ c. search needs) returns)

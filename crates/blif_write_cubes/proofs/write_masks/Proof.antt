@@ -29,18 +29,6 @@ same-length c = going-kept (c .before .before .loop .inv .going)
 returns : tie.Need-returns Inv-loop μ-loop
 returns c = all-masks _ _ (c .before .before .before .before .pre) (going-full (c .before .before .loop .inv .going) (c .if1 .taken))
 
-sub-write-minterm : tie.Need-sub-write-minterm Inv-loop μ-loop
-sub-write-minterm c = search needs
-
-part-write-minterm-start : tie.Need-part-write-minterm-start Inv-loop μ-loop
-part-write-minterm-start c = search needs
-
-part-write-minterm-end : tie.Need-part-write-minterm-end Inv-loop μ-loop
-part-write-minterm-end c = search needs
-
-write-minterm-requires : tie.Need-write-minterm-requires Inv-loop μ-loop
-write-minterm-requires c κs = search needs
-
 add-at : tie.Need-add-at Inv-loop μ-loop
 add-at c =
     let good = c .before .before .before .before .before .before .before .before .good in
@@ -69,20 +57,5 @@ pub write-masks-spec : {M : Type 1} → statement M
 write-masks-spec =
     tie.close
     (tie.spec
-    Inv-loop
-    μ-loop
-    cast-count
-    shl-count
-    loop-holds
-    same-length
-    returns
-    sub-write-minterm
-    part-write-minterm-start
-    part-write-minterm-end
-    write-minterm-requires
-    add-at
-    add-mask
-    loop-less
-    loop-again
-    same-length-2
-    returns-2)
+    Inv-loop μ-loop cast-count shl-count loop-holds same-length returns (λ c. search needs) (λ c. search needs)
+    (λ c. search needs) (λ c κs. search needs) add-at add-mask loop-less loop-again same-length-2 returns-2)

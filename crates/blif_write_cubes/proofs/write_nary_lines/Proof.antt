@@ -11,81 +11,36 @@ use Rattle.blif_write_cubes.proofs.write_nary_lines.Tie as tie
 enum-told : tie.Need-enum-told
 enum-told c = search needs
 
-write-same-cube-requires : tie.Need-write-same-cube-requires
-write-same-cube-requires c κs = search needs
-
-enum-told-2 : tie.Need-enum-told-2
-enum-told-2 c = search needs
-
-write-same-cube-requires-2 : tie.Need-write-same-cube-requires-2
-write-same-cube-requires-2 c κs = search needs
-
-enum-told-3 : tie.Need-enum-told-3
-enum-told-3 c = search needs
-
-write-same-cube-requires-3 : tie.Need-write-same-cube-requires-3
-write-same-cube-requires-3 c κs = search needs
-
-enum-told-4 : tie.Need-enum-told-4
-enum-told-4 c = search needs
-
-write-same-cube-requires-4 : tie.Need-write-same-cube-requires-4
-write-same-cube-requires-4 c κs = search needs
-
-enum-told-5 : tie.Need-enum-told-5
-enum-told-5 c = search needs
-
 write-masks-requires : tie.Need-write-masks-requires
 write-masks-requires c κs = within-narrow (c .before .before .before .before .args .num-vars) (c .before .enum-told5 .given .1) refl (c .before .before .before .before .pre)
 
-enum-told-6 : tie.Need-enum-told-6
-enum-told-6 c = search needs
-
 write-masks-requires-2 : tie.Need-write-masks-requires-2
 write-masks-requires-2 c κs = within-narrow (c .before .before .before .before .args .num-vars) (c .before .enum-told6 .given .1) refl (c .before .before .before .before .pre)
-
-same-length : tie.Need-same-length
-same-length c = search needs
 
 returns : tie.Need-returns
 returns c =
     let args = c .before .before .before .before .before .before .before .args in
     as-wrote (lines-at (args .num-vars) (c .before .before .before .before .enum-told .given .1) (same-line (args .num-vars) C1 true)) (c .before .before .write-same-cube .ensures)
 
-same-length-2 : tie.Need-same-length-2
-same-length-2 c = search needs
-
 returns-2 : tie.Need-returns-2
 returns-2 c =
     let args = c .before .before .before .before .before .before .before .args in
     as-wrote (lines-at (args .num-vars) (c .before .before .before .before .enum-told2 .given .1) (same-line (args .num-vars) C0 false)) (c .before .before .write-same-cube2 .ensures)
-
-same-length-3 : tie.Need-same-length-3
-same-length-3 c = search needs
 
 returns-3 : tie.Need-returns-3
 returns-3 c =
     let args = c .before .before .before .before .before .before .before .args in
     as-wrote (lines-at (args .num-vars) (c .before .before .before .before .enum-told3 .given .1) (same-line (args .num-vars) C1 false)) (c .before .before .write-same-cube3 .ensures)
 
-same-length-4 : tie.Need-same-length-4
-same-length-4 c = search needs
-
 returns-4 : tie.Need-returns-4
 returns-4 c =
     let args = c .before .before .before .before .before .before .before .args in
     as-wrote (lines-at (args .num-vars) (c .before .before .before .before .enum-told4 .given .1) (same-line (args .num-vars) C0 true)) (c .before .before .write-same-cube4 .ensures)
 
-same-length-5 : tie.Need-same-length-5
-same-length-5 c = search needs
-
 returns-5 : tie.Need-returns-5
 returns-5 c =
     let args = c .before .before .before .before .before .before .before .args in
     as-wrote (lines-at (args .num-vars) (c .before .before .before .before .enum-told5 .given .1) (xor-lines (args .num-vars))) (c .before .before .write-masks .ensures)
-
-same-length-6 : tie.Need-same-length-6
-same-length-6 c = search needs
 
 returns-6 : tie.Need-returns-6
 returns-6 c =
@@ -96,27 +51,8 @@ pub write-nary-lines-spec : {M : Type 1} → statement M
 write-nary-lines-spec =
     tie.close
     (tie.spec
-    enum-told
-    write-same-cube-requires
-    enum-told-2
-    write-same-cube-requires-2
-    enum-told-3
-    write-same-cube-requires-3
-    enum-told-4
-    write-same-cube-requires-4
-    enum-told-5
-    write-masks-requires
-    enum-told-6
-    write-masks-requires-2
-    same-length
-    returns
-    same-length-2
-    returns-2
-    same-length-3
-    returns-3
-    same-length-4
-    returns-4
-    same-length-5
-    returns-5
-    same-length-6
+    enum-told (λ c κs. search needs) (λ c. search needs) (λ c κs. search needs) (λ c. search needs)
+    (λ c κs. search needs) (λ c. search needs) (λ c κs. search needs) (λ c. search needs) write-masks-requires
+    (λ c. search needs) write-masks-requires-2 (λ c. search needs) returns (λ c. search needs) returns-2
+    (λ c. search needs) returns-3 (λ c. search needs) returns-4 (λ c. search needs) returns-5 (λ c. search needs)
     returns-6)

@@ -5,15 +5,6 @@ use Rattle.blif_write_names.proofs.Laws.{and-append, from-start, to-start}
 use Rattle.blif_write_cubes.proofs.write_same_cube.Statement.{statement}
 use Rattle.blif_write_cubes.proofs.write_same_cube.Tie as tie
 
-put-repeated-requires : tie.Need-put-repeated-requires
-put-repeated-requires c κs = search needs
-
-append-output-requires : tie.Need-append-output-requires
-append-output-requires c κs = search needs
-
-same-length : tie.Need-same-length
-same-length c = search needs
-
 returns : tie.Need-returns
 unfolding sameCube
 returns c =
@@ -22,4 +13,5 @@ returns c =
 
 pub write-same-cube-spec : {M : Type 1} → statement M
 write-same-cube-spec =
-    tie.close (tie.spec put-repeated-requires append-output-requires same-length returns)
+    tie.close (tie.spec
+    (λ c κs. search needs) (λ c κs. search needs) (λ c. search needs) returns)

@@ -7,21 +7,6 @@ use Rattle.blif_write_gates.proofs.Texts.{end-text}
 use Rattle.blif_write_gates.proofs.append_end.Statement.{statement}
 use Rattle.blif_write_gates.proofs.append_end.Tie as tie
 
-slice-aggregate-append-gate : tie.Need-slice-aggregate-append-gate
-slice-aggregate-append-gate c = search needs
-
-append-gate-requires : tie.Need-append-gate-requires
-append-gate-requires c κs = search needs
-
-slice-aggregate-append : tie.Need-slice-aggregate-append
-slice-aggregate-append c = search needs
-
-append-requires : tie.Need-append-requires
-append-requires c κs = search needs
-
-same-length : tie.Need-same-length
-same-length c = search needs
-
 returns : tie.Need-returns
 returns c =
     let args = c .before .before .before .before .before .before .before .before .before .before .before .args in
@@ -32,9 +17,5 @@ pub append-end-spec : {M : Type 1} → statement M
 append-end-spec =
     tie.close
     (tie.spec
-    slice-aggregate-append-gate
-    append-gate-requires
-    slice-aggregate-append
-    append-requires
-    same-length
+    (λ c. search needs) (λ c κs. search needs) (λ c. search needs) (λ c κs. search needs) (λ c. search needs)
     returns)

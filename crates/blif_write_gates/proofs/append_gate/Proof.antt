@@ -4,22 +4,11 @@ use borrow.Author.Needs.{needs}
 use Rattle.blif_write_gates.proofs.append_gate.Statement.{statement}
 use Rattle.blif_write_gates.proofs.append_gate.Tie as tie
 
-append-requires : tie.Need-append-requires
-append-requires c κs = search needs
-
-cast-append-numbered : tie.Need-cast-append-numbered
-cast-append-numbered c = search needs
-
-append-numbered-requires : tie.Need-append-numbered-requires
-append-numbered-requires c κs = search needs
-
-same-length : tie.Need-same-length
-same-length c = search needs
-
 returns : tie.Need-returns
 returns c = and-append (c .before .before .before .before .before .before .append .ensures) (c .before .before .append-numbered .ensures)
 
 pub append-gate-spec : {M : Type 1} → statement M
 append-gate-spec =
     tie.close
-    (tie.spec append-requires cast-append-numbered append-numbered-requires same-length returns)
+    (tie.spec
+    (λ c κs. search needs) (λ c. search needs) (λ c κs. search needs) (λ c. search needs) returns)

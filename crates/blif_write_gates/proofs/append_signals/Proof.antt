@@ -19,9 +19,6 @@ Inv-loop out₀ at cells end₀ i₀ out end i = Before (λ (j k : ℕ). spaced 
 abbrev μ-loop : tie.MeasureT-loop
 μ-loop out₀ at cells end₀ i₀ out end i = length cells - i
 
-add-result : tie.Need-add-result Inv-loop μ-loop
-add-result c = search needs
-
 returns : tie.Need-returns Inv-loop μ-loop
 returns c = append-past (c .if1 .taken)
 
@@ -34,17 +31,8 @@ same-length c = going-kept (c .before .before .loop .inv .going)
 returns-2 : tie.Need-returns-2 Inv-loop μ-loop
 returns-2 c = going-full (c .before .before .loop .inv .going) (c .if2 .taken)
 
-append-byte-requires : tie.Need-append-byte-requires Inv-loop μ-loop
-append-byte-requires c κs = search needs
-
-mul-t10 : tie.Need-mul-t10 Inv-loop μ-loop
-mul-t10 c = search needs
-
 shared-slice-read-t17 : tie.Need-shared-slice-read-t17 Inv-loop μ-loop
 shared-slice-read-t17 c = omega (arith, c .before .before .before .before .before .before .before .loop-test .taken)
-
-sig-to-string-requires : tie.Need-sig-to-string-requires Inv-loop μ-loop
-sig-to-string-requires c κs = search needs
 
 add-i : tie.Need-add-i Inv-loop μ-loop
 add-i c = omega (arith, c .before .before .before .before .before .before .before .before .before .before .loop-test .taken)
@@ -69,19 +57,6 @@ pub append-signals-spec : {M : Type 1} → statement M
 append-signals-spec =
     tie.close
     (tie.spec
-    Inv-loop
-    μ-loop
-    add-result
-    returns
-    loop-holds
-    same-length
-    returns-2
-    append-byte-requires
-    mul-t10
-    shared-slice-read-t17
-    sig-to-string-requires
-    add-i
-    loop-less
-    loop-again
-    same-length-2
+    Inv-loop μ-loop (λ c. search needs) returns loop-holds same-length returns-2 (λ c κs. search needs)
+    (λ c. search needs) shared-slice-read-t17 (λ c κs. search needs) add-i loop-less loop-again same-length-2
     returns-3)

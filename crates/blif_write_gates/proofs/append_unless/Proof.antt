@@ -6,30 +6,12 @@ use Rattle.blif_write_gates.proofs.Texts.{field-none, field-some}
 use Rattle.blif_write_gates.proofs.append_unless.Statement.{statement}
 use Rattle.blif_write_gates.proofs.append_unless.Tie as tie
 
-is-value-requires : tie.Need-is-value-requires
-is-value-requires c κs = search needs
-
-slice-aggregate-append : tie.Need-slice-aggregate-append
-slice-aggregate-append c = search needs
-
-append-requires : tie.Need-append-requires
-append-requires c κs = search needs
-
-same-length : tie.Need-same-length
-same-length c = search needs
-
 returns : tie.Need-returns
 returns c =
     let args = c .before .before .before .before .before .before .before .before .before .args in
     let is-value = c .before .before .before .before .before .before .is-value in
     let if1 = c .before .before .before .before .before .if1 in
     as-text (field-none (args .value) (args .before .now) (sigOf (args .s .a)) (is-value .ensures) (if1 .taken)) (c .before .before .append .ensures)
-
-append-name-requires : tie.Need-append-name-requires
-append-name-requires c κs = search needs
-
-same-length-2 : tie.Need-same-length-2
-same-length-2 c = search needs
 
 returns-2 : tie.Need-returns-2
 returns-2 c =
@@ -41,11 +23,5 @@ pub append-unless-spec : {M : Type 1} → statement M
 append-unless-spec =
     tie.close
     (tie.spec
-    is-value-requires
-    slice-aggregate-append
-    append-requires
-    same-length
-    returns
-    append-name-requires
-    same-length-2
-    returns-2)
+    (λ c κs. search needs) (λ c. search needs) (λ c κs. search needs) (λ c. search needs) returns
+    (λ c κs. search needs) (λ c. search needs) returns-2)

@@ -6,20 +6,11 @@ use Rattle.blif_write_gates.proofs.Texts.{value-other, value-one, value
 use Rattle.blif_write_gates.proofs.is_value.Statement.{statement}
 use Rattle.blif_write_gates.proofs.is_value.Tie as tie
 
-is-constant-requires : tie.Need-is-constant-requires
-is-constant-requires c κs = search needs
-
 returns : tie.Need-returns
 returns c = value-other (c .before .before .args .value) (sigOf (c .before .before .args .s .a)) (c .before .is-constant .ensures) (not-true _ (c .if1 .taken))
 
-is-inverted-requires : tie.Need-is-inverted-requires
-is-inverted-requires c κs = search needs
-
 returns-2 : tie.Need-returns-2
 returns-2 c = value-one (c .before .before .before .before .args .value) (sigOf (c .before .before .before .before .args .s .a)) (c .before .before .before .is-constant .ensures) (not-false _ (c .before .before .if1 .left)) (c .before .if2 .taken) (c .is-inverted .ensures)
-
-is-inverted-requires-2 : tie.Need-is-inverted-requires-2
-is-inverted-requires-2 c κs = search needs
 
 returns-3 : tie.Need-returns-3
 returns-3 c = value-zero (c .before .before .before .before .args .value) (sigOf (c .before .before .before .before .args .s .a)) (c .before .before .before .is-constant .ensures) (not-false _ (c .before .before .if1 .left)) (c .before .if2 .left) (c .is-inverted2 .ensures)
@@ -28,9 +19,4 @@ pub is-value-spec : {M : Type 1} → statement M
 is-value-spec =
     tie.close
     (tie.spec
-    is-constant-requires
-    returns
-    is-inverted-requires
-    returns-2
-    is-inverted-requires-2
-    returns-3)
+    (λ c κs. search needs) returns (λ c κs. search needs) returns-2 (λ c κs. search needs) returns-3)

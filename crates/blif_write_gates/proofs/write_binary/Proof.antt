@@ -11,33 +11,6 @@ use Rattle.blif_write_gates.proofs.Texts.{names-then, two-names}
 use Rattle.blif_write_gates.proofs.write_binary.Statement.{statement}
 use Rattle.blif_write_gates.proofs.write_binary.Tie as tie
 
-slice-aggregate-append : tie.Need-slice-aggregate-append
-slice-aggregate-append c = search needs
-
-append-requires : tie.Need-append-requires
-append-requires c κs = search needs
-
-slice-aggregate-append-name : tie.Need-slice-aggregate-append-name
-slice-aggregate-append-name c = search needs
-
-append-name-requires : tie.Need-append-name-requires
-append-name-requires c κs = search needs
-
-slice-aggregate-append-name-2 : tie.Need-slice-aggregate-append-name-2
-slice-aggregate-append-name-2 c = search needs
-
-append-name-requires-2 : tie.Need-append-name-requires-2
-append-name-requires-2 c κs = search needs
-
-append-end-requires : tie.Need-append-end-requires
-append-end-requires c κs = search needs
-
-append-binary-lines-requires : tie.Need-append-binary-lines-requires
-append-binary-lines-requires c κs = search needs
-
-same-length : tie.Need-same-length
-same-length c = search needs
-
 returns : tie.Need-returns
 returns c =
     let args = c .before .before .before .before .before .before .before .before .before .before .before .before .before .before .before .before .before .before .before .before .before .before .before .before .args in
@@ -51,13 +24,5 @@ pub write-binary-spec : {M : Type 1} → statement M
 write-binary-spec =
     tie.close
     (tie.spec
-    slice-aggregate-append
-    append-requires
-    slice-aggregate-append-name
-    append-name-requires
-    slice-aggregate-append-name-2
-    append-name-requires-2
-    append-end-requires
-    append-binary-lines-requires
-    same-length
-    returns)
+    (λ c. search needs) (λ c κs. search needs) (λ c. search needs) (λ c κs. search needs) (λ c. search needs)
+    (λ c κs. search needs) (λ c κs. search needs) (λ c κs. search needs) (λ c. search needs) returns)

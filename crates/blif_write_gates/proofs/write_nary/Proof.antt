@@ -5,24 +5,6 @@ use Rattle.blif_write_gates.proofs.Texts.{nary-text}
 use Rattle.blif_write_gates.proofs.write_nary.Statement.{statement}
 use Rattle.blif_write_gates.proofs.write_nary.Tie as tie
 
-slice-aggregate-append : tie.Need-slice-aggregate-append
-slice-aggregate-append c = search needs
-
-append-requires : tie.Need-append-requires
-append-requires c κs = search needs
-
-append-signals-requires : tie.Need-append-signals-requires
-append-signals-requires c κs = search needs
-
-append-end-requires : tie.Need-append-end-requires
-append-end-requires c κs = search needs
-
-append-nary-lines-requires : tie.Need-append-nary-lines-requires
-append-nary-lines-requires c κs = search needs
-
-same-length : tie.Need-same-length
-same-length c = search needs
-
 returns : tie.Need-returns
 returns c =
     let args = c .before .before .before .before .before .before .before .before .before .before .before .before .before .before .before .before .before .before .before .args in
@@ -35,10 +17,5 @@ pub write-nary-spec : {M : Type 1} → statement M
 write-nary-spec =
     tie.close
     (tie.spec
-    slice-aggregate-append
-    append-requires
-    append-signals-requires
-    append-end-requires
-    append-nary-lines-requires
-    same-length
-    returns)
+    (λ c. search needs) (λ c κs. search needs) (λ c κs. search needs) (λ c κs. search needs) (λ c κs. search needs)
+    (λ c. search needs) returns)

@@ -9,33 +9,6 @@ use Rattle.blif_write_gates.proofs.Texts.{plain-text}
 use Rattle.blif_write_gates.proofs.write_plain.Statement.{statement}
 use Rattle.blif_write_gates.proofs.write_plain.Tie as tie
 
-slice-aggregate-append : tie.Need-slice-aggregate-append
-slice-aggregate-append c = search needs
-
-append-requires : tie.Need-append-requires
-append-requires c κs = search needs
-
-slice-aggregate-append-name : tie.Need-slice-aggregate-append-name
-slice-aggregate-append-name c = search needs
-
-append-name-requires : tie.Need-append-name-requires
-append-name-requires c κs = search needs
-
-slice-aggregate-append-gate : tie.Need-slice-aggregate-append-gate
-slice-aggregate-append-gate c = search needs
-
-append-gate-requires : tie.Need-append-gate-requires
-append-gate-requires c κs = search needs
-
-slice-aggregate-append-2 : tie.Need-slice-aggregate-append-2
-slice-aggregate-append-2 c = search needs
-
-append-requires-2 : tie.Need-append-requires-2
-append-requires-2 c κs = search needs
-
-same-length : tie.Need-same-length
-same-length c = search needs
-
 returns : tie.Need-returns
 returns c =
     let args = c .before .before .before .before .before .before .before .before .before .before .before .before .before .before .before .before .before .before .before .before .before .args in
@@ -48,13 +21,5 @@ pub write-plain-spec : {M : Type 1} → statement M
 write-plain-spec =
     tie.close
     (tie.spec
-    slice-aggregate-append
-    append-requires
-    slice-aggregate-append-name
-    append-name-requires
-    slice-aggregate-append-gate
-    append-gate-requires
-    slice-aggregate-append-2
-    append-requires-2
-    same-length
-    returns)
+    (λ c. search needs) (λ c κs. search needs) (λ c. search needs) (λ c κs. search needs) (λ c. search needs)
+    (λ c κs. search needs) (λ c. search needs) (λ c κs. search needs) (λ c. search needs) returns)

@@ -8,41 +8,17 @@ use Rattle.blif_write_gates.proofs.Texts.{stored-enabled, stored-reset,
 use Rattle.blif_write_gates.proofs.write_stored.Statement.{statement}
 use Rattle.blif_write_gates.proofs.write_stored.Tie as tie
 
-is-value-requires : tie.Need-is-value-requires
-is-value-requires c κs = search needs
-
-write-flop-requires : tie.Need-write-flop-requires
-write-flop-requires c κs = search needs
-
-same-length : tie.Need-same-length
-same-length c = search needs
-
 returns : tie.Need-returns
 returns c =
     let args = c .before .before .before .before .before .before .before .args in
     let is-value = c .before .before .before .before .before .is-value in
     as-wrote (stored-enabled (sigOf (args .d .a)) (sigOf (args .e .a)) (sigOf (args .r .a)) (args .g) (sym (is-value .ensures) ∙ not-true _ (c .before .before .before .before .if1 .taken))) (c .before .before .write-flop .ensures)
 
-is-value-requires-2 : tie.Need-is-value-requires-2
-is-value-requires-2 c κs = search needs
-
-write-flop-requires-2 : tie.Need-write-flop-requires-2
-write-flop-requires-2 c κs = search needs
-
-same-length-2 : tie.Need-same-length-2
-same-length-2 c = search needs
-
 returns-2 : tie.Need-returns-2
 returns-2 c =
     let args = c .before .before .before .before .before .before .before .before .before .args in
     let is-value2 = c .before .before .before .before .before .is-value2 in
     as-wrote (stored-reset (sigOf (args .d .a)) (sigOf (args .e .a)) (sigOf (args .r .a)) (args .g) (sym (is-value2 .ensures) ∙ not-true _ (c .before .before .before .before .if2 .taken))) (c .before .before .write-flop2 .ensures)
-
-write-plain-requires : tie.Need-write-plain-requires
-write-plain-requires c κs = search needs
-
-same-length-3 : tie.Need-same-length-3
-same-length-3 c = search needs
 
 returns-3 : tie.Need-returns-3
 returns-3 c =
@@ -56,14 +32,5 @@ pub write-stored-spec : {M : Type 1} → statement M
 write-stored-spec =
     tie.close
     (tie.spec
-    is-value-requires
-    write-flop-requires
-    same-length
-    returns
-    is-value-requires-2
-    write-flop-requires-2
-    same-length-2
-    returns-2
-    write-plain-requires
-    same-length-3
-    returns-3)
+    (λ c κs. search needs) (λ c κs. search needs) (λ c. search needs) returns (λ c κs. search needs)
+    (λ c κs. search needs) (λ c. search needs) returns-2 (λ c κs. search needs) (λ c. search needs) returns-3)

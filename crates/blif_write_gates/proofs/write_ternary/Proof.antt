@@ -11,39 +11,6 @@ use Rattle.blif_write_gates.proofs.Texts.{names-then, three-names}
 use Rattle.blif_write_gates.proofs.write_ternary.Statement.{statement}
 use Rattle.blif_write_gates.proofs.write_ternary.Tie as tie
 
-slice-aggregate-append : tie.Need-slice-aggregate-append
-slice-aggregate-append c = search needs
-
-append-requires : tie.Need-append-requires
-append-requires c κs = search needs
-
-slice-aggregate-append-name : tie.Need-slice-aggregate-append-name
-slice-aggregate-append-name c = search needs
-
-append-name-requires : tie.Need-append-name-requires
-append-name-requires c κs = search needs
-
-slice-aggregate-append-name-2 : tie.Need-slice-aggregate-append-name-2
-slice-aggregate-append-name-2 c = search needs
-
-append-name-requires-2 : tie.Need-append-name-requires-2
-append-name-requires-2 c κs = search needs
-
-slice-aggregate-append-name-3 : tie.Need-slice-aggregate-append-name-3
-slice-aggregate-append-name-3 c = search needs
-
-append-name-requires-3 : tie.Need-append-name-requires-3
-append-name-requires-3 c κs = search needs
-
-append-end-requires : tie.Need-append-end-requires
-append-end-requires c κs = search needs
-
-append-ternary-lines-requires : tie.Need-append-ternary-lines-requires
-append-ternary-lines-requires c κs = search needs
-
-same-length : tie.Need-same-length
-same-length c = search needs
-
 returns : tie.Need-returns
 returns c =
     let args = c .before .before .before .before .before .before .before .before .before .before .before .before .before .before .before .before .before .before .before .before .before .before .before .before .before .before .before .before .before .args in
@@ -58,15 +25,6 @@ pub write-ternary-spec : {M : Type 1} → statement M
 write-ternary-spec =
     tie.close
     (tie.spec
-    slice-aggregate-append
-    append-requires
-    slice-aggregate-append-name
-    append-name-requires
-    slice-aggregate-append-name-2
-    append-name-requires-2
-    slice-aggregate-append-name-3
-    append-name-requires-3
-    append-end-requires
-    append-ternary-lines-requires
-    same-length
-    returns)
+    (λ c. search needs) (λ c κs. search needs) (λ c. search needs) (λ c κs. search needs) (λ c. search needs)
+    (λ c κs. search needs) (λ c. search needs) (λ c κs. search needs) (λ c κs. search needs) (λ c κs. search needs)
+    (λ c. search needs) returns)

@@ -16,9 +16,6 @@ Inv-loop out₀ at marks n end₀ g₀ out end g = Before (gateInverters marks) 
 abbrev μ-loop : tie.MeasureT-loop
 μ-loop out₀ at marks n end₀ g₀ out end g = n - g
 
-add-result : tie.Need-add-result Inv-loop μ-loop
-add-result c = search needs
-
 returns : tie.Need-returns Inv-loop μ-loop
 returns c = append-past (c .if1 .taken)
 
@@ -34,12 +31,6 @@ returns-2 c = going-full (c .before .before .loop .inv .going) (c .if2 .taken)
 sub-write-inverter : tie.Need-sub-write-inverter Inv-loop μ-loop
 sub-write-inverter c = omega (arith, c .if2 .left)
 
-part-write-inverter-start : tie.Need-part-write-inverter-start Inv-loop μ-loop
-part-write-inverter-start c = search needs
-
-part-write-inverter-end : tie.Need-part-write-inverter-end Inv-loop μ-loop
-part-write-inverter-end c = search needs
-
 shared-slice-read-write-inverter : tie.Need-shared-slice-read-write-inverter Inv-loop μ-loop
 shared-slice-read-write-inverter c =
     let pre = c .before .before .before .before .before .before .before .before .pre in
@@ -49,9 +40,6 @@ cast-from-var : tie.Need-cast-from-var Inv-loop μ-loop
 cast-from-var c =
     let pre = c .before .before .before .before .before .before .before .before .pre in
     omega (arith, c .before .before .before .loop-test .taken, pre .0)
-
-from-var-requires : tie.Need-from-var-requires Inv-loop μ-loop
-from-var-requires c κs = search needs
 
 write-inverter-requires : tie.Need-write-inverter-requires Inv-loop μ-loop
 write-inverter-requires c κs =
@@ -90,23 +78,6 @@ pub append-gate-inverters-spec : {M : Type 1} → statement M
 append-gate-inverters-spec =
     tie.close
     (tie.spec
-    Inv-loop
-    μ-loop
-    add-result
-    returns
-    loop-holds
-    same-length
-    returns-2
-    sub-write-inverter
-    part-write-inverter-start
-    part-write-inverter-end
-    shared-slice-read-write-inverter
-    cast-from-var
-    from-var-requires
-    write-inverter-requires
-    add-end
-    add-g
-    loop-less
-    loop-again
-    same-length-2
-    returns-3)
+    Inv-loop μ-loop (λ c. search needs) returns loop-holds same-length returns-2 sub-write-inverter
+    (λ c. search needs) (λ c. search needs) shared-slice-read-write-inverter cast-from-var (λ c κs. search needs)
+    write-inverter-requires add-end add-g loop-less loop-again same-length-2 returns-3)

@@ -14,9 +14,6 @@ Inv-loop out₀ at marks n end₀ i₀ out end i = InputsTurned marks n out₀ a
 abbrev μ-loop : tie.MeasureT-loop
 μ-loop out₀ at marks n end₀ i₀ out end i = i
 
-add-result : tie.Need-add-result Inv-loop μ-loop
-add-result c = search needs
-
 returns : tie.Need-returns Inv-loop μ-loop
 returns c = append-past (c .if1 .taken)
 
@@ -35,12 +32,6 @@ sub-i c = omega (arith, c .before .loop-test .taken)
 sub-write-inverter : tie.Need-sub-write-inverter Inv-loop μ-loop
 sub-write-inverter c = omega (arith, c .if2 .left)
 
-part-write-inverter-start : tie.Need-part-write-inverter-start Inv-loop μ-loop
-part-write-inverter-start c = search needs
-
-part-write-inverter-end : tie.Need-part-write-inverter-end Inv-loop μ-loop
-part-write-inverter-end c = search needs
-
 shared-slice-read-write-inverter : tie.Need-shared-slice-read-write-inverter Inv-loop μ-loop
 shared-slice-read-write-inverter c =
     let pre = c .before .before .before .before .before .before .before .before .pre in
@@ -50,9 +41,6 @@ cast-from-input : tie.Need-cast-from-input Inv-loop μ-loop
 cast-from-input c =
     let pre = c .before .before .before .before .before .before .before .before .pre in
     omega (arith, c .before .before .before .loop-test .taken, pre .0, c .before .before .before .before .loop .inv .within)
-
-from-input-requires : tie.Need-from-input-requires Inv-loop μ-loop
-from-input-requires c κs = search needs
 
 write-inverter-requires : tie.Need-write-inverter-requires Inv-loop μ-loop
 write-inverter-requires c κs =
@@ -88,23 +76,6 @@ pub append-input-inverters-spec : {M : Type 1} → statement M
 append-input-inverters-spec =
     tie.close
     (tie.spec
-    Inv-loop
-    μ-loop
-    add-result
-    returns
-    loop-holds
-    same-length
-    returns-2
-    sub-i
-    sub-write-inverter
-    part-write-inverter-start
-    part-write-inverter-end
-    shared-slice-read-write-inverter
-    cast-from-input
-    from-input-requires
-    write-inverter-requires
-    add-end
-    loop-less
-    loop-again
-    same-length-2
-    returns-3)
+    Inv-loop μ-loop (λ c. search needs) returns loop-holds same-length returns-2 sub-i sub-write-inverter
+    (λ c. search needs) (λ c. search needs) shared-slice-read-write-inverter cast-from-input (λ c κs. search needs)
+    write-inverter-requires add-end loop-less loop-again same-length-2 returns-3)

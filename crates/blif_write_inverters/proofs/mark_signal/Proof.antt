@@ -5,23 +5,8 @@ use Rattle.blif_write_inverters.proofs.Marking.{mark-plain, mark-input,
 use Rattle.blif_write_inverters.proofs.mark_signal.Statement.{statement}
 use Rattle.blif_write_inverters.proofs.mark_signal.Tie as tie
 
-is-inverted-requires : tie.Need-is-inverted-requires
-is-inverted-requires c κs = search needs
-
 returns : tie.Need-returns
 returns c = mark-plain (c .before .before .before .before .args .s .a) (c .before .is-inverted .ensures) (not-true _ (c .if1 .taken))
-
-is-input-requires : tie.Need-is-input-requires
-is-input-requires c κs = search needs
-
-input-requires : tie.Need-input-requires
-input-requires c κs = search needs
-
-set-mark-requires : tie.Need-set-mark-requires
-set-mark-requires c κs = search needs
-
-same-length : tie.Need-same-length
-same-length c = search needs
 
 returns-2 : tie.Need-returns-2
 returns-2 c =
@@ -32,23 +17,11 @@ returns-2 c =
     let if2 = c .before .before .before .before .before .if2 in
     mark-input (args .s .a) (is-inverted .ensures) (not-false _ (if1 .left)) (is-input .ensures) (if2 .taken) (c .before .before .before .input .ensures) (c .before .before .set-mark .ensures)
 
-is-constant-requires : tie.Need-is-constant-requires
-is-constant-requires c κs = search needs
-
 returns-3 : tie.Need-returns-3
 returns-3 c =
     let args = c .before .before .before .before .before .before .before .before .args in
     let is-inverted = c .before .before .before .before .before .is-inverted in
     mark-const (args .s .a) (is-inverted .ensures) (not-false _ (c .before .before .before .before .if1 .left)) (c .before .is-constant .ensures) (c .if3 .taken)
-
-var-requires : tie.Need-var-requires
-var-requires c κs = search needs
-
-set-mark-requires-2 : tie.Need-set-mark-requires-2
-set-mark-requires-2 c κs = search needs
-
-same-length-2 : tie.Need-same-length-2
-same-length-2 c = search needs
 
 returns-4 : tie.Need-returns-4
 returns-4 c =
@@ -65,16 +38,6 @@ pub mark-signal-spec : {M : Type 1} → statement M
 mark-signal-spec =
     tie.close
     (tie.spec
-    is-inverted-requires
-    returns
-    is-input-requires
-    input-requires
-    set-mark-requires
-    same-length
-    returns-2
-    is-constant-requires
-    returns-3
-    var-requires
-    set-mark-requires-2
-    same-length-2
-    returns-4)
+    (λ c κs. search needs) returns (λ c κs. search needs) (λ c κs. search needs) (λ c κs. search needs)
+    (λ c. search needs) returns-2 (λ c κs. search needs) returns-3 (λ c κs. search needs) (λ c κs. search needs)
+    (λ c. search needs) returns-4)

@@ -27,9 +27,6 @@ mul-t5 c = omega (arith, c .before .before .loop-test .taken)
 shared-slice-read-t13 : tie.Need-shared-slice-read-t13 Inv-loop μ-loop
 shared-slice-read-t13 c = omega (arith, c .before .before .before .loop-test .taken)
 
-mark-signal-requires : tie.Need-mark-signal-requires Inv-loop μ-loop
-mark-signal-requires c κs = search needs
-
 add-i : tie.Need-add-i Inv-loop μ-loop
 add-i c = omega (arith, c .before .before .before .before .before .before .before .before .loop-test .taken)
 
@@ -55,15 +52,5 @@ pub mark-signals-spec : {M : Type 1} → statement M
 mark-signals-spec =
     tie.close
     (tie.spec
-    Inv-loop
-    μ-loop
-    loop-holds
-    mul-t5
-    shared-slice-read-t13
-    mark-signal-requires
-    add-i
-    loop-less
-    loop-again
-    same-length
-    same-length-2
-    returns)
+    Inv-loop μ-loop loop-holds mul-t5 shared-slice-read-t13 (λ c κs. search needs) add-i loop-less loop-again
+    same-length same-length-2 returns)

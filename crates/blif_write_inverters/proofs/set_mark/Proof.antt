@@ -5,17 +5,9 @@ use lib.Seq.{set-out}
 use Rattle.blif_write_inverters.proofs.set_mark.Statement.{statement}
 use Rattle.blif_write_inverters.proofs.set_mark.Tie as tie
 
-slice-write-marks : tie.Need-slice-write-marks
-slice-write-marks c = search needs
-
-same-length : tie.Need-same-length
-same-length c = search needs
-
-returns : tie.Need-returns
-returns c = search needs
-
 returns-2 : tie.Need-returns-2
 returns-2 c = sym (set-out (c .before .args .marks .now) (c .before .args .n) 1 (c .if1 .left))
 
 pub set-mark-spec : {M : Type 1} → statement M
-set-mark-spec = tie.close (tie.spec slice-write-marks same-length returns returns-2)
+set-mark-spec = tie.close (tie.spec
+    (λ c. search needs) (λ c. search needs) (λ c. search needs) returns-2)

@@ -10,36 +10,6 @@ use Rattle.blif_write_inverters.proofs.write_inverter.Tie as tie
 returns : tie.Need-returns
 returns c = as-wrote (inverter-none (c .before .before .args .mark) (sigOf (c .before .before .args .s .a) .node) (c .if1 .taken)) wrote-nothing
 
-slice-aggregate-append : tie.Need-slice-aggregate-append
-slice-aggregate-append c = search needs
-
-append-requires : tie.Need-append-requires
-append-requires c κs = search needs
-
-slice-aggregate-append-name : tie.Need-slice-aggregate-append-name
-slice-aggregate-append-name c = search needs
-
-append-name-requires : tie.Need-append-name-requires
-append-name-requires c κs = search needs
-
-slice-aggregate-append-name-2 : tie.Need-slice-aggregate-append-name-2
-slice-aggregate-append-name-2 c = search needs
-
-not-requires : tie.Need-not-requires
-not-requires c κs = search needs
-
-append-name-requires-2 : tie.Need-append-name-requires-2
-append-name-requires-2 c κs = search needs
-
-slice-aggregate-append-2 : tie.Need-slice-aggregate-append-2
-slice-aggregate-append-2 c = search needs
-
-append-requires-2 : tie.Need-append-requires-2
-append-requires-2 c κs = search needs
-
-same-length : tie.Need-same-length
-same-length c = search needs
-
 returns-2 : tie.Need-returns-2
 returns-2 c =
     let args = c .before .before .before .before .before .before .before .before .before .before .before .before .before .before .before .before .before .before .before .before .before .before .before .args in
@@ -56,15 +26,6 @@ pub write-inverter-spec : {M : Type 1} → statement M
 write-inverter-spec =
     tie.close
     (tie.spec
-    returns
-    slice-aggregate-append
-    append-requires
-    slice-aggregate-append-name
-    append-name-requires
-    slice-aggregate-append-name-2
-    not-requires
-    append-name-requires-2
-    slice-aggregate-append-2
-    append-requires-2
-    same-length
-    returns-2)
+    returns (λ c. search needs) (λ c κs. search needs) (λ c. search needs) (λ c κs. search needs)
+    (λ c. search needs) (λ c κs. search needs) (λ c κs. search needs) (λ c. search needs) (λ c κs. search needs)
+    (λ c. search needs) returns-2)

@@ -6,26 +6,11 @@ use borrow.Author.Needs.{needs}
 use Rattle.blif_write_names.proofs.append_digit.Statement.{statement}
 use Rattle.blif_write_names.proofs.append_digit.Tie as tie
 
-add-result : tie.Need-add-result
-add-result c = search needs
-
 returns : tie.Need-returns
 returns c = append-past (c .if1 .taken)
 
 returns-2 : tie.Need-returns-2
 returns-2 c = as-text (digit-none (c .before .before .before .args .n) (c .if2 .taken)) (append-none (c .before .if1 .left))
-
-cast-append-byte : tie.Need-cast-append-byte
-cast-append-byte c = search needs
-
-add-append-byte : tie.Need-add-append-byte
-add-append-byte c = search needs
-
-append-byte-requires : tie.Need-append-byte-requires
-append-byte-requires c κs = search needs
-
-same-length : tie.Need-same-length
-same-length c = search needs
 
 returns-3 : tie.Need-returns-3
 returns-3 c =
@@ -36,11 +21,5 @@ pub append-digit-spec : {M : Type 1} → statement M
 append-digit-spec =
     tie.close
     (tie.spec
-    add-result
-    returns
-    returns-2
-    cast-append-byte
-    add-append-byte
-    append-byte-requires
-    same-length
-    returns-3)
+    (λ c. search needs) returns returns-2 (λ c. search needs) (λ c. search needs) (λ c κs. search needs)
+    (λ c. search needs) returns-3)

@@ -4,21 +4,6 @@ use borrow.Author.Needs.{needs}
 use Rattle.blif_write_names.proofs.append_four.Statement.{statement}
 use Rattle.blif_write_names.proofs.append_four.Tie as tie
 
-append-digit-requires : tie.Need-append-digit-requires
-append-digit-requires c κs = search needs
-
-append-digit-requires-2 : tie.Need-append-digit-requires-2
-append-digit-requires-2 c κs = search needs
-
-append-digit-requires-3 : tie.Need-append-digit-requires-3
-append-digit-requires-3 c κs = search needs
-
-append-digit-requires-4 : tie.Need-append-digit-requires-4
-append-digit-requires-4 c κs = search needs
-
-same-length : tie.Need-same-length
-same-length c = search needs
-
 returns : tie.Need-returns
 returns c =
     let append-digit = c .before .before .before .before .before .before .before .before .before .before .before .before .before .before .append-digit in
@@ -30,9 +15,5 @@ pub append-four-spec : {M : Type 1} → statement M
 append-four-spec =
     tie.close
     (tie.spec
-    append-digit-requires
-    append-digit-requires-2
-    append-digit-requires-3
-    append-digit-requires-4
-    same-length
+    (λ c κs. search needs) (λ c κs. search needs) (λ c κs. search needs) (λ c κs. search needs) (λ c. search needs)
     returns)

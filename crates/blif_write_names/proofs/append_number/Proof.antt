@@ -6,25 +6,10 @@ use borrow.Author.Needs.{needs}
 use Rattle.blif_write_names.proofs.append_number.Statement.{statement}
 use Rattle.blif_write_names.proofs.append_number.Tie as tie
 
-append-byte-requires : tie.Need-append-byte-requires
-append-byte-requires c κs = search needs
-
-same-length : tie.Need-same-length
-same-length c = search needs
-
 returns : tie.Need-returns
 returns c =
     let args = c .before .before .before .before .before .before .args in
     as-text (zero-digit (args .n) (c .before .before .before .before .if1 .taken)) (c .before .before .append-byte .ensures)
-
-append-upper-requires : tie.Need-append-upper-requires
-append-upper-requires c κs = search needs
-
-append-four-requires : tie.Need-append-four-requires
-append-four-requires c κs = search needs
-
-same-length-2 : tie.Need-same-length-2
-same-length-2 c = search needs
 
 returns-2 : tie.Need-returns-2
 returns-2 c =
@@ -37,10 +22,5 @@ pub append-number-spec : {M : Type 1} → statement M
 append-number-spec =
     tie.close
     (tie.spec
-    append-byte-requires
-    same-length
-    returns
-    append-upper-requires
-    append-four-requires
-    same-length-2
-    returns-2)
+    (λ c κs. search needs) (λ c. search needs) returns (λ c κs. search needs) (λ c κs. search needs)
+    (λ c. search needs) returns-2)

@@ -5,21 +5,6 @@ use borrow.Author.Needs.{needs}
 use Rattle.blif_write_names.proofs.append_numbered.Statement.{statement}
 use Rattle.blif_write_names.proofs.append_numbered.Tie as tie
 
-append-byte-requires : tie.Need-append-byte-requires
-append-byte-requires c κs = search needs
-
-append-number-requires : tie.Need-append-number-requires
-append-number-requires c κs = search needs
-
-slice-aggregate-append : tie.Need-slice-aggregate-append
-slice-aggregate-append c = search needs
-
-append-requires : tie.Need-append-requires
-append-requires c κs = search needs
-
-same-length : tie.Need-same-length
-same-length c = search needs
-
 returns : tie.Need-returns
 returns c =
     let args = c .before .before .before .before .before .before .before .before .before .before .before .before .before .before .before .args in
@@ -27,9 +12,6 @@ returns c =
     let append-number = c .before .before .before .before .before .before .before .before .append-number in
     let if1 = c .before .before .before .before .before .if1 in
     as-text (invert-name (args .letter) (args .n) (args .inverted) (if1 .taken)) (and-append (and-append (append-byte .ensures) (append-number .ensures)) (c .before .before .append .ensures))
-
-same-length-2 : tie.Need-same-length-2
-same-length-2 c = search needs
 
 returns-2 : tie.Need-returns-2
 returns-2 c =
@@ -41,11 +23,5 @@ pub append-numbered-spec : {M : Type 1} → statement M
 append-numbered-spec =
     tie.close
     (tie.spec
-    append-byte-requires
-    append-number-requires
-    slice-aggregate-append
-    append-requires
-    same-length
-    returns
-    same-length-2
-    returns-2)
+    (λ c κs. search needs) (λ c κs. search needs) (λ c. search needs) (λ c κs. search needs) (λ c. search needs)
+    returns (λ c. search needs) returns-2)

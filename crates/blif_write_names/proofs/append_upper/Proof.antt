@@ -8,23 +8,11 @@ use borrow.Author.Needs.{needs}
 use Rattle.blif_write_names.proofs.append_upper.Statement.{statement}
 use Rattle.blif_write_names.proofs.append_upper.Tie as tie
 
-add-result : tie.Need-add-result
-add-result c = search needs
-
 returns : tie.Need-returns
 returns c = append-past (c .if1 .taken)
 
 returns-2 : tie.Need-returns-2
 returns-2 c = let n = c .before .before .before .args .n in let z : n / 10000 ≡ 0 = omega (arith, c .if2 .taken) in as-text (leading-none (n / 10000) z) (append-none (c .before .if1 .left))
-
-append-four-requires : tie.Need-append-four-requires
-append-four-requires c κs = search needs
-
-append-four-requires-2 : tie.Need-append-four-requires-2
-append-four-requires-2 c κs = search needs
-
-same-length : tie.Need-same-length
-same-length c = search needs
 
 returns-3 : tie.Need-returns-3
 returns-3 c =
@@ -37,10 +25,5 @@ pub append-upper-spec : {M : Type 1} → statement M
 append-upper-spec =
     tie.close
     (tie.spec
-    add-result
-    returns
-    returns-2
-    append-four-requires
-    append-four-requires-2
-    same-length
+    (λ c. search needs) returns returns-2 (λ c κs. search needs) (λ c κs. search needs) (λ c. search needs)
     returns-3)

@@ -14,33 +14,12 @@ slice-aggregate-copy c = let s = c .before .before .before .before .before in sy
 copy-requires : tie.Need-copy-requires
 copy-requires c κs = let s = c .before .before .before .before .before in omega (arith, length-take (length (s .args .out .now)) (s .args .s .now))
 
-add-result : tie.Need-add-result
-add-result c = search needs
-
-same-length : tie.Need-same-length
-same-length c = search needs
-
 returns : tie.Need-returns
 returns c = wrote-cut (c .before .before .before .before .before .if1 .taken) (c .before .before .copy .ensures)
-
-copy-requires-2 : tie.Need-copy-requires-2
-copy-requires-2 c κs = search needs
-
-same-length-2 : tie.Need-same-length-2
-same-length-2 c = search needs
-
-returns-2 : tie.Need-returns-2
-returns-2 c = search needs
 
 pub put-bytes-spec : {M : Type 1} → statement M
 put-bytes-spec =
     tie.close
     (tie.spec
-    slice-aggregate-copy
-    copy-requires
-    add-result
-    same-length
-    returns
-    copy-requires-2
-    same-length-2
-    returns-2)
+    slice-aggregate-copy copy-requires (λ c. search needs) (λ c. search needs) returns (λ c κs. search needs)
+    (λ c. search needs) (λ c. search needs))

@@ -18,20 +18,11 @@ loop-holds c = hashing-start
 mul-h : tie.Need-mul-h Inv-loop μ-loop
 mul-h c = omega (arith, c .before .loop .inv .small)
 
-shared-slice-read-h : tie.Need-shared-slice-read-h Inv-loop μ-loop
-shared-slice-read-h c = omega arith
-
 cast-h : tie.Need-cast-h Inv-loop μ-loop
 cast-h c = omega (arith, c .shared-slice-known .given (c .before .before .loop .i))
 
 add-h : tie.Need-add-h Inv-loop μ-loop
 add-h c = omega (arith, c .before .before .loop .inv .small, c .shared-slice-known .given (c .before .before .loop .i))
-
-add-i : tie.Need-add-i Inv-loop μ-loop
-add-i c = omega arith
-
-loop-less : tie.Need-loop-less Inv-loop μ-loop
-loop-less c = omega arith
 
 loop-again : tie.Need-loop-again Inv-loop μ-loop
 loop-again c = hashing-next (c .before .before .loop .inv) (c .before .loop-test .taken)
@@ -43,14 +34,5 @@ pub hash-of-spec : {M : Type 1} → statement M
 hash-of-spec =
     tie.close
     (tie.spec
-    Inv-loop
-    μ-loop
-    loop-holds
-    mul-h
-    shared-slice-read-h
-    cast-h
-    add-h
-    add-i
-    loop-less
-    loop-again
-    returns)
+    Inv-loop μ-loop loop-holds mul-h (λ c. omega arith) cast-h add-h (λ c. omega arith) (λ c. omega arith)
+    loop-again returns)

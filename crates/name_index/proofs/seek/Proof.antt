@@ -12,9 +12,6 @@ Inv-loop text index k name h at₀ bits₀ at bits = Seeking text index k name a
 abbrev μ-loop : tie.MeasureT-loop
 μ-loop text index k name h at₀ bits₀ at bits = 1024 + k * 4 - at
 
-hash-of-requires : tie.Need-hash-of-requires Inv-loop μ-loop
-hash-of-requires c κs = search needs
-
 loop-holds : tie.Need-loop-holds Inv-loop μ-loop
 loop-holds c = search (seeking-start, needs)
 
@@ -33,9 +30,6 @@ shared-slice-read-e c = search (seeking-there, needs)
 cast-e : tie.Need-cast-e Inv-loop μ-loop
 cast-e c = omega (arith, c .shared-slice-known5 .given (c .before .before .before .loop .at))
 
-sub-e : tie.Need-sub-e Inv-loop μ-loop
-sub-e c = search needs
-
 mul-e-2 : tie.Need-mul-e-2 Inv-loop μ-loop
 mul-e-2 c = omega (arith, seeking-room (c .before .before .before .loop .inv) (c .before .if1 .taken))
 
@@ -50,9 +44,6 @@ shared-slice-read-token c = omega (arith, seeking-room (c .before .before .befor
 
 token-requires : tie.Need-token-requires Inv-loop μ-loop
 token-requires c κs = search (seeking-inside, needs)
-
-equal-requires : tie.Need-equal-requires Inv-loop μ-loop
-equal-requires c κs = search needs
 
 returns : tie.Need-returns Inv-loop μ-loop
 returns c =
@@ -86,25 +77,6 @@ pub seek-spec : {M : Type 1} → statement M
 seek-spec =
     tie.close
     (tie.spec
-    Inv-loop
-    μ-loop
-    hash-of-requires
-    loop-holds
-    mul-if1
-    shared-slice-read-if1
-    mul-e
-    shared-slice-read-e
-    cast-e
-    sub-e
-    mul-e-2
-    add-e
-    mul-token
-    shared-slice-read-token
-    token-requires
-    equal-requires
-    returns
-    add-at
-    add-at-2
-    loop-less
-    loop-again
-    returns-2)
+    Inv-loop μ-loop (λ c κs. search needs) loop-holds mul-if1 shared-slice-read-if1 mul-e shared-slice-read-e
+    cast-e (λ c. search needs) mul-e-2 add-e mul-token shared-slice-read-token token-requires
+    (λ c κs. search needs) returns add-at add-at-2 loop-less loop-again returns-2)

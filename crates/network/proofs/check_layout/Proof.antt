@@ -12,9 +12,6 @@ use Rattle.network.proofs.all_valid.Reads as all-valid-reads
 use Rattle.network.proofs.records_fit.Reads as records-fit-reads
 use Rattle.network.proofs.sizes_fit.Reads as sizes-fit-reads
 
-sizes-fit-requires : tie.Need-sizes-fit-requires
-sizes-fit-requires c κs = search needs
-
 returns : tie.Need-returns
 returns c = no-sizes _ _ _ _ (sym (not-true _ (c .if1 .taken)) ∙ c .before .sizes-fit .ensures)
 
@@ -31,9 +28,6 @@ slice-aggregate-all-valid c =
     let s = sizes-give (sym (c .before .before .before .before .sizes-fit .ensures) ∙ not-false _ (c .before .before .before .if1 .left)) in
     sym (length-take-le _ _ (s .pins-lent))
 
-all-valid-requires : tie.Need-all-valid-requires
-all-valid-requires c κs = search needs
-
 returns-3 : tie.Need-returns-3
 returns-3 c = no-pins _ _ _ _ (sym (not-true _ (c .if3 .taken)) ∙ c .before .all-valid .ensures)
 
@@ -43,9 +37,6 @@ slice-aggregate-all-valid-2 c =
     let if1 = c .before .before .before .before .before .before .if1 in
     let s = sizes-give (sym (sizes-fit .ensures) ∙ not-false _ (if1 .left)) in
     sym (length-take-le _ _ (s .outs-lent))
-
-all-valid-requires-2 : tie.Need-all-valid-requires-2
-all-valid-requires-2 c κs = search needs
 
 returns-4 : tie.Need-returns-4
 returns-4 c =
@@ -60,13 +51,5 @@ pub check-layout-spec : {M : Type 1} → statement M
 check-layout-spec =
     tie.close
     (tie.spec
-    sizes-fit-requires
-    returns
-    records-fit-requires
-    returns-2
-    slice-aggregate-all-valid
-    all-valid-requires
-    returns-3
-    slice-aggregate-all-valid-2
-    all-valid-requires-2
-    returns-4)
+    (λ c κs. search needs) returns records-fit-requires returns-2 slice-aggregate-all-valid (λ c κs. search needs)
+    returns-3 slice-aggregate-all-valid-2 (λ c κs. search needs) returns-4)

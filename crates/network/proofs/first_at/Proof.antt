@@ -9,18 +9,6 @@ use Rattle.network.proofs.first_at.Tie as tie
 use Rattle.network.proofs.first_at.Reads as reads
 use Rattle.network.proofs.first_at.Lts as lts
 
-mul-result : tie.Need-mul-result
-mul-result c = search needs
-
-add-result : tie.Need-add-result
-add-result c = search needs
-
-mul-result-2 : tie.Need-mul-result-2
-mul-result-2 c = search needs
-
-shared-slice-read-result : tie.Need-shared-slice-read-result
-shared-slice-read-result c = search needs
-
 cast-result : tie.Need-cast-result
 cast-result c = omega (arith, c .shared-slice-known .given (c .before .args .g * gateWidth + 1))
 
@@ -30,4 +18,5 @@ returns c = record { cell = refl; low = omega (arith, c .shared-slice-known .giv
 pub first-at-spec : {M : Type 1} → statement M
 first-at-spec =
     tie.close
-    (tie.spec mul-result add-result mul-result-2 shared-slice-read-result cast-result returns)
+    (tie.spec
+    (λ c. search needs) (λ c. search needs) (λ c. search needs) (λ c. search needs) cast-result returns)

@@ -13,29 +13,11 @@ use Rattle.signal.proofs.Signal.is_input.Reads as is-input-reads
 use Rattle.signal.proofs.Signal.is_var.Reads as is-var-reads
 use Rattle.signal.proofs.Signal.var.Reads as var-reads
 
-is-input-requires : tie.Need-is-input-requires
-is-input-requires c κs = search needs
-
-input-requires : tie.Need-input-requires
-input-requires c κs = search needs
-
-cast-result : tie.Need-cast-result
-cast-result c = search needs
-
 returns : tie.Need-returns
 returns c =
     let a = c .before .before .before .args in
     ap (λ (v : ℕ). ltb v (a .inputs)) (c .input .ensures)
     ∙ valid-input (a .inputs) (a .gates) (a .s .a) (sym (c .before .before .is-input .ensures) ∙ c .before .if1 .taken)
-
-is-var-requires : tie.Need-is-var-requires
-is-var-requires c κs = search needs
-
-var-requires : tie.Need-var-requires
-var-requires c κs = search needs
-
-cast-result-2 : tie.Need-cast-result-2
-cast-result-2 c = search needs
 
 returns-2 : tie.Need-returns-2
 returns-2 c =
@@ -53,12 +35,5 @@ pub is-valid-spec : {M : Type 1} → statement M
 is-valid-spec =
     tie.close
     (tie.spec
-    is-input-requires
-    input-requires
-    cast-result
-    returns
-    is-var-requires
-    var-requires
-    cast-result-2
-    returns-2
-    returns-3)
+    (λ c κs. search needs) (λ c κs. search needs) (λ c. search needs) returns (λ c κs. search needs)
+    (λ c κs. search needs) (λ c. search needs) returns-2 returns-3)

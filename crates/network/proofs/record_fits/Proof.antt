@@ -13,18 +13,6 @@ use Rattle.network.proofs.count_at.Reads as count-at-reads
 use Rattle.network.proofs.first_at.Reads as first-at-reads
 use Rattle.network.proofs.form_at.Reads as form-at-reads
 
-form-at-requires : tie.Need-form-at-requires
-form-at-requires c κs = search needs
-
-kind-of-requires : tie.Need-kind-of-requires
-kind-of-requires c κs = search needs
-
-count-at-requires : tie.Need-count-at-requires
-count-at-requires c κs = search needs
-
-takes-requires : tie.Need-takes-requires
-takes-requires c κs = search needs
-
 returns : tie.Need-returns
 returns c =
     let args = c .before .before .before .before .before .before .args in
@@ -34,9 +22,6 @@ returns c =
     (takes-is (a .gates .now) (a .g) (c .before .before .before .before .form-at .ensures) (c .before .before .before .kind-of .ensures) (c .before .before .count-at .ensures)
     (c .before .takes .ensures))
     ∙ not-true _ (c .if1 .taken))
-
-first-at-requires : tie.Need-first-at-requires
-first-at-requires c κs = search needs
 
 returns-2 : tie.Need-returns-2
 returns-2 c =
@@ -54,10 +39,5 @@ pub record-fits-spec : {M : Type 1} → statement M
 record-fits-spec =
     tie.close
     (tie.spec
-    form-at-requires
-    kind-of-requires
-    count-at-requires
-    takes-requires
-    returns
-    first-at-requires
-    returns-2)
+    (λ c κs. search needs) (λ c κs. search needs) (λ c κs. search needs) (λ c κs. search needs) returns
+    (λ c κs. search needs) returns-2)

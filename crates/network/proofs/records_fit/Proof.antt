@@ -26,18 +26,6 @@ record-fits-requires c κs = (omega arith, c .before .loop .inv .start)
 returns : tie.Need-returns Inv-loop μ-loop
 returns c = following-fails (c .before .before .before .loop .inv) _ (c .before .before .loop-test .taken) (sym (c .before .record-fits .ensures) ∙ not-true _ (c .if1 .taken))
 
-count-at-requires : tie.Need-count-at-requires Inv-loop μ-loop
-count-at-requires c κs = omega arith
-
-add-at : tie.Need-add-at Inv-loop μ-loop
-add-at c = omega arith
-
-add-g : tie.Need-add-g Inv-loop μ-loop
-add-g c = omega arith
-
-loop-less : tie.Need-loop-less Inv-loop μ-loop
-loop-less c = omega arith
-
 loop-again : tie.Need-loop-again Inv-loop μ-loop
 loop-again c =
     following-next (c .before .before .before .before .loop .inv) (c .before .before .before .loop-test .taken)
@@ -50,14 +38,5 @@ pub records-fit-spec : {M : Type 1} → statement M
 records-fit-spec =
     tie.close
     (tie.spec
-    Inv-loop
-    μ-loop
-    loop-holds
-    record-fits-requires
-    returns
-    count-at-requires
-    add-at
-    add-g
-    loop-less
-    loop-again
-    returns-2)
+    Inv-loop μ-loop loop-holds record-fits-requires returns (λ c κs. omega arith) (λ c. omega arith)
+    (λ c. omega arith) (λ c. omega arith) loop-again returns-2)

@@ -18,9 +18,6 @@ returns-3 c = search sizes
 returns-4 : tie.Need-returns-4
 returns-4 c = search sizes
 
-mul-if5 : tie.Need-mul-if5
-mul-if5 c = search needs
-
 returns-5 : tie.Need-returns-5
 returns-5 c = search sizes
 
@@ -33,4 +30,5 @@ returns-7 c = search sizes
 pub sizes-fit-spec : {M : Type 1} → statement M
 sizes-fit-spec =
     tie.close
-    (tie.spec returns returns-2 returns-3 returns-4 mul-if5 returns-5 returns-6 returns-7)
+    (tie.spec
+    returns returns-2 returns-3 returns-4 (λ c. search needs) returns-5 returns-6 returns-7)

@@ -5,20 +5,9 @@ use borrow.Author.Needs.{needs}
 use Rattle.replay.proofs.put_word.Statement.{statement}
 use Rattle.replay.proofs.put_word.Tie as tie
 
-mul-cells : tie.Need-mul-cells
-mul-cells c = search needs
-
-slice-write-cells : tie.Need-slice-write-cells
-slice-write-cells c = search needs
-
-same-length : tie.Need-same-length
-same-length c = search needs
-
-returns : tie.Need-returns
-returns c = search needs
-
 returns-2 : tie.Need-returns-2
 returns-2 c = sym (set-out (c .before .args .cells .now) (c .before .args .i) (c .before .args .word) (c .if1 .left))
 
 pub put-word-spec : {M : Type 1} → statement M
-put-word-spec = tie.close (tie.spec mul-cells slice-write-cells same-length returns returns-2)
+put-word-spec = tie.close (tie.spec
+    (λ c. search needs) (λ c. search needs) (λ c. search needs) (λ c. search needs) returns-2)

@@ -5,12 +5,6 @@ use borrow.Author.Needs.{needs}
 use Rattle.round_trip.proofs.read_answer.Statement.{statement}
 use Rattle.round_trip.proofs.read_answer.Tie as tie
 
-enum-known-answer : tie.Need-enum-known-answer
-enum-known-answer c = search needs
-
-enum-known-answer-2 : tie.Need-enum-known-answer-2
-enum-known-answer-2 c = search needs
-
 returns : tie.Need-returns
 returns c = sym (ap (readAnswer _) (c .before .answer .given .1))
 
@@ -18,4 +12,5 @@ returns-2 : tie.Need-returns-2
 returns-2 c = sym (ap (readAnswer _) (c .before .answer2 .given .1))
 
 pub read-answer-spec : {M : Type 1} → statement M
-read-answer-spec = tie.close (tie.spec enum-known-answer enum-known-answer-2 returns returns-2)
+read-answer-spec = tie.close (tie.spec
+    (λ c. search needs) (λ c. search needs) returns returns-2)

@@ -5,15 +5,6 @@ use borrow.Author.Needs.{needs}
 use Rattle.round_trip.proofs.trip_answer.Statement.{statement}
 use Rattle.round_trip.proofs.trip_answer.Tie as tie
 
-enum-known-written : tie.Need-enum-known-written
-enum-known-written c = search needs
-
-read-answer-requires : tie.Need-read-answer-requires
-read-answer-requires c κs = search needs
-
-enum-known-written-2 : tie.Need-enum-known-written-2
-enum-known-written-2 c = search needs
-
 returns : tie.Need-returns
 returns c = c .read-answer .ensures ∙ sym (ap (λ w. answerOf w (c .before .before .before .before .args .read)) (c .before .before .written .given .1))
 
@@ -23,4 +14,5 @@ returns-2 c = sym (ap (λ w. answerOf w (c .before .before .before .args .read))
 pub trip-answer-spec : {M : Type 1} → statement M
 trip-answer-spec =
     tie.close
-    (tie.spec enum-known-written read-answer-requires enum-known-written-2 returns returns-2)
+    (tie.spec
+    (λ c. search needs) (λ c κs. search needs) (λ c. search needs) returns returns-2)

@@ -7,12 +7,6 @@ use borrow.Author.Needs.{needs}
 use Rattle.round_trip.proofs.write_then_read.Statement.{statement}
 use Rattle.round_trip.proofs.write_then_read.Tie as tie
 
-write-blif-requires : tie.Need-write-blif-requires
-write-blif-requires c κs = search needs
-
-written-length-requires : tie.Need-written-length-requires
-written-length-requires c κs = search needs
-
 slice-reshare-prefix-read-blif : tie.Need-slice-reshare-prefix-read-blif
 slice-reshare-prefix-read-blif c =
     let w = written-within _ _ _ _ (c .before .before .before .write-blif .ensures) in
@@ -22,30 +16,6 @@ slice-aggregate-read-blif : tie.Need-slice-aggregate-read-blif
 slice-aggregate-read-blif c =
     let w = written-within _ _ _ _ (c .before .before .before .before .write-blif .ensures) in
     sym (length-take-le _ _ (omega (arith, w .0, w .1, c .before .written-length .ensures)))
-
-read-blif-requires : tie.Need-read-blif-requires
-read-blif-requires c κs = search needs
-
-trip-answer-requires : tie.Need-trip-answer-requires
-trip-answer-requires c κs = search needs
-
-same-length : tie.Need-same-length
-same-length c = search needs
-
-same-length-2 : tie.Need-same-length-2
-same-length-2 c = search needs
-
-same-length-3 : tie.Need-same-length-3
-same-length-3 c = search needs
-
-same-length-4 : tie.Need-same-length-4
-same-length-4 c = search needs
-
-same-length-5 : tie.Need-same-length-5
-same-length-5 c = search needs
-
-same-length-6 : tie.Need-same-length-6
-same-length-6 c = search needs
 
 returns : tie.Need-returns
 returns c =
@@ -62,16 +32,6 @@ pub write-then-read-spec : {M : Type 1} → statement M
 write-then-read-spec =
     tie.close
     (tie.spec
-    write-blif-requires
-    written-length-requires
-    slice-reshare-prefix-read-blif
-    slice-aggregate-read-blif
-    read-blif-requires
-    trip-answer-requires
-    same-length
-    same-length-2
-    same-length-3
-    same-length-4
-    same-length-5
-    same-length-6
-    returns)
+    (λ c κs. search needs) (λ c κs. search needs) slice-reshare-prefix-read-blif slice-aggregate-read-blif
+    (λ c κs. search needs) (λ c κs. search needs) (λ c. search needs) (λ c. search needs) (λ c. search needs)
+    (λ c. search needs) (λ c. search needs) (λ c. search needs) returns)

@@ -7,9 +7,6 @@ use Rattle.simulate.proofs.binary_bit.Tie as tie
 enum-told : tie.Need-enum-told
 enum-told c = search needs
 
-enum-told-2 : tie.Need-enum-told-2
-enum-told-2 c = search needs
-
 returns : tie.Need-returns
 returns c = binary-and (c .enum-told .given .1)
 
@@ -17,4 +14,5 @@ returns-2 : tie.Need-returns-2
 returns-2 c = binary-xor (c .enum-told2 .given .1)
 
 pub binary-bit-spec : {M : Type 1} → statement M
-binary-bit-spec = tie.close (tie.spec enum-told enum-told-2 returns returns-2)
+binary-bit-spec = tie.close (tie.spec
+    enum-told (λ c. search needs) returns returns-2)

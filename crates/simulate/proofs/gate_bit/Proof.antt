@@ -9,41 +9,11 @@ returns c =
     let a = c .before .before .before .before .before .args in
     bit-no-record (a .row .now) (a .bits .now) (a .gates .now) (a .pins .now) (a .g) (a .held) (c .if1 .taken)
 
-first-at-requires : tie.Need-first-at-requires
-first-at-requires c κs = search needs
-
-count-at-requires : tie.Need-count-at-requires
-count-at-requires c κs = search needs
-
-add-end : tie.Need-add-end
-add-end c = search needs
-
 returns-2 : tie.Need-returns-2
 returns-2 c =
     let args = c .before .before .before .before .before .before .before .before .args in
     let a = args in
     bit-no-run (a .row .now) (a .bits .now) (a .gates .now) (a .pins .now) (a .g) (a .held) (c .before .before .first-at .ensures) (c .before .count-at .ensures) (c .if2 .taken)
-
-form-at-requires : tie.Need-form-at-requires
-form-at-requires c κs = search needs
-
-kind-of-requires : tie.Need-kind-of-requires
-kind-of-requires c κs = search needs
-
-mul-kind-bit : tie.Need-mul-kind-bit
-mul-kind-bit c = search needs
-
-sub-kind-bit : tie.Need-sub-kind-bit
-sub-kind-bit c = search needs
-
-part-kind-bit-start : tie.Need-part-kind-bit-start
-part-kind-bit-start c = search needs
-
-part-kind-bit-end : tie.Need-part-kind-bit-end
-part-kind-bit-end c = search needs
-
-kind-bit-requires : tie.Need-kind-bit-requires
-kind-bit-requires c κs = search needs
 
 returns-3 : tie.Need-returns-3
 returns-3 c =
@@ -59,16 +29,6 @@ pub gate-bit-spec : {M : Type 1} → statement M
 gate-bit-spec =
     tie.close
     (tie.spec
-    returns
-    first-at-requires
-    count-at-requires
-    add-end
-    returns-2
-    form-at-requires
-    kind-of-requires
-    mul-kind-bit
-    sub-kind-bit
-    part-kind-bit-start
-    part-kind-bit-end
-    kind-bit-requires
-    returns-3)
+    returns (λ c κs. search needs) (λ c κs. search needs) (λ c. search needs) returns-2 (λ c κs. search needs)
+    (λ c κs. search needs) (λ c. search needs) (λ c. search needs) (λ c. search needs) (λ c. search needs)
+    (λ c κs. search needs) returns-3)

@@ -5,20 +5,11 @@ use borrow.Author.Needs.{needs}
 use Rattle.simulate.proofs.mux_bit.Statement.{statement}
 use Rattle.simulate.proofs.mux_bit.Tie as tie
 
-pin-bit-requires : tie.Need-pin-bit-requires
-pin-bit-requires c κs = search needs
-
-pin-bit-requires-2 : tie.Need-pin-bit-requires-2
-pin-bit-requires-2 c κs = search needs
-
 returns : tie.Need-returns
 returns c =
     let args = c .before .before .before .before .before .before .args in
     let a = args in
     mux-second (pinBits (a .row .now) (a .bits .now) (a .run .now)) (c .before .before .pin-bit .ensures) (c .before .if1 .taken) (c .pin-bit2 .ensures)
-
-pin-bit-requires-3 : tie.Need-pin-bit-requires-3
-pin-bit-requires-3 c κs = search needs
 
 returns-2 : tie.Need-returns-2
 returns-2 c =
@@ -27,4 +18,5 @@ returns-2 c =
 
 pub mux-bit-spec : {M : Type 1} → statement M
 mux-bit-spec =
-    tie.close (tie.spec pin-bit-requires pin-bit-requires-2 returns pin-bit-requires-3 returns-2)
+    tie.close (tie.spec
+    (λ c κs. search needs) (λ c κs. search needs) returns (λ c κs. search needs) returns-2)

@@ -5,15 +5,6 @@ use borrow.Author.Needs.{needs}
 use Rattle.simulate.proofs.next_bit.Statement.{statement}
 use Rattle.simulate.proofs.next_bit.Tie as tie
 
-gate-at-requires : tie.Need-gate-at-requires
-gate-at-requires c κs = search needs
-
-enum-known-gate : tie.Need-enum-known-gate
-enum-known-gate c = search needs
-
-next-of-requires : tie.Need-next-of-requires
-next-of-requires c κs = search needs
-
 enum-told : tie.Need-enum-told
 enum-told c = search needs
 
@@ -32,4 +23,5 @@ returns-2 c =
 pub next-bit-spec : {M : Type 1} → statement M
 next-bit-spec =
     tie.close
-    (tie.spec gate-at-requires enum-known-gate next-of-requires enum-told returns returns-2)
+    (tie.spec
+    (λ c κs. search needs) (λ c. search needs) (λ c κs. search needs) enum-told returns returns-2)

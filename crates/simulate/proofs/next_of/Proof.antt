@@ -4,33 +4,6 @@ use borrow.Author.Needs.{needs}
 use Rattle.simulate.proofs.next_of.Statement.{statement}
 use Rattle.simulate.proofs.next_of.Tie as tie
 
-enum-told : tie.Need-enum-told
-enum-told c = search needs
-
-enum-told-2 : tie.Need-enum-told-2
-enum-told-2 c = search needs
-
-enum-told-3 : tie.Need-enum-told-3
-enum-told-3 c = search needs
-
-enum-told-4 : tie.Need-enum-told-4
-enum-told-4 c = search needs
-
-enum-known-gate : tie.Need-enum-known-gate
-enum-known-gate c = search needs
-
-sig-bit-requires : tie.Need-sig-bit-requires
-sig-bit-requires c κs = search needs
-
-sig-bit-requires-2 : tie.Need-sig-bit-requires-2
-sig-bit-requires-2 c κs = search needs
-
-sig-bit-requires-3 : tie.Need-sig-bit-requires-3
-sig-bit-requires-3 c κs = search needs
-
-step-bit-requires : tie.Need-step-bit-requires
-step-bit-requires c κs = search needs
-
 returns : tie.Need-returns
 returns c =
     let a = c .before .before .before .before .args in
@@ -62,17 +35,6 @@ pub next-of-spec : {M : Type 1} → statement M
 next-of-spec =
     tie.close
     (tie.spec
-    enum-told
-    enum-told-2
-    enum-told-3
-    enum-told-4
-    enum-known-gate
-    sig-bit-requires
-    sig-bit-requires-2
-    sig-bit-requires-3
-    step-bit-requires
-    returns
-    returns-2
-    returns-3
-    returns-4
-    returns-5)
+    (λ c. search needs) (λ c. search needs) (λ c. search needs) (λ c. search needs) (λ c. search needs)
+    (λ c κs. search needs) (λ c κs. search needs) (λ c κs. search needs) (λ c κs. search needs) returns returns-2
+    returns-3 returns-4 returns-5)

@@ -5,15 +5,6 @@ use borrow.Author.Needs.{needs}
 use Rattle.simulate.proofs.pin_bit.Statement.{statement}
 use Rattle.simulate.proofs.pin_bit.Tie as tie
 
-mul-t7 : tie.Need-mul-t7
-mul-t7 c = search needs
-
-shared-slice-read-t9 : tie.Need-shared-slice-read-t9
-shared-slice-read-t9 c = search needs
-
-sig-bit-requires : tie.Need-sig-bit-requires
-sig-bit-requires c κs = search needs
-
 returns : tie.Need-returns
 returns c =
     let a = c .before .before .before .before .before .before .args in
@@ -25,4 +16,5 @@ returns-2 c =
     pin-past (a .row .now) (a .bits .now) (a .run .now) (a .i) (c .if1 .left)
 
 pub pin-bit-spec : {M : Type 1} → statement M
-pin-bit-spec = tie.close (tie.spec mul-t7 shared-slice-read-t9 sig-bit-requires returns returns-2)
+pin-bit-spec = tie.close (tie.spec
+    (λ c. search needs) (λ c. search needs) (λ c κs. search needs) returns returns-2)

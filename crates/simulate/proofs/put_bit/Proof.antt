@@ -5,17 +5,9 @@ use borrow.Author.Needs.{needs}
 use Rattle.simulate.proofs.put_bit.Statement.{statement}
 use Rattle.simulate.proofs.put_bit.Tie as tie
 
-slice-write-bits : tie.Need-slice-write-bits
-slice-write-bits c = search needs
-
-same-length : tie.Need-same-length
-same-length c = search needs
-
-returns : tie.Need-returns
-returns c = search needs
-
 returns-2 : tie.Need-returns-2
 returns-2 c = sym (set-out (c .before .args .bits .now) (c .before .args .i) (c .before .args .b) (c .if1 .left))
 
 pub put-bit-spec : {M : Type 1} → statement M
-put-bit-spec = tie.close (tie.spec slice-write-bits same-length returns returns-2)
+put-bit-spec = tie.close (tie.spec
+    (λ c. search needs) (λ c. search needs) (λ c. search needs) returns-2)

@@ -5,38 +5,11 @@ use borrow.Author.Needs.{needs}
 use Rattle.simulate.proofs.sig_bit.Statement.{statement}
 use Rattle.simulate.proofs.sig_bit.Tie as tie
 
-is-inverted-requires : tie.Need-is-inverted-requires
-is-inverted-requires c κs = search needs
-
-is-input-requires : tie.Need-is-input-requires
-is-input-requires c κs = search needs
-
-input-requires : tie.Need-input-requires
-input-requires c κs = search needs
-
-cast-bit-at : tie.Need-cast-bit-at
-cast-bit-at c = search needs
-
-bit-at-requires : tie.Need-bit-at-requires
-bit-at-requires c κs = search needs
-
 returns : tie.Need-returns
 returns c =
     let a = c .before .before .before .before .before .before .before .args in
     input-bit (a .row .now) (a .bits .now) (a .s .a) (c .before .before .before .before .is-inverted .ensures)
     (sym (c .before .before .before .is-input .ensures) ∙ c .before .before .if1 .taken) (c .before .input .ensures) (c .bit-at .ensures)
-
-is-var-requires : tie.Need-is-var-requires
-is-var-requires c κs = search needs
-
-var-requires : tie.Need-var-requires
-var-requires c κs = search needs
-
-cast-bit-at-2 : tie.Need-cast-bit-at-2
-cast-bit-at-2 c = search needs
-
-bit-at-requires-2 : tie.Need-bit-at-requires-2
-bit-at-requires-2 c κs = search needs
 
 returns-2 : tie.Need-returns-2
 returns-2 c =
@@ -54,15 +27,6 @@ pub sig-bit-spec : {M : Type 1} → statement M
 sig-bit-spec =
     tie.close
     (tie.spec
-    is-inverted-requires
-    is-input-requires
-    input-requires
-    cast-bit-at
-    bit-at-requires
-    returns
-    is-var-requires
-    var-requires
-    cast-bit-at-2
-    bit-at-requires-2
-    returns-2
+    (λ c κs. search needs) (λ c κs. search needs) (λ c κs. search needs) (λ c. search needs) (λ c κs. search needs)
+    returns (λ c κs. search needs) (λ c κs. search needs) (λ c. search needs) (λ c κs. search needs) returns-2
     returns-3)

@@ -7,15 +7,6 @@ use Rattle.simulate.proofs.ternary_bit.Tie as tie
 enum-told : tie.Need-enum-told
 enum-told c = search needs
 
-enum-told-2 : tie.Need-enum-told-2
-enum-told-2 c = search needs
-
-enum-told-3 : tie.Need-enum-told-3
-enum-told-3 c = search needs
-
-enum-told-4 : tie.Need-enum-told-4
-enum-told-4 c = search needs
-
 returns : tie.Need-returns
 returns c = ternary-and (c .enum-told .given .1)
 
@@ -31,4 +22,5 @@ returns-4 c = ternary-mux (c .enum-told4 .given .1)
 pub ternary-bit-spec : {M : Type 1} → statement M
 ternary-bit-spec =
     tie.close
-    (tie.spec enum-told enum-told-2 enum-told-3 enum-told-4 returns returns-2 returns-3 returns-4)
+    (tie.spec
+    enum-told (λ c. search needs) (λ c. search needs) (λ c. search needs) returns returns-2 returns-3 returns-4)

@@ -12,18 +12,6 @@ use Rattle.sort.proofs.Naming.{occ-own, named-none, raised-gate, raised
 use Rattle.sort.proofs.add_use.Statement.{statement}
 use Rattle.sort.proofs.add_use.Tie as tie
 
-is-var-requires : tie.Need-is-var-requires
-is-var-requires c κs = search needs
-
-var-requires : tie.Need-var-requires
-var-requires c κs = search needs
-
-cast-g : tie.Need-cast-g
-cast-g c = search needs
-
-mul-counts : tie.Need-mul-counts
-mul-counts c = search needs
-
 is : (c : tie.After-var) → gateNode (nodeOf (c .before .before .before .before .args .s)) ≡ true
 is c = sym (c .before .before .is-var .ensures) ∙ c .before .if1 .taken
 
@@ -44,9 +32,6 @@ add-counts c = omega (arith, fits (c .before))
 slice-write-counts : tie.Need-slice-write-counts
 slice-write-counts c = fits (c .before) .0
 
-same-length : tie.Need-same-length
-same-length c = search needs
-
 returns : tie.Need-returns
 returns c = raised-gate _ (is (c .before)) (c .before .var .ensures) (fits (c .before) .0)
 
@@ -57,13 +42,5 @@ pub add-use-spec : {M : Type 1} → statement M
 add-use-spec =
     tie.close
     (tie.spec
-    is-var-requires
-    var-requires
-    cast-g
-    mul-counts
-    slice-read-counts
-    add-counts
-    slice-write-counts
-    same-length
-    returns
-    returns-2)
+    (λ c κs. search needs) (λ c κs. search needs) (λ c. search needs) (λ c. search needs) slice-read-counts
+    add-counts slice-write-counts (λ c. search needs) returns returns-2)

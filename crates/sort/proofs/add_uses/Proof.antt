@@ -15,20 +15,8 @@ abbrev μ-loop : tie.MeasureT-loop
 loop-holds : tie.Need-loop-holds Inv-loop μ-loop
 loop-holds c = counting-start (c .before .before .pre)
 
-mul-add-use : tie.Need-mul-add-use Inv-loop μ-loop
-mul-add-use c = omega arith
-
-shared-slice-read-add-use : tie.Need-shared-slice-read-add-use Inv-loop μ-loop
-shared-slice-read-add-use c = omega arith
-
 add-use-requires : tie.Need-add-use-requires Inv-loop μ-loop
 add-use-requires c κs = counting-asks (c .before .before .loop-test .taken) (c .before .before .before .loop .inv)
-
-add-i : tie.Need-add-i Inv-loop μ-loop
-add-i c = omega arith
-
-loop-less : tie.Need-loop-less Inv-loop μ-loop
-loop-less c = omega arith
 
 loop-again : tie.Need-loop-again Inv-loop μ-loop
 loop-again c =
@@ -45,14 +33,5 @@ pub add-uses-spec : {M : Type 1} → statement M
 add-uses-spec =
     tie.close
     (tie.spec
-    Inv-loop
-    μ-loop
-    loop-holds
-    mul-add-use
-    shared-slice-read-add-use
-    add-use-requires
-    add-i
-    loop-less
-    loop-again
-    same-length
-    returns)
+    Inv-loop μ-loop loop-holds (λ c. omega arith) (λ c. omega arith) add-use-requires (λ c. omega arith)
+    (λ c. omega arith) loop-again same-length returns)

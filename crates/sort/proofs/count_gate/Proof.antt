@@ -29,9 +29,6 @@ add-uses-requires c κs =
     let t = sym (c .before .before .before .is-comb .ensures) ∙ not-false _ (c .before .before .if1 .left) in
     countable-as (sym (ap gateIns (c .before .gate-pins .ensures) ∙ comb-uses (s .pre .0) (s .pre .1 .0) t)) (s .pre .1 .1)
 
-same-length : tie.Need-same-length
-same-length c = search needs
-
 returns-2 : tie.Need-returns-2
 returns-2 c =
     let s = c .before .before .before .before .before .before .before .before .before .before in
@@ -42,4 +39,5 @@ returns-2 c =
 pub count-gate-spec : {M : Type 1} → statement M
 count-gate-spec =
     tie.close
-    (tie.spec is-comb-requires returns gate-pins-requires add-uses-requires same-length returns-2)
+    (tie.spec
+    is-comb-requires returns gate-pins-requires add-uses-requires (λ c. search needs) returns-2)

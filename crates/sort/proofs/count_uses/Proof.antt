@@ -24,12 +24,6 @@ count-gate-requires c κs =
     let l = c .before .loop-test .taken in
     (p .0, (l, counted-asks (p .0) l (c .before .before .loop .inv)))
 
-add-g : tie.Need-add-g Inv-loop μ-loop
-add-g c = omega arith
-
-loop-less : tie.Need-loop-less Inv-loop μ-loop
-loop-less c = omega arith
-
 loop-again : tie.Need-loop-again Inv-loop μ-loop
 loop-again c =
     let a = c .before .before in
@@ -45,12 +39,5 @@ pub count-uses-spec : {M : Type 1} → statement M
 count-uses-spec =
     tie.close
     (tie.spec
-    Inv-loop
-    μ-loop
-    loop-holds
-    count-gate-requires
-    add-g
-    loop-less
-    loop-again
-    same-length
+    Inv-loop μ-loop loop-holds count-gate-requires (λ c. omega arith) (λ c. omega arith) loop-again same-length
     returns)

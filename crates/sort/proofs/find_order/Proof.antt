@@ -11,39 +11,6 @@ use Rattle.sort.proofs.Starting.{flopped-same, flopped-marked}
 use Rattle.sort.proofs.find_order.Statement.{statement}
 use Rattle.sort.proofs.find_order.Tie as tie
 
-slice-aggregate-count-uses : tie.Need-slice-aggregate-count-uses
-slice-aggregate-count-uses c = search needs
-
-count-uses-requires : tie.Need-count-uses-requires
-count-uses-requires c κs = search needs
-
-slice-aggregate-mark-flops : tie.Need-slice-aggregate-mark-flops
-slice-aggregate-mark-flops c = search needs
-
-mark-flops-requires : tie.Need-mark-flops-requires
-mark-flops-requires c κs = search needs
-
-slice-aggregate-start-stack : tie.Need-slice-aggregate-start-stack
-slice-aggregate-start-stack c = search needs
-
-slice-aggregate-start-stack-2 : tie.Need-slice-aggregate-start-stack-2
-slice-aggregate-start-stack-2 c = search needs
-
-slice-aggregate-start-stack-3 : tie.Need-slice-aggregate-start-stack-3
-slice-aggregate-start-stack-3 c = search needs
-
-start-stack-requires : tie.Need-start-stack-requires
-start-stack-requires c κs = search needs
-
-slice-aggregate-visit-all : tie.Need-slice-aggregate-visit-all
-slice-aggregate-visit-all c = search needs
-
-slice-aggregate-visit-all-2 : tie.Need-slice-aggregate-visit-all-2
-slice-aggregate-visit-all-2 c = search needs
-
-slice-aggregate-visit-all-3 : tie.Need-slice-aggregate-visit-all-3
-slice-aggregate-visit-all-3 c = search needs
-
 visit-all-requires : tie.Need-visit-all-requires
 visit-all-requires c κs =
     let t = c .before .before .before .before .before in
@@ -68,9 +35,6 @@ visit-all-requires c κs =
       },
     )
 
-same-length : tie.Need-same-length
-same-length c = search needs
-
 returns : tie.Need-returns
 returns c =
     let a = c .before .before .before .before .before in
@@ -83,17 +47,6 @@ pub find-order-spec : {M : Type 1} → statement M
 find-order-spec =
     tie.close
     (tie.spec
-    slice-aggregate-count-uses
-    count-uses-requires
-    slice-aggregate-mark-flops
-    mark-flops-requires
-    slice-aggregate-start-stack
-    slice-aggregate-start-stack-2
-    slice-aggregate-start-stack-3
-    start-stack-requires
-    slice-aggregate-visit-all
-    slice-aggregate-visit-all-2
-    slice-aggregate-visit-all-3
-    visit-all-requires
-    same-length
-    returns)
+    (λ c. search needs) (λ c κs. search needs) (λ c. search needs) (λ c κs. search needs) (λ c. search needs)
+    (λ c. search needs) (λ c. search needs) (λ c κs. search needs) (λ c. search needs) (λ c. search needs)
+    (λ c. search needs) visit-all-requires (λ c. search needs) returns)

@@ -4,27 +4,6 @@ use Rattle.network.proofs.Records.{cut-run}
 use Rattle.sort.proofs.gate_pins.Statement.{statement}
 use Rattle.sort.proofs.gate_pins.Tie as tie
 
-first-at-requires : tie.Need-first-at-requires
-first-at-requires c κs = search needs
-
-count-at-requires : tie.Need-count-at-requires
-count-at-requires c κs = search needs
-
-add-end : tie.Need-add-end
-add-end c = search needs
-
-mul-result : tie.Need-mul-result
-mul-result c = search needs
-
-sub-result : tie.Need-sub-result
-sub-result c = search needs
-
-part-result-start : tie.Need-part-result-start
-part-result-start c = search needs
-
-part-result-end : tie.Need-part-result-end
-part-result-end c = search needs
-
 returns : tie.Need-returns
 returns c =
     let a = c .before .before .before .before .before .args in
@@ -34,11 +13,5 @@ pub gate-pins-spec : {M : Type 1} → statement M
 gate-pins-spec =
     tie.close
     (tie.spec
-    first-at-requires
-    count-at-requires
-    add-end
-    mul-result
-    sub-result
-    part-result-start
-    part-result-end
-    returns)
+    (λ c κs. search needs) (λ c κs. search needs) (λ c. search needs) (λ c. search needs) (λ c. search needs)
+    (λ c. search needs) (λ c. search needs) returns)

@@ -13,20 +13,8 @@ use Rattle.sort.proofs.Stack.{lowered-none, lowered-stay, lowered-push,
 use Rattle.sort.proofs.lower_use.Statement.{statement}
 use Rattle.sort.proofs.lower_use.Tie as tie
 
-is-var-requires : tie.Need-is-var-requires
-is-var-requires c κs = search needs
-
 returns : tie.Need-returns
 returns c = lowered-none _ (sym (c .before .is-var .ensures) ∙ not-true _ (c .if1 .taken))
-
-var-requires : tie.Need-var-requires
-var-requires c κs = search needs
-
-cast-d : tie.Need-cast-d
-cast-d c = search needs
-
-mul-counts : tie.Need-mul-counts
-mul-counts c = search needs
 
 is : (c : tie.After-var) → gateNode (nodeOf (c .before .before .before .before .before .args .s)) ≡ true
 is c = sym (c .before .before .is-var .ensures) ∙ not-false _ (c .before .if1 .left)
@@ -49,22 +37,13 @@ sub-counts c = fits (c .before) .1
 slice-write-counts : tie.Need-slice-write-counts
 slice-write-counts c = omega (arith, fits (c .before))
 
-mul-if2 : tie.Need-mul-if2
-mul-if2 c = search needs
-
 slice-read-if2 : tie.Need-slice-read-if2
 slice-read-if2 c = simp length-set (omega (arith, fits (c .before .before)))
-
-same-length : tie.Need-same-length
-same-length c = search needs
 
 returns-2 : tie.Need-returns-2
 returns-2 c =
     let p = c .before .before .before in
     lowered-stay _ (is p) (p .var .ensures) (omega (arith, fits p)) (c .if2 .taken)
-
-cast-stack : tie.Need-cast-stack
-cast-stack c = search needs
 
 mul-stack : tie.Need-mul-stack
 mul-stack c = omega (arith, fits (c .before .before .before))
@@ -74,12 +53,6 @@ slice-write-stack c = omega (arith, fits (c .before .before .before))
 
 add-result : tie.Need-add-result
 add-result c = omega (arith, fits (c .before .before .before))
-
-same-length-2 : tie.Need-same-length-2
-same-length-2 c = search needs
-
-same-length-3 : tie.Need-same-length-3
-same-length-3 c = search needs
 
 returns-3 : tie.Need-returns-3
 returns-3 c =
@@ -92,22 +65,6 @@ pub lower-use-spec : {M : Type 1} → statement M
 lower-use-spec =
     tie.close
     (tie.spec
-    is-var-requires
-    returns
-    var-requires
-    cast-d
-    mul-counts
-    slice-read-counts
-    sub-counts
-    slice-write-counts
-    mul-if2
-    slice-read-if2
-    same-length
-    returns-2
-    cast-stack
-    mul-stack
-    slice-write-stack
-    add-result
-    same-length-2
-    same-length-3
-    returns-3)
+    (λ c κs. search needs) returns (λ c κs. search needs) (λ c. search needs) (λ c. search needs) slice-read-counts
+    sub-counts slice-write-counts (λ c. search needs) slice-read-if2 (λ c. search needs) returns-2
+    (λ c. search needs) mul-stack slice-write-stack add-result (λ c. search needs) (λ c. search needs) returns-3)

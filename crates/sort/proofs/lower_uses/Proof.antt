@@ -18,22 +18,10 @@ loop-holds c =
     let p = c .before .before .before .pre in
     lowering-start (p .0 .0) (p .0 .1) (p .1)
 
-mul-lower-use : tie.Need-mul-lower-use Inv-loop μ-loop
-mul-lower-use c = omega arith
-
-shared-slice-read-lower-use : tie.Need-shared-slice-read-lower-use Inv-loop μ-loop
-shared-slice-read-lower-use c = omega arith
-
 lower-use-requires : tie.Need-lower-use-requires Inv-loop μ-loop
 lower-use-requires c κs =
     let h = c .before .before .before .before .loop .inv in
     ((h .counts-long, h .stack-long), lowering-asks (c .before .before .before .loop-test .taken) h)
-
-add-i : tie.Need-add-i Inv-loop μ-loop
-add-i c = omega arith
-
-loop-less : tie.Need-loop-less Inv-loop μ-loop
-loop-less c = omega arith
 
 loop-again : tie.Need-loop-again Inv-loop μ-loop
 loop-again c =
@@ -54,15 +42,5 @@ pub lower-uses-spec : {M : Type 1} → statement M
 lower-uses-spec =
     tie.close
     (tie.spec
-    Inv-loop
-    μ-loop
-    loop-holds
-    mul-lower-use
-    shared-slice-read-lower-use
-    lower-use-requires
-    add-i
-    loop-less
-    loop-again
-    same-length
-    same-length-2
-    returns)
+    Inv-loop μ-loop loop-holds (λ c. omega arith) (λ c. omega arith) lower-use-requires (λ c. omega arith)
+    (λ c. omega arith) loop-again same-length same-length-2 returns)

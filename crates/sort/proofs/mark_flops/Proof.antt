@@ -40,12 +40,6 @@ mark-flop-requires c κs =
     let l = c .before .before .loop-test .taken in
     (omega (arith, l, p .1), omega (arith, l, p .0), i .long, i .flopped .few, omega (arith, l, p .3, i .same))
 
-add-g : tie.Need-add-g Inv-loop μ-loop
-add-g c = omega arith
-
-loop-less : tie.Need-loop-less Inv-loop μ-loop
-loop-less c = omega arith
-
 loop-again : tie.Need-loop-again Inv-loop μ-loop
 loop-again c =
     let a = c .before .before .before .before in
@@ -73,13 +67,5 @@ pub mark-flops-spec : {M : Type 1} → statement M
 mark-flops-spec =
     tie.close
     (tie.spec
-    Inv-loop
-    μ-loop
-    loop-holds
-    mark-flop-requires
-    add-g
-    loop-less
-    loop-again
-    same-length
-    same-length-2
-    returns)
+    Inv-loop μ-loop loop-holds mark-flop-requires (λ c. omega arith) (λ c. omega arith) loop-again same-length
+    same-length-2 returns)

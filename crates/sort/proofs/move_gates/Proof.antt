@@ -15,12 +15,6 @@ abbrev μ-loop : tie.MeasureT-loop
 loop-holds : tie.Need-loop-holds Inv-loop μ-loop
 loop-holds c = moving-start
 
-mul-g : tie.Need-mul-g Inv-loop μ-loop
-mul-g c = omega arith
-
-shared-slice-read-g : tie.Need-shared-slice-read-g Inv-loop μ-loop
-shared-slice-read-g c = omega arith
-
 cast-g : tie.Need-cast-g Inv-loop μ-loop
 cast-g c = omega (arith, c .shared-slice-known5 .given (c .before .before .loop .i))
 
@@ -29,12 +23,6 @@ move-gate-requires c κs =
     let s = c .before .before .before .before .before .before .before .before .before .before .before in
     let l = c .before .before .before in
     (s .pre .runs _ (l .loop-test .taken), moving-fits (s .pre) (l .loop-test .taken) (l .before .loop .inv))
-
-add-i : tie.Need-add-i Inv-loop μ-loop
-add-i c = omega arith
-
-loop-less : tie.Need-loop-less Inv-loop μ-loop
-loop-less c = omega arith
 
 loop-again : tie.Need-loop-again Inv-loop μ-loop
 loop-again c =
@@ -56,16 +44,5 @@ pub move-gates-spec : {M : Type 1} → statement M
 move-gates-spec =
     tie.close
     (tie.spec
-    Inv-loop
-    μ-loop
-    loop-holds
-    mul-g
-    shared-slice-read-g
-    cast-g
-    move-gate-requires
-    add-i
-    loop-less
-    loop-again
-    same-length
-    same-length-2
-    returns)
+    Inv-loop μ-loop loop-holds (λ c. omega arith) (λ c. omega arith) cast-g move-gate-requires (λ c. omega arith)
+    (λ c. omega arith) loop-again same-length same-length-2 returns)

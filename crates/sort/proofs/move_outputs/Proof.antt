@@ -17,30 +17,6 @@ abbrev μ-loop : tie.MeasureT-loop
 loop-holds : tie.Need-loop-holds Inv-loop μ-loop
 loop-holds c = renaming-start
 
-mul-t8 : tie.Need-mul-t8 Inv-loop μ-loop
-mul-t8 c = omega arith
-
-slice-read-t10 : tie.Need-slice-read-t10 Inv-loop μ-loop
-slice-read-t10 c = omega arith
-
-remap-order-requires : tie.Need-remap-order-requires Inv-loop μ-loop
-remap-order-requires c κs = search needs
-
-raw-requires : tie.Need-raw-requires Inv-loop μ-loop
-raw-requires c κs = search needs
-
-mul-outputs : tie.Need-mul-outputs Inv-loop μ-loop
-mul-outputs c = omega arith
-
-slice-write-outputs : tie.Need-slice-write-outputs Inv-loop μ-loop
-slice-write-outputs c = omega arith
-
-add-i : tie.Need-add-i Inv-loop μ-loop
-add-i c = omega arith
-
-loop-less : tie.Need-loop-less Inv-loop μ-loop
-loop-less c = omega arith
-
 loop-again : tie.Need-loop-again Inv-loop μ-loop
 loop-again c =
     let l = c .before .before .before in
@@ -56,17 +32,5 @@ pub move-outputs-spec : {M : Type 1} → statement M
 move-outputs-spec =
     tie.close
     (tie.spec
-    Inv-loop
-    μ-loop
-    loop-holds
-    mul-t8
-    slice-read-t10
-    remap-order-requires
-    raw-requires
-    mul-outputs
-    slice-write-outputs
-    add-i
-    loop-less
-    loop-again
-    same-length
-    returns)
+    Inv-loop μ-loop loop-holds (λ c. omega arith) (λ c. omega arith) (λ c κs. search needs) (λ c κs. search needs)
+    (λ c. omega arith) (λ c. omega arith) (λ c. omega arith) (λ c. omega arith) loop-again same-length returns)

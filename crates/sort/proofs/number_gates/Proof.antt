@@ -24,35 +24,14 @@ fits c =
 loop-holds : tie.Need-loop-holds Inv-loop μ-loop
 loop-holds c = tabling-start (c .before .before .pre .0 .1)
 
-mul-g : tie.Need-mul-g Inv-loop μ-loop
-mul-g c = omega arith
-
-shared-slice-read-g : tie.Need-shared-slice-read-g Inv-loop μ-loop
-shared-slice-read-g c = omega arith
-
 cast-g : tie.Need-cast-g Inv-loop μ-loop
 cast-g c = omega (arith, fits c)
-
-cast-from-var : tie.Need-cast-from-var Inv-loop μ-loop
-cast-from-var c = omega arith
-
-from-var-requires : tie.Need-from-var-requires Inv-loop μ-loop
-from-var-requires c κs = search needs
-
-raw-requires : tie.Need-raw-requires Inv-loop μ-loop
-raw-requires c κs = search needs
 
 mul-table : tie.Need-mul-table Inv-loop μ-loop
 mul-table c = omega (arith, fits (c .before .before))
 
 slice-write-table : tie.Need-slice-write-table Inv-loop μ-loop
 slice-write-table c = omega (arith, fits (c .before .before), c .before .before .before .before .loop .inv .tabled .long)
-
-add-i : tie.Need-add-i Inv-loop μ-loop
-add-i c = omega arith
-
-loop-less : tie.Need-loop-less Inv-loop μ-loop
-loop-less c = omega arith
 
 loop-again : tie.Need-loop-again Inv-loop μ-loop
 loop-again c =
@@ -69,19 +48,6 @@ pub number-gates-spec : {M : Type 1} → statement M
 number-gates-spec =
     tie.close
     (tie.spec
-    Inv-loop
-    μ-loop
-    loop-holds
-    mul-g
-    shared-slice-read-g
-    cast-g
-    cast-from-var
-    from-var-requires
-    raw-requires
-    mul-table
-    slice-write-table
-    add-i
-    loop-less
-    loop-again
-    same-length
-    returns)
+    Inv-loop μ-loop loop-holds (λ c. omega arith) (λ c. omega arith) cast-g (λ c. omega arith)
+    (λ c κs. search needs) (λ c κs. search needs) mul-table slice-write-table (λ c. omega arith) (λ c. omega arith)
+    loop-again same-length returns)

@@ -8,26 +8,14 @@ use Rattle.sort.proofs.Lending.{network-sortable, no-network, no-gate-r
 use Rattle.sort.proofs.sort_network.Statement.{statement}
 use Rattle.sort.proofs.sort_network.Tie as tie
 
-check-layout-requires : tie.Need-check-layout-requires
-check-layout-requires c κs = search needs
-
-same-length : tie.Need-same-length
-same-length c = search needs
-
 returns : tie.Need-returns
 returns c = no-network _ _ _ (sym (c .before .check-layout .ensures) ∙ not-true _ (c .if1 .taken))
 
 mul-if2 : tie.Need-mul-if2
 mul-if2 c = omega (arith, network-sizes _ (sym (c .before .before .check-layout .ensures) ∙ not-false _ (c .before .if1 .left)) .few .gates)
 
-same-length-2 : tie.Need-same-length-2
-same-length-2 c = search needs
-
 returns-2 : tie.Need-returns-2
 returns-2 c = no-gate-room _ _ _ (c .if2 .taken)
-
-same-length-3 : tie.Need-same-length-3
-same-length-3 c = search needs
 
 returns-3 : tie.Need-returns-3
 returns-3 c = no-pin-room _ _ _ (c .if3 .taken)
@@ -44,15 +32,6 @@ topo-sort-requires c κs =
     (sym (check-layout .ensures) ∙ not-false _ (if1 .left))
     (if2 .left) (c .before .before .before .if3 .left)
 
-same-length-4 : tie.Need-same-length-4
-same-length-4 c = search needs
-
-same-length-5 : tie.Need-same-length-5
-same-length-5 c = search needs
-
-same-length-6 : tie.Need-same-length-6
-same-length-6 c = search needs
-
 returns-4 : tie.Need-returns-4
 returns-4 c =
     let check-layout = c .before .before .before .before .before .before .before .before .before .before .before .before .before .before .before .check-layout in
@@ -67,16 +46,5 @@ pub sort-network-spec : {M : Type 1} → statement M
 sort-network-spec =
     tie.close
     (tie.spec
-    check-layout-requires
-    same-length
-    returns
-    mul-if2
-    same-length-2
-    returns-2
-    same-length-3
-    returns-3
-    topo-sort-requires
-    same-length-4
-    same-length-5
-    same-length-6
-    returns-4)
+    (λ c κs. search needs) (λ c. search needs) returns mul-if2 (λ c. search needs) returns-2 (λ c. search needs)
+    returns-3 topo-sort-requires (λ c. search needs) (λ c. search needs) (λ c. search needs) returns-4)

@@ -31,12 +31,6 @@ start-gate-requires c κs =
     let p = c .before .before .before .before .before .before .pre in
     ((omega (arith, c .before .loop-test .taken, p .0), p .1, p .2, i .long), i .started)
 
-add-g : tie.Need-add-g Inv-loop μ-loop
-add-g c = omega arith
-
-loop-less : tie.Need-loop-less Inv-loop μ-loop
-loop-less c = omega arith
-
 loop-again : tie.Need-loop-again Inv-loop μ-loop
 loop-again c =
     let a = c .before .before in
@@ -59,12 +53,5 @@ pub start-stack-spec : {M : Type 1} → statement M
 start-stack-spec =
     tie.close
     (tie.spec
-    Inv-loop
-    μ-loop
-    loop-holds
-    start-gate-requires
-    add-g
-    loop-less
-    loop-again
-    same-length
+    Inv-loop μ-loop loop-holds start-gate-requires (λ c. omega arith) (λ c. omega arith) loop-again same-length
     returns)

@@ -12,9 +12,6 @@ use Rattle.sort.proofs.Reading.{sortable-cells, gates-room}
 use Rattle.sort.proofs.topo_sort.Statement.{statement}
 use Rattle.sort.proofs.topo_sort.Tie as tie
 
-slice-aggregate-find-order : tie.Need-slice-aggregate-find-order
-slice-aggregate-find-order c = search needs
-
 find-order-requires : tie.Need-find-order-requires
 find-order-requires c κs =
     let h = sortable-cells _ _ _ _ (c .before .before .before .before .before .before .pre) in
@@ -25,9 +22,6 @@ returns c =
     let pre = c .before .before .before .before .before .before .before .before .before .pre in
     let f = c .before .before .find-order in
     ends-loop _ _ _ _ _ _ (found-none (f .result) _ (not-true _ (c .if1 .taken)) (f .ensures)) (pre)
-
-array-share-prefix-order : tie.Need-array-share-prefix-order
-array-share-prefix-order c = search needs
 
 slice-aggregate-renumber : tie.Need-slice-aggregate-renumber
 slice-aggregate-renumber c =
@@ -41,15 +35,6 @@ renumber-requires c κs =
     let f = c .before .before .before .before .before .before .find-order in
     let o = found-some (f .result) (not-false _ (c .before .before .before .before .if1 .left)) (f .ensures) in
     (order-numbers _ _ _ _ p _ o, (order-movable _ _ _ _ p _ o _ _ (p .room) (p .pinRoom), p .outputs))
-
-same-length : tie.Need-same-length
-same-length c = search needs
-
-same-length-2 : tie.Need-same-length-2
-same-length-2 c = search needs
-
-same-length-3 : tie.Need-same-length-3
-same-length-3 c = search needs
 
 returns-2 : tie.Need-returns-2
 returns-2 c =
@@ -68,13 +53,5 @@ pub topo-sort-spec : {M : Type 1} → statement M
 topo-sort-spec =
     tie.close
     (tie.spec
-    slice-aggregate-find-order
-    find-order-requires
-    returns
-    array-share-prefix-order
-    slice-aggregate-renumber
-    renumber-requires
-    same-length
-    same-length-2
-    same-length-3
-    returns-2)
+    (λ c. search needs) find-order-requires returns (λ c. search needs) slice-aggregate-renumber renumber-requires
+    (λ c. search needs) (λ c. search needs) (λ c. search needs) returns-2)

@@ -22,9 +22,6 @@ known s =
       h .few,
     )
 
-sub-top : tie.Need-sub-top
-sub-top c = search needs
-
 mul-v : tie.Need-mul-v
 mul-v c = omega (arith, known (c .before .before .before .before .before .before .before))
 
@@ -55,9 +52,6 @@ slice-write-marks c =
 cast-order : tie.Need-cast-order
 cast-order c = omega (arith, known (c .before .before .before .before .before .before .before .before .before .before .before))
 
-mul-order : tie.Need-mul-order
-mul-order c = search needs
-
 slice-write-order : tie.Need-slice-write-order
 slice-write-order c =
     let s = c .before .before .before .before .before .before .before .before .before .before .before in
@@ -79,18 +73,6 @@ lower-uses-requires c κs =
           (sym (ap gateIns (c .before .before .gate-pins .ensures) ∙ s .pre .0 .inputs _ (known s .1))) (c .before .before .before .before .if1 .left),
     )
 
-same-length : tie.Need-same-length
-same-length c = search needs
-
-same-length-2 : tie.Need-same-length-2
-same-length-2 c = search needs
-
-same-length-3 : tie.Need-same-length-3
-same-length-3 c = search needs
-
-same-length-4 : tie.Need-same-length-4
-same-length-4 c = search needs
-
 returns-2 : tie.Need-returns-2
 returns-2 c =
     let a = c .before .before .before .before in
@@ -104,21 +86,6 @@ pub visit-spec : {M : Type 1} → statement M
 visit-spec =
     tie.close
     (tie.spec
-    sub-top
-    mul-v
-    slice-read-v
-    cast-v
-    slice-read-if1
-    returns
-    sub-at
-    slice-write-marks
-    cast-order
-    mul-order
-    slice-write-order
-    gate-pins-requires
-    lower-uses-requires
-    same-length
-    same-length-2
-    same-length-3
-    same-length-4
-    returns-2)
+    (λ c. search needs) mul-v slice-read-v cast-v slice-read-if1 returns sub-at slice-write-marks cast-order
+    (λ c. search needs) slice-write-order gate-pins-requires lower-uses-requires (λ c. search needs)
+    (λ c. search needs) (λ c. search needs) (λ c. search needs) returns-2)

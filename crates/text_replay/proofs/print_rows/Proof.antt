@@ -11,9 +11,6 @@ Inv-loop text cells n at₀ at = at ≤ n
 abbrev μ-loop : tie.MeasureT-loop
 μ-loop text cells n at₀ at = n - at
 
-loop-holds : tie.Need-loop-holds Inv-loop μ-loop
-loop-holds c = omega arith
-
 row-end-requires : tie.Need-row-end-requires Inv-loop μ-loop
 row-end-requires c κs = (c .loop-test .taken, c .before .before .before .before .pre .1)
 
@@ -22,9 +19,6 @@ statement-at-requires c κs =
     let p = c .before .before .before .before .before .pre in
     let w = c .row-end .ensures in
     ((w .low, omega (arith, w .high, p .1)), p .0 .inside (c .before .before .loop .at) (c .before .loop-test .taken))
-
-print-statement-requires : tie.Need-print-statement-requires Inv-loop μ-loop
-print-statement-requires c κs = search needs
 
 loop-less : tie.Need-loop-less Inv-loop μ-loop
 loop-less c = omega (arith, c .before .before .row-end .ensures .low, c .before .before .before .loop-test .taken)
@@ -39,12 +33,5 @@ pub print-rows-spec : {M : Type 1} → statement M
 print-rows-spec =
     tie.close
     (tie.spec
-    Inv-loop
-    μ-loop
-    loop-holds
-    row-end-requires
-    statement-at-requires
-    print-statement-requires
-    loop-less
-    loop-again
-    returns)
+    Inv-loop μ-loop (λ c. omega arith) row-end-requires statement-at-requires (λ c κs. search needs) loop-less
+    loop-again returns)

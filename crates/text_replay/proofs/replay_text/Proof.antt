@@ -16,35 +16,15 @@ shorter w = length-take-le (w % 32769) (replicate {A = ℕ} maxText 0) (omega (a
 most : (w : ℕ) → length (take (w % 32769) (replicate {A = ℕ} maxText 0)) ≤ maxText
 most w = omega (arith, shorter w)
 
-read-word-requires : tie.Need-read-word-requires
-read-word-requires c κs = search needs
-
-cast-n : tie.Need-cast-n
-cast-n c = search needs
-
-array-borrow-prefix-text : tie.Need-array-borrow-prefix-text
-array-borrow-prefix-text c = search needs
-
 slice-aggregate-replay-into : tie.Need-slice-aggregate-replay-into
 slice-aggregate-replay-into c = sym (shorter (c .before .read-word .result))
 
-slice-aggregate-replay-into-2 : tie.Need-slice-aggregate-replay-into-2
-slice-aggregate-replay-into-2 c = search needs
-
 replay-into-requires : tie.Need-replay-into-requires
 replay-into-requires c κs = (most (c .before .before .read-word .result), omega (arith, length-replicate {A = ℕ} maxTokens 0))
-
-returns : tie.Need-returns
-returns c = search needs
 
 pub replay-text-spec : {M : Type 1} → statement M
 replay-text-spec =
     tie.close
     (tie.spec
-    read-word-requires
-    cast-n
-    array-borrow-prefix-text
-    slice-aggregate-replay-into
-    slice-aggregate-replay-into-2
-    replay-into-requires
-    returns)
+    (λ c κs. search needs) (λ c. search needs) (λ c. search needs) slice-aggregate-replay-into (λ c. search needs)
+    replay-into-requires (λ c. search needs))

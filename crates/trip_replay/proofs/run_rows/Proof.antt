@@ -13,26 +13,8 @@ Inv-loop counts gates pins outputs back new-gates new-pins new-outputs held₀ n
 abbrev μ-loop : tie.MeasureT-loop
 μ-loop counts gates pins outputs back new-gates new-pins new-outputs held₀ new-held₀ rows counter₀ held new-held counter = rows - counter
 
-read-word-requires : tie.Need-read-word-requires Inv-loop μ-loop
-read-word-requires c κs = search needs
-
 loop-holds : tie.Need-loop-holds Inv-loop μ-loop
 loop-holds c = (refl, refl)
-
-slice-aggregate-run-row : tie.Need-slice-aggregate-run-row Inv-loop μ-loop
-slice-aggregate-run-row c = search needs
-
-slice-aggregate-run-row-2 : tie.Need-slice-aggregate-run-row-2 Inv-loop μ-loop
-slice-aggregate-run-row-2 c = search needs
-
-run-row-requires : tie.Need-run-row-requires Inv-loop μ-loop
-run-row-requires c κs = search needs
-
-add-counter : tie.Need-add-counter Inv-loop μ-loop
-add-counter c = omega arith
-
-loop-less : tie.Need-loop-less Inv-loop μ-loop
-loop-less c = omega arith
 
 loop-again : tie.Need-loop-again Inv-loop μ-loop
 loop-again c = (search needs, search needs)
@@ -44,14 +26,5 @@ pub run-rows-spec : {M : Type 1} → statement M
 run-rows-spec =
     tie.close
     (tie.spec
-    Inv-loop
-    μ-loop
-    read-word-requires
-    loop-holds
-    slice-aggregate-run-row
-    slice-aggregate-run-row-2
-    run-row-requires
-    add-counter
-    loop-less
-    loop-again
-    returns)
+    Inv-loop μ-loop (λ c κs. search needs) loop-holds (λ c. search needs) (λ c. search needs)
+    (λ c κs. search needs) (λ c. omega arith) (λ c. omega arith) loop-again returns)

@@ -7,9 +7,6 @@ use borrow.Author.Needs.{needs}
 use Rattle.vumneath.proofs.network_of.Statement.{statement}
 use Rattle.vumneath.proofs.network_of.Tie as tie
 
-enum-known-answer : tie.Need-enum-known-answer
-enum-known-answer c = search needs
-
 cast-t5 : tie.Need-cast-t5
 cast-t5 c = let z = c .before .before .before .before .pre .fits _ (c .before .before .answer .given .1) in omega (arith, z .inputs, c .struct-known .given)
 
@@ -29,12 +26,6 @@ cast-t8 c =
     let the-answer = c .before .before .before .before .before .answer in
     let z = pre .fits _ (the-answer .given .1) in omega (arith, z .outputs, c .struct-known4 .given)
 
-enum-known-answer-2 : tie.Need-enum-known-answer-2
-enum-known-answer-2 c = search needs
-
-number-requires : tie.Need-number-requires
-number-requires c κs = search needs
-
 returns : tie.Need-returns
 returns c = sym (ap networkOf (c .before .before .before .before .before .answer .given .1))
 
@@ -47,12 +38,5 @@ pub network-of-spec : {M : Type 1} → statement M
 network-of-spec =
     tie.close
     (tie.spec
-    enum-known-answer
-    cast-t5
-    cast-t6
-    cast-t7
-    cast-t8
-    enum-known-answer-2
-    number-requires
-    returns
+    (λ c. search needs) cast-t5 cast-t6 cast-t7 cast-t8 (λ c. search needs) (λ c κs. search needs) returns
     returns-2)

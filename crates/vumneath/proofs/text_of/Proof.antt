@@ -7,17 +7,8 @@ use borrow.Author.Needs.{needs}
 use Rattle.vumneath.proofs.text_of.Statement.{statement}
 use Rattle.vumneath.proofs.text_of.Tie as tie
 
-enum-known-answer : tie.Need-enum-known-answer
-enum-known-answer c = search needs
-
 cast-t5 : tie.Need-cast-t5
 cast-t5 c = let z = c .before .before .before .pre .fits _ (c .before .answer .given .1) in omega (arith, z)
-
-enum-known-answer-2 : tie.Need-enum-known-answer-2
-enum-known-answer-2 c = search needs
-
-number-requires : tie.Need-number-requires
-number-requires c κs = search needs
 
 returns : tie.Need-returns
 returns c = sym (ap textFor (c .before .answer .given .1))
@@ -28,4 +19,5 @@ returns-2 c =
     ∙ sym (ap textFor (c .before .before .answer2 .given .1))
 
 pub text-of-spec : {M : Type 1} → statement M
-text-of-spec = tie.close (tie.spec enum-known-answer cast-t5 enum-known-answer-2 number-requires returns returns-2)
+text-of-spec = tie.close (tie.spec
+    (λ c. search needs) cast-t5 (λ c. search needs) (λ c κs. search needs) returns returns-2)

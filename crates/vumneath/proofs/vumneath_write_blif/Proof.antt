@@ -4,18 +4,13 @@ use borrow.Author.Needs.{needs}
 use Rattle.vumneath.proofs.vumneath_write_blif.Statement.{statement}
 use Rattle.vumneath.proofs.vumneath_write_blif.Tie as tie
 
-write-blif-requires : tie.Need-write-blif-requires
-write-blif-requires c κs = search needs
-
 text-of-requires : tie.Need-text-of-requires
 text-of-requires c κs = length-fits _ _ _ _ (c .before .before .write-blif .ensures)
-
-same-length : tie.Need-same-length
-same-length c = search needs
 
 returns : tie.Need-returns
 returns c = write-handed _ _ _ _ (c .before .before .before .write-blif .ensures) (c .text-of .ensures)
 
 pub vumneath-write-blif-spec : {M : Type 1} → statement M
 vumneath-write-blif-spec =
-    tie.close (tie.spec write-blif-requires text-of-requires same-length returns)
+    tie.close (tie.spec
+    (λ c κs. search needs) text-of-requires (λ c. search needs) returns)

@@ -3,24 +3,6 @@ use borrow.Author.Needs.{needs}
 use Rattle.gates.proofs.Kind.takes.Statement.{statement}
 use Rattle.gates.proofs.Kind.takes.Tie as tie
 
-enum-told : tie.Need-enum-told
-enum-told c = search needs
-
-enum-told-2 : tie.Need-enum-told-2
-enum-told-2 c = search needs
-
-enum-told-3 : tie.Need-enum-told-3
-enum-told-3 c = search needs
-
-enum-told-4 : tie.Need-enum-told-4
-enum-told-4 c = search needs
-
-enum-told-5 : tie.Need-enum-told-5
-enum-told-5 c = search needs
-
-enum-told-6 : tie.Need-enum-told-6
-enum-told-6 c = search needs
-
 returns : tie.Need-returns
 returns c = search (takes-binary, takes-ternary, takes-nary, takes-buf, takes-dff)
 
@@ -36,22 +18,9 @@ returns-4 c = search (takes-binary, takes-ternary, takes-nary, takes-buf, takes-
 returns-5 : tie.Need-returns-5
 returns-5 c = search (takes-binary, takes-ternary, takes-nary, takes-buf, takes-dff)
 
-returns-6 : tie.Need-returns-6
-returns-6 c = search needs
-
 pub takes-spec : {M : Type 1} → statement M
 takes-spec =
     tie.close
     (tie.spec
-    enum-told
-    enum-told-2
-    enum-told-3
-    enum-told-4
-    enum-told-5
-    enum-told-6
-    returns
-    returns-2
-    returns-3
-    returns-4
-    returns-5
-    returns-6)
+    (λ c. search needs) (λ c. search needs) (λ c. search needs) (λ c. search needs) (λ c. search needs)
+    (λ c. search needs) returns returns-2 returns-3 returns-4 returns-5 (λ c. search needs))

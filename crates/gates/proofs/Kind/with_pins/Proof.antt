@@ -5,17 +5,12 @@ use borrow.Author.Needs.{needs}
 use Rattle.gates.proofs.Kind.with_pins.Statement.{statement}
 use Rattle.gates.proofs.Kind.with_pins.Tie as tie
 
-takes-requires : tie.Need-takes-requires
-takes-requires c κs = search needs
-
 returns : tie.Need-returns
 returns c = with-none _ _ _ (sym (c .before .takes .ensures) ∙ not-true _ (c .if1 .taken))
-
-gate-of-requires : tie.Need-gate-of-requires
-gate-of-requires c κs = search needs
 
 returns-2 : tie.Need-returns-2
 returns-2 c = c .gate-of .ensures ∙ with-some _ _ _ (sym (c .before .before .takes .ensures) ∙ not-false _ (c .before .if1 .left))
 
 pub with-pins-spec : {M : Type 1} → statement M
-with-pins-spec = tie.close (tie.spec takes-requires returns gate-of-requires returns-2)
+with-pins-spec = tie.close (tie.spec
+    (λ c κs. search needs) returns (λ c κs. search needs) returns-2)

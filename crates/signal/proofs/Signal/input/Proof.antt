@@ -7,12 +7,10 @@ use borrow.Author.Needs.{needs}
 use Rattle.signal.proofs.Signal.input.Statement.{statement}
 use Rattle.signal.proofs.Signal.input.Tie as tie
 
-ind-requires : tie.Need-ind-requires
-ind-requires c κs = search needs
-
 returns : tie.Need-returns
 returns c =
     ap (λ (x : ℕ). bitAnd (2 ^ 32 - 1 - x) 2147483647) (c .ind .ensures) ∙ masked-input (c .before .args .self .a) (omega arith)
 
 pub input-spec : {M : Type 1} → statement M
-input-spec = tie.close (tie.spec ind-requires returns)
+input-spec = tie.close (tie.spec
+    (λ c κs. search needs) returns)

@@ -6,11 +6,9 @@ use borrow.Author.Needs.{needs}
 use Rattle.signal.proofs.Signal.is_constant.Statement.{statement}
 use Rattle.signal.proofs.Signal.is_constant.Tie as tie
 
-ind-requires : tie.Need-ind-requires
-ind-requires c κs = search needs
-
 returns : tie.Need-returns
 returns c = ap (λ (x : ℕ). eqb x 0) (c .ind .ensures) ∙ const-test (c .before .args .self .a)
 
 pub is-constant-spec : {M : Type 1} → statement M
-is-constant-spec = tie.close (tie.spec ind-requires returns)
+is-constant-spec = tie.close (tie.spec
+    (λ c κs. search needs) returns)

@@ -8,32 +8,11 @@ use Rattle.signal.proofs.Remap.{remap-other, remap-past, remap-gate}
 use Rattle.signal.proofs.Signal.remap_order.Statement.{statement}
 use Rattle.signal.proofs.Signal.remap_order.Tie as tie
 
-is-var-requires : tie.Need-is-var-requires
-is-var-requires c κs = search needs
-
 returns : tie.Need-returns
 returns c = remap-other _ _ (sym (c .before .is-var .ensures) ∙ not-true _ (c .if1 .taken))
 
-var-requires : tie.Need-var-requires
-var-requires c κs = search needs
-
-cast-v : tie.Need-cast-v
-cast-v c = search needs
-
 returns-2 : tie.Need-returns-2
 returns-2 c = remap-past _ _ (rw (sym (c .before .var .ensures)) (c .if2 .taken))
-
-mul-t8 : tie.Need-mul-t8
-mul-t8 c = search needs
-
-shared-slice-read-t7 : tie.Need-shared-slice-read-t7
-shared-slice-read-t7 c = search needs
-
-is-inverted-requires : tie.Need-is-inverted-requires
-is-inverted-requires c κs = search needs
-
-xor-requires : tie.Need-xor-requires
-xor-requires c κs = search needs
 
 returns-3 : tie.Need-returns-3
 returns-3 c =
@@ -46,13 +25,5 @@ pub remap-order-spec : {M : Type 1} → statement M
 remap-order-spec =
     tie.close
     (tie.spec
-    is-var-requires
-    returns
-    var-requires
-    cast-v
-    returns-2
-    mul-t8
-    shared-slice-read-t7
-    is-inverted-requires
-    xor-requires
-    returns-3)
+    (λ c κs. search needs) returns (λ c κs. search needs) (λ c. search needs) returns-2 (λ c. search needs)
+    (λ c. search needs) (λ c κs. search needs) (λ c κs. search needs) returns-3)

@@ -4,11 +4,9 @@ use borrow.Author.Needs.{needs}
 use Rattle.signal.proofs.Signal.xor.Statement.{statement}
 use Rattle.signal.proofs.Signal.xor.Tie as tie
 
-cast-t3 : tie.Need-cast-t3
-cast-t3 c = search needs
-
 returns : tie.Need-returns
 returns c = xor-cell (c .before .args .b) (c .before .args .self .a) (omega arith)
 
 pub xor-spec : {M : Type 1} → statement M
-xor-spec = tie.close (tie.spec cast-t3 returns)
+xor-spec = tie.close (tie.spec
+    (λ c. search needs) returns)
