@@ -56,11 +56,11 @@ fn write_literal(column: u8, source: u32, pins: &mut [u32], at: usize) -> usize
     requires { ⌜ at < length (now pins) ⌝ }
     ensures { λ r. ⌜ (now (pins .exit) ≡ overwriteAt at (columnCells column source) (now (pins .entry))) × (r ≡ length (columnCells column source)) ⌝ }
 {
-    if column == 48 {
+    if column == b'0' {
         pins[at] = Signal { a: source }.not().raw();
         return 1;
     }
-    if column == 49 {
+    if column == b'1' {
         pins[at] = source;
         return 1;
     }

@@ -95,7 +95,7 @@ fn ends_word(c: u8) -> bool
     if c == b' ' {
         return true;
     }
-    if c == 10 {
+    if c == b'\n' {
         return true;
     }
     if c == b'#' {
@@ -170,7 +170,7 @@ fn line_end(text: &[u8], at: usize) -> usize
 {
     let mut i = skip_blocks(text, at);
     while i < text.len() {
-        if text[i] == 10 {
+        if text[i] == b'\n' {
             return i;
         }
         i += 1;
@@ -199,7 +199,7 @@ fn line_stop(text: &[u8], stop: usize) -> usize
         return stop;
     }
     let byte = text[stop];
-    if byte == 10 {
+    if byte == b'\n' {
         return stop + 1;
     }
     let lf = stop + 1;
@@ -306,7 +306,7 @@ fn mark_step(text: &[u8], cells: &mut [u32], w: Marks) -> Marks
             fresh: true,
         };
     }
-    if c == 10 {
+    if c == b'\n' {
         return Marks {
             at: at + 1,
             count: w.count,
