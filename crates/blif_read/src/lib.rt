@@ -233,7 +233,7 @@ fn read_names(
     ensures { λ r. ⌜ Holds (readText (now (text .entry))) r (now (gates .exit)) (now (pins .exit)) (now (outputs .exit)) ⌝ }
 {
     let mut index = [0u32; 6144];
-    let defined = build_name_to_sig(text, pins, n, &mut index, work_pins, gates);
+    let defined = build_name_to_sig(text, &pins[..n], &mut index, work_pins, gates);
     match defined {
         Defined::Refused(r) => ReadAnswer::Refused(r),
         Defined::Names(d) => read_outputs(
@@ -268,7 +268,7 @@ fn read_tokens(
     if let Checked::Refused(r) = bad {
         return ReadAnswer::Refused(r);
     }
-    if too_large(text, pins, n) {
+    if too_large(text, &pins[..n]) {
         return ReadAnswer::Refused(Refusal::SizePassed);
     }
     read_names(text, n, gates, pins, outputs, work_gates, work_pins)

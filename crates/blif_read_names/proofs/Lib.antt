@@ -5,3 +5,4 @@ pub mod Defining
 pub mod DefiningGates
 pub mod Walking
 pub mod EntryLaws
+pub mod FrontTables

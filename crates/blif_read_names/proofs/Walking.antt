@@ -1,4 +1,4 @@
--- The walk that enters names: what each statement asks for, the walk's start and its end. Assumes nothing.
+-- The walk that enters names: what each declaration asks for, the walk's start and its end. Assumes nothing.
 use mathlib.Core.Path.{_≡_, refl, sym, ap, _∙_, subst}
 use mathlib.Core.Bool.{Bool, false}
 use mathlib.Core.List.{List, [], _∷_, flatMap, append-nil}
@@ -9,37 +9,31 @@ use Rattle.lists.specs.Lists.{Bytes, zeros}
 use Rattle.refusals.specs.declared.Refusal.{Refusal}
 use Rattle.refusals.specs.declared.Checked.the-variants.{Fine, Refused}
 use Rattle.network.specs.Sizes.{maxGates, maxOutputs}
-use Rattle.blif_text.specs.Decls.{Def, cover, Decl, gate, cubes, decls, ins, outs, defs}
+use Rattle.blif_text.specs.Decls.{Def, Decl, gate, decls, ins, outs, defs}
 use Rattle.blif_text.specs.Places.{maxTokens, tokensOf}
 use Rattle.blif_text.specs.Walk.{stmtsFrom, StmtsAt}
 use Rattle.blif_text.specs.Blocks.{blockWidth, defsAt}
+use Rattle.blif_text.specs.declared.Block.{Block}
 use Rattle.blif_text.specs.declared.Run.{Run}
-use Rattle.blif_text.specs.declared.Statement.the-variants as place
 use Rattle.blif_text.proofs.RowWalk.{inside-less}
-use Rattle.blif_text.proofs.RefusalLaws.{stmts-end}
+use Rattle.blif_declarations.specs.Declarations.{NextIs}
+use Rattle.blif_declarations.specs.declared.Declaration.the-variants as next
+use Rattle.blif_declarations.proofs.RowStarts.{names-length}
+use Rattle.blif_declarations.proofs.NextLaws.{decls-end}
 use Rattle.name_index.specs.Index.{indexCells, entriesOf, Index}
 use Rattle.name_index.proofs.IndexLaws.{index-empty}
 use Rattle.blif_reading.specs.Read.{tooLarge, naming}
-use Rattle.blif_read_sizes.specs.Rows.{names, RowIs}
-use Rattle.blif_read_names.specs.Naming.{namesIn, InputsFit, CoverFits, LatchFits, TablesTo, NamingSoFar, Steps, stops, goes}
+use Rattle.blif_read_names.specs.Naming.{namesIn, InputsFit, CoverFits, walkAt, LatchFits, TablesTo, NamingSoFar, Steps, stops, goes}
 use Rattle.blif_read_names.specs.Tables.{Tables, DefinedBy}
 use Rattle.blif_read_names.specs.declared.Walk.{Walk}
 use Rattle.blif_read_names.specs.declared.Step.the-variants as step
 use Rattle.blif_read_names.specs.declared.Defined.the-variants as defined
-use Rattle.blif_read_sizes.proofs.RowStarts.{names-length}
 use Rattle.blif_reading.proofs.SizeLimits.{sizes-within}
-use Rattle.blif_read_sizes.proofs.Counting.{no-decls}
 use Rattle.blif_read_names.proofs.Tabling.{inputs-few, outputs-few, gate-few}
-use Rattle.blif_read_names.proofs.Defining.{inputs-decls, outputs-decls, latch-decls, tabled-as}
+use Rattle.blif_read_names.proofs.Defining.{tabled-as}
 use Rattle.blif_read_names.proofs.DefiningGates.{defs-few}
 
--- ---- what each statement asks for
-
--- a cover declares a gate
-names-decls : {text tokens : List ℕ} {n at r : ℕ} {run : Run} → RowIs text tokens n at r (place.Names run)
-    → decls (stmtsFrom text tokens n at) ≡ gate (cover (names text tokens at r) (cubes (stmtsFrom text tokens n r))) ∷ decls (stmtsFrom text tokens n r)
-unfolding decls
-names-decls w = ap decls (w .starts)
+-- ---- what each declaration asks for
 
 module _ {text tokens : List ℕ} {n : ℕ} {index out blocks : List ℕ} {v : Walk} (c : NamingSoFar text tokens n index out blocks v) where
   -- "256 inputs", "1,024 gates"
@@ -54,62 +48,67 @@ module _ {text tokens : List ℕ} {n : ℕ} {index out blocks : List ℕ} {v : W
       let s = sizes-within (decls (stmtsFrom text tokens n 0)) (c .small) in
       omega (arith, gate-few (tabled-as c e), defs-few (defs (decls (stmtsFrom text tokens n 0))), s .gates)
 
-  module _ {r : ℕ} where
-    pub inputs-fit : {run : Run} → RowIs text tokens n (v .at) r (place.Inputs run) → InputsFit text tokens (v .at + 1) r index (v .inputs) (v .gates)
-    inputs-fit w =
+  module _ {behind : ℕ} where
+    pub inputs-fit : {run : Run} → NextIs text tokens n (v .at) (next.Inputs run) behind
+        → InputsFit text tokens (run .first) (run .first + run .count) index (v .inputs) (v .gates)
+    inputs-fit {run} x =
         let s = sizes-within (decls (stmtsFrom text tokens n 0)) (c .small) in
         record {
           index-is = c .tabled .index-is;
-          places = inside-less (w .rest .rows .high) (w .rest .rows .places);
-          low = omega (arith, w .low);
-          inputs = omega (arith, inputs-few (tabled-as c (inputs-decls w)), names-length w, s .inputs);
+          places = inside-less (x .places) (x .rest .rows .places);
+          low = omega arith;
+          inputs = omega (arith, inputs-few (tabled-as c (x .are)), names-length text tokens run (omega (arith, x .places, x .rest .rows .places .room)), s .inputs);
           gates = few-names .1;
         }
 
     -- "256 outputs"
-    pub outputs-small : {run : Run} → RowIs text tokens n (v .at) r (place.Outputs run) → v .outputs + (r - v .at - 1) ≤ 256
-    outputs-small w = omega (arith, outputs-few (tabled-as c (outputs-decls w)), names-length w, sizes-within (decls (stmtsFrom text tokens n 0)) (c .small) .outputs)
+    pub outputs-small : {run : Run} → NextIs text tokens n (v .at) (next.Outputs run) behind → v .outputs + run .count ≤ 256
+    outputs-small {run} x =
+        omega (
+          arith,
+          outputs-few (tabled-as c (x .are)),
+          names-length text tokens run (omega (arith, x .places, x .rest .rows .places .room)),
+          sizes-within (decls (stmtsFrom text tokens n 0)) (c .small) .outputs,
+        )
 
-    pub outputs-fit : {run : Run} → RowIs text tokens n (v .at) r (place.Outputs run)
-        → (v .at + 1 ≤ r) × (r ≤ length tokens) × (v .outputs + (r - (v .at + 1)) ≤ length out)
-    outputs-fit w = (
-      omega (arith, w .low),
-      omega (arith, w .rest .rows .high, w .rest .rows .places .room),
-      omega (arith, outputs-small w, c .outputs-room),
-    )
+    pub outputs-fit : {run : Run} → NextIs text tokens n (v .at) (next.Outputs run) behind
+        → (run .first ≤ run .first + run .count) × (run .first + run .count ≤ length tokens) × (v .outputs + (run .first + run .count - run .first) ≤ length out)
+    outputs-fit x = (omega arith, omega (arith, x .places, x .rest .rows .places .room), omega (arith, outputs-small x, c .outputs-room))
 
-    pub latch-fit : {first : ℕ} → RowIs text tokens n (v .at) r (place.Latch first) → LatchFits text tokens index blocks v
-    latch-fit w =
-        let h : v .at + 2 < n = omega (arith, w .starts .1, w .rest .rows .high) in
+    pub latch-fit : {first : ℕ} → NextIs text tokens n (v .at) (next.Latch first) behind → LatchFits text tokens index blocks (walkAt v behind) first
+    latch-fit {first} x =
         record {
-          there = omega (arith, w .rest .rows .places .room);
+          there = omega (arith, x .places, x .rest .rows .places .room);
           gate =
               record {
                 index-is = c .tabled .index-is;
-                inside = w .rest .rows .places .inside (v .at + 2) h;
+                inside = x .rest .rows .places .inside (first + 1) (omega (arith, x .places));
                 inputs = few-names .0;
-                gates = one-more (latch-decls w);
+                gates = one-more (x .are);
                 room = c .blocks-room;
-                first = omega (arith, c .few);
+                first = omega (arith, x .places, c .few);
                 names = omega arith;
                 lines = omega arith;
               };
         }
 
-    pub cover-fit : {run : Run} → RowIs text tokens n (v .at) r (place.Names run) → CoverFits text tokens index (v .inputs) (v .gates) (v .at + 1) (r - v .at - 1) blocks
-    cover-fit w =
-        record {
-          index-is = c .tabled .index-is;
-          places = inside-less (omega (arith, w .low, w .rest .rows .high)) (w .rest .rows .places);
-          inputs = few-names .0;
-          gates = one-more (names-decls w);
-          room = c .blocks-room;
-          few = omega (arith, w .low, w .rest .rows .high, c .few);
-        }
+    pub cover-fit : {block : Block} → NextIs text tokens n (v .at) (next.Cover block) behind
+        → CoverFits text tokens index (v .inputs) (v .gates) (block .first) (block .names) blocks × (block .lines ≤ maxTokens)
+    cover-fit x = (
+      record {
+        index-is = c .tabled .index-is;
+        places = inside-less (x .places .few) (x .rest .rows .places);
+        inputs = few-names .0;
+        gates = one-more (x .are);
+        room = c .blocks-room;
+        few = omega (arith, x .places .few, c .few);
+      },
+      omega (arith, x .places .short, c .few),
+    )
 
 -- ---- start and end
 
--- before the first statement
+-- before the first declaration
 pub going-start : {text tokens : List ℕ} {n : ℕ} {index out blocks : List ℕ} → StmtsAt text tokens n 0 → n ≤ maxTokens
     → tooLarge (decls (stmtsFrom text tokens n 0)) ≡ false → index ≡ zeros indexCells → maxOutputs ≤ length out → maxGates * blockWidth ≤ length blocks
     → NamingSoFar text tokens n index out blocks (record { at = 0; seen = false; inputs = 0; gates = 0; outputs = 0 })
@@ -135,12 +134,12 @@ going-start {text} {tokens} {n} {index} {out} {blocks} c h s e o b =
           };
     }
 
--- the walk behind a statement
+-- the walk behind a declaration
 pub going-next : {text tokens : List ℕ} {n : ℕ} {index out blocks : List ℕ} {v w : Walk} → Steps text tokens n index out blocks v (step.Next w)
     → (v .at < w .at) × NamingSoFar text tokens n index out blocks w
 going-next (goes h g) = (h, g)
 
--- the refusal of a statement
+-- the refusal of a declaration
 pub going-stop : {text tokens : List ℕ} {n : ℕ} {index out blocks : List ℕ} {v : Walk} {r : Refusal} → Steps text tokens n index out blocks v (step.Refused r)
     → naming false [] (decls (stmtsFrom text tokens n 0)) ≡ Refused r
 going-stop (stops e) = e
@@ -170,10 +169,10 @@ tables-all {ds} {text} {tokens} {n} {index} {out} {blocks} {i} {g} {o} t =
       outputs-in = t .outputs-in;
     }
 
--- behind the last statement
+-- behind the last declaration
 pub going-done : {text tokens : List ℕ} {n : ℕ} {index out blocks : List ℕ} {w : Walk} → NamingSoFar text tokens n index out blocks w → n ≤ w .at
     → DefinedBy (decls (stmtsFrom text tokens n 0)) text tokens n index out blocks
     (defined.Names (record { inputs = w .inputs; gates = w .gates; outputs = w .outputs }))
 going-done {text} {tokens} {n} {index} {out} {blocks} {w} c h =
-    let e : decls (stmtsFrom text tokens n (w .at)) ≡ [] = ap decls (stmts-end (c .rest) h) ∙ no-decls in
+    let e : decls (stmtsFrom text tokens n (w .at)) ≡ [] = decls-end (c .rest) h in
     (c .left ∙ naming-none e (w .seen) (namesIn text index (w .inputs + w .gates)), tables-all (tabled-as c e))

@@ -23,7 +23,6 @@ use Rattle.blif_text.specs.declared.Block.{Block}
 use Rattle.name_index.specs.Search.{Entry, entry}
 use Rattle.name_index.specs.Index.{entriesOf, Index}
 use Rattle.blif_reading.specs.Read.{tooLarge, definedTwice, naming}
-use Rattle.blif_read_sizes.specs.Rows.{LinesAt}
 use Rattle.blif_read_names.specs.Entries.{inputEntries, entries}
 use Rattle.blif_read_names.specs.declared.Walk.{Walk}
 use Rattle.blif_read_names.specs.declared.Step.{Step}
@@ -108,53 +107,47 @@ pub record CoverDefined (text tokens index : List ℕ) (i g : ℕ) (block : Bloc
   pub last : (block .names ≡ 0 → ⊥)
       → GateDefined text index i g (tokenOf text (getD tokens (block .first + block .names - 1) 0)) block blocks index′ blocks′ r
 
--- the block of the latch at a place
+-- the block of a latch by its first name
 abbrev pub latchBlock : ℕ → Block
-latchBlock at = record { first = at + 1; names = 0; lines = 0 }
+latchBlock first = record { first = first; names = 0; lines = 0 }
 
--- the block of the cover from at to end
-abbrev pub coverBlock : ℕ → ℕ → ℕ → Block
-coverBlock at end lines = record { first = at + 1; names = end - at - 1; lines = lines }
+-- the walk at another place
+abbrev pub walkAt : Walk → ℕ → Walk
+walkAt w at = record { at = at; seen = w .seen; inputs = w .inputs; gates = w .gates; outputs = w .outputs }
 
 -- the walk behind a gate
-abbrev pub gateWalk : Walk → ℕ → Walk
-gateWalk w at = record { at = at; seen = w .seen; inputs = w .inputs; gates = w .gates + 1; outputs = w .outputs }
+abbrev pub gateWalk : Walk → Walk
+gateWalk w = record { at = w .at; seen = w .seen; inputs = w .inputs; gates = w .gates + 1; outputs = w .outputs }
 
 -- the walk goes on where nothing is refused
 abbrev pub stepOf : Checked → Walk → Step
 stepOf Fine w = step.Next w
 stepOf (Refused r) w = step.Refused r
 
--- a latch stands at the walk's place
-pub record LatchFits (text tokens index blocks : List ℕ) (w : Walk) : Type 0 where
+-- gate g can be defined by a latch
+pub record LatchFits (text tokens index blocks : List ℕ) (w : Walk) (first : ℕ) : Type 0 where
   -- its second name is there
-  pub there : w .at + 2 < length tokens
+  pub there : first + 1 < length tokens
   -- and can define a gate
-  pub gate : GateFits text index (w .inputs) (w .gates) (getD tokens (w .at + 2) 0) (latchBlock (w .at)) blocks
+  pub gate : GateFits text index (w .inputs) (w .gates) (getD tokens (first + 1) 0) (latchBlock first) blocks
 
 -- a latch is passed
-pub record LatchStep (text tokens index blocks index′ blocks′ : List ℕ) (w : Walk) (end : ℕ) (s : Step) : Type 0 where
+pub record LatchStep (text tokens index blocks index′ blocks′ : List ℕ) (w : Walk) (first : ℕ) (s : Step) : Type 0 where
   -- its refusal, if it has one
   pub checked : Checked
   -- else the walk goes on behind it
-  pub walk : s ≡ stepOf checked (gateWalk w end)
+  pub walk : s ≡ stepOf checked (gateWalk w)
   -- its second name defines a gate
-  pub gate : GateDefined text index (w .inputs) (w .gates) (tokenOf text (getD tokens (w .at + 2) 0)) (latchBlock (w .at)) blocks index′ blocks′ checked
+  pub gate : GateDefined text index (w .inputs) (w .gates) (tokenOf text (getD tokens (first + 1) 0)) (latchBlock first) blocks index′ blocks′ checked
 
 -- a cover and its lines are passed
-pub record CoverStep (text tokens : List ℕ) (n : ℕ) (index blocks index′ blocks′ : List ℕ) (w : Walk) (end : ℕ) (s : Step) : Type 0 where
-  -- how many lines
-  pub count : ℕ
-  -- the place behind them
-  pub behind : ℕ
-  -- the lines
-  pub lines : LinesAt text tokens n end count behind
+pub record CoverStep (text tokens index blocks index′ blocks′ : List ℕ) (w : Walk) (block : Block) (s : Step) : Type 0 where
   -- its refusal, if it has one
   pub checked : Checked
   -- else the walk goes on behind the lines
-  pub walk : s ≡ stepOf checked (gateWalk w behind)
+  pub walk : s ≡ stepOf checked (gateWalk w)
   -- its last name defines a gate
-  pub cover : CoverDefined text tokens index (w .inputs) (w .gates) (coverBlock (w .at) end count) blocks index′ blocks′ checked
+  pub cover : CoverDefined text tokens index (w .inputs) (w .gates) block blocks index′ blocks′ checked
 
 -- the tables so far: those of the declarations ds before `left`, with i inputs, g gates and o outputs
 pub record TablesTo (ds left : List Decl) (text tokens : List ℕ) (n : ℕ) (index outNames blocks : List ℕ) (i g o : ℕ) : Type 0 where
@@ -194,7 +187,7 @@ pub record NamingSoFar (text tokens : List ℕ) (n : ℕ) (index outNames blocks
   -- the tables so far
   pub tabled : TablesTo (decls (stmtsFrom text tokens n 0)) (decls (stmtsFrom text tokens n (w .at))) text tokens n index outNames blocks (w .inputs) (w .gates) (w .outputs)
 
--- a statement or more is passed
+-- a declaration is passed
 pub data Steps (text tokens : List ℕ) (n : ℕ) (index outNames blocks : List ℕ) (v : Walk) : Step → Type 0 where
   -- the first refusal counts
   stops : {r : Refusal} → naming false [] (decls (stmtsFrom text tokens n 0)) ≡ Refused r → Steps text tokens n index outNames blocks v (step.Refused r)

@@ -1,9 +1,9 @@
 // The declarations of a text: names (refusals 7 to 10), and the tables that building starts from
 // (Quaigh's src/io/blif.rs: build_name_to_sig).
-use blif_read_sizes::cover_lines;
-use blif_read_sizes::row_at;
+use blif_declarations::Declaration;
+use blif_declarations::Next;
+use blif_declarations::next_declaration;
 use blif_text::Block;
-use blif_text::Statement;
 use blif_text::put_block;
 use name_index::enter_name;
 use refusals::Checked;
@@ -22,6 +22,7 @@ ghost use Rattle.blif_text.specs.Decls.{decls};
 ghost use Rattle.blif_text.specs.Places.{maxTokens, tokenOf};
 ghost use Rattle.blif_text.specs.Walk.{stmtsFrom, StmtsAt};
 ghost use Rattle.blif_text.specs.Blocks.{blockWidth};
+ghost use Rattle.blif_declarations.specs.Declarations.{NextIs};
 ghost use Rattle.name_index.specs.Index.{indexCells};
 ghost use Rattle.blif_reading.specs.Read.{tooLarge};
 ghost use Rattle.blif_read_names.specs.Naming.{InputsFit, InputsEntered, GateFits, GateDefined, CoverFits, CoverDefined, stepOf, LatchFits, LatchStep, CoverStep, NamingSoFar, Steps};
@@ -40,8 +41,8 @@ pub enum Defined {
     Refused(Refusal),
 }
 
-// A walk that enters names: its place, whether there was a `.model`, and how many inputs, gates and outputs the statements before the
-// place declare.
+// A walk that enters names: its place, whether there was a `.model`, and how many inputs, gates and outputs are declared before the
+// place.
 struct Walk {
     at: usize,
     seen: bool,
@@ -50,7 +51,7 @@ struct Walk {
     outputs: usize,
 }
 
-// The walk behind a statement, or the statement's refusal.
+// The walk behind a declaration, or the declaration's refusal.
 enum Step {
     Next(Walk),
     Refused(Refusal),
@@ -147,102 +148,86 @@ fn define_last(
     define_gate(text, index, blocks, inputs, gates, tokens[last], block)
 }
 
-// Passes the `.latch` from the walk's place to end: its second name defines a gate.
+// Defines a latch's gate by its second name, which stands behind the first.
 fn define_latch(
     text: &[u8],
     tokens: &[u32],
     index: &mut [u32],
     blocks: &mut [u32],
     w: Walk,
-    end: usize,
+    first: usize,
 ) -> Step
-    requires { ⌜ LatchFits (now text) (now tokens) (now index) (now blocks) w ⌝ }
-    ensures { λ r. ⌜ LatchStep (now (text .entry)) (now (tokens .entry)) (now (index .entry)) (now (blocks .entry)) (now (index .exit)) (now (blocks .exit)) w end r ⌝ }
+    requires { ⌜ LatchFits (now text) (now tokens) (now index) (now blocks) w first ⌝ }
+    ensures { λ r. ⌜ LatchStep (now (text .entry)) (now (tokens .entry)) (now (index .entry)) (now (blocks .entry)) (now (index .exit)) (now (blocks .exit)) w first r ⌝ }
 {
-    let at = w.at;
     let block = Block {
-        first: at + 1,
+        first,
         names: 0,
         lines: 0,
     };
-    let name = tokens[at + 2];
+    let name = tokens[first + 1];
     let mut next = w;
-    next.at = end;
     next.gates += 1;
     let checked = define_gate(text, index, blocks, w.inputs, w.gates, name, block);
     step_of(checked, next)
 }
 
-// Passes the `.names` from the walk's place to end, and its cube lines: its last name defines a gate.
+// Defines a cover's gate by its last name.
 fn define_cover(
     text: &[u8],
     tokens: &[u32],
-    n: usize,
     index: &mut [u32],
     blocks: &mut [u32],
     w: Walk,
-    end: usize,
+    block: Block,
 ) -> Step
-    requires { ⌜ CoverFits (now text) (now tokens) (now index) (w .inputs) (w .gates) (w .at + 1) (end - w .at - 1) (now blocks) ⌝ }
-    requires { ⌜ StmtsAt (now text) (now tokens) n end × (n ≤ maxTokens) × (w .at < end) ⌝ }
-    ensures { λ r. ⌜ CoverStep (now (text .entry)) (now (tokens .entry)) n (now (index .entry)) (now (blocks .entry)) (now (index .exit)) (now (blocks .exit)) w end r ⌝ }
+    requires { ⌜ CoverFits (now text) (now tokens) (now index) (w .inputs) (w .gates) (block .first) (block .names) (now blocks) × (block .lines ≤ maxTokens) ⌝ }
+    ensures { λ r. ⌜ CoverStep (now (text .entry)) (now (tokens .entry)) (now (index .entry)) (now (blocks .entry)) (now (index .exit)) (now (blocks .exit)) w block r ⌝ }
 {
-    let at = w.at;
-    let lines = cover_lines(text, tokens, n, end);
-    let block = Block {
-        first: at + 1,
-        names: end - at - 1,
-        lines: lines.count,
-    };
     let mut next = w;
-    next.at = lines.end;
     next.gates += 1;
     let checked = define_last(text, tokens, index, blocks, w.inputs, w.gates, block);
     step_of(checked, next)
 }
 
-// Passes a statement, and a cover's lines: enters the names that it defines, or copies those of outputs.
-fn define_row(
+// Passes the next declaration: enters the names that it defines, or copies those of outputs.
+fn define_declaration(
     text: &[u8],
     tokens: &[u32],
-    n: usize,
     index: &mut [u32],
     out_names: &mut [u32],
     blocks: &mut [u32],
     w: Walk,
+    next: Next,
 ) -> Step
-    requires { ⌜ NamingSoFar (now text) (now tokens) n (now index) (now «out_names») (now blocks) w × (w .at < n) ⌝ }
-    ensures { λ r. ⌜ Steps (now (text .entry)) (now (tokens .entry)) n (now (index .exit)) (now («out_names» .exit)) (now (blocks .exit)) w r ⌝ }
+    requires { ⌜ NamingSoFar (now text) (now tokens) (length (now tokens)) (now index) (now «out_names») (now blocks) w × (w .at < length (now tokens)) ⌝ }
+    requires { ⌜ NextIs (now text) (now tokens) (length (now tokens)) (w .at) (next .declaration) (next .at) ⌝ }
+    ensures { λ r. ⌜ Steps (now (text .entry)) (now (tokens .entry)) (length (now (tokens .entry))) (now (index .exit)) (now («out_names» .exit)) (now (blocks .exit)) w r ⌝ }
 {
-    let row = row_at(text, tokens, n, w.at);
-    let end = row.end;
-    let statement = row.statement;
-    let mut next = w;
-    next.at = end;
-    match statement {
-        Statement::Model => {
-            next.seen = true;
-            step_of(refuse_if(w.seen, Refusal::SecondModel), next)
+    let declaration = next.declaration;
+    let mut after = w;
+    after.at = next.at;
+    match declaration {
+        Declaration::Model => {
+            after.seen = true;
+            step_of(refuse_if(w.seen, Refusal::SecondModel), after)
         }
-        Statement::End => step_of(refuse_if(!w.seen, Refusal::EndBeforeModel), next),
-        Statement::Inputs(_) => {
-            next.inputs += end - w.at - 1;
-            let checked = enter_inputs(text, tokens, w.at + 1, end, index, w.inputs, w.gates);
-            step_of(checked, next)
+        Declaration::End => step_of(refuse_if(!w.seen, Refusal::EndBeforeModel), after),
+        Declaration::Inputs(run) => {
+            let end = run.first + run.count;
+            after.inputs += run.count;
+            let checked = enter_inputs(text, tokens, run.first, end, index, w.inputs, w.gates);
+            step_of(checked, after)
         }
-        Statement::Outputs(_) => {
-            next.outputs += end - w.at - 1;
-            copy_outputs(tokens, w.at + 1, end, out_names, w.outputs);
-            Step::Next(next)
+        Declaration::Outputs(run) => {
+            let end = run.first + run.count;
+            after.outputs += run.count;
+            copy_outputs(tokens, run.first, end, out_names, w.outputs);
+            Step::Next(after)
         }
-        Statement::Latch(_) => define_latch(text, tokens, index, blocks, w, end),
-        Statement::Names(_) => define_cover(text, tokens, n, index, blocks, w, end),
-        Statement::Exdc => {
-            next.at = n;
-            Step::Next(next)
-        }
-        Statement::Cube(_) => Step::Next(next),
-        Statement::Refused(_) => Step::Next(next),
+        Declaration::Latch(first) => define_latch(text, tokens, index, blocks, after, first),
+        Declaration::Cover(block) => define_cover(text, tokens, index, blocks, after, block),
+        Declaration::None => Step::Next(after),
     }
 }
 
@@ -250,15 +235,14 @@ fn define_row(
 pub fn build_name_to_sig(
     text: &[u8],
     tokens: &[u32],
-    n: usize,
     index: &mut [u32],
     out_names: &mut [u32],
     blocks: &mut [u32],
 ) -> Defined
-    requires { ⌜ StmtsAt (now text) (now tokens) n 0 × (n ≤ maxTokens) ⌝ }
-    requires { ⌜ tooLarge (decls (stmtsFrom (now text) (now tokens) n 0)) ≡ false ⌝ }
+    requires { ⌜ StmtsAt (now text) (now tokens) (length (now tokens)) 0 × (length (now tokens) ≤ maxTokens) ⌝ }
+    requires { ⌜ tooLarge (decls (stmtsFrom (now text) (now tokens) (length (now tokens)) 0)) ≡ false ⌝ }
     requires { ⌜ (now index ≡ zeros indexCells) × (maxOutputs ≤ length (now «out_names»)) × (maxGates * blockWidth ≤ length (now blocks)) ⌝ }
-    ensures { λ r. ⌜ DefinedBy (decls (stmtsFrom (now (text .entry)) (now (tokens .entry)) n 0)) (now (text .entry)) (now (tokens .entry)) n (now (index .exit)) (now («out_names» .exit)) (now (blocks .exit)) r ⌝ }
+    ensures { λ r. ⌜ DefinedBy (decls (stmtsFrom (now (text .entry)) (now (tokens .entry)) (length (now (tokens .entry))) 0)) (now (text .entry)) (now (tokens .entry)) (length (now (tokens .entry))) (now (index .exit)) (now («out_names» .exit)) (now (blocks .exit)) r ⌝ }
 {
     let mut w = Walk {
         at: 0,
@@ -267,10 +251,11 @@ pub fn build_name_to_sig(
         gates: 0,
         outputs: 0,
     };
-    while w.at < n {
-        let step = define_row(text, tokens, n, index, out_names, blocks, w);
+    while w.at < tokens.len() {
+        let next = next_declaration(text, tokens, w.at);
+        let step = define_declaration(text, tokens, index, out_names, blocks, w, next);
         match step {
-            Step::Next(next) => w = next,
+            Step::Next(after) => w = after,
             Step::Refused(r) => return Defined::Refused(r),
         }
     }

@@ -1,5 +1,5 @@
 -- Sizes of a whole text, counted until one is passed. Assumes nothing.
-use mathlib.Core.Path.{_≡_, refl, sym, ap, _∙_, subst}
+use mathlib.Core.Path.{_≡_, sym, subst}
 use mathlib.Core.Bool.{true, false}
 use mathlib.Core.List.{List, [], flatMap}
 use Prim.Native.Nat.{ℕ, _≤_}
@@ -11,11 +11,14 @@ use Rattle.network.specs.Sizes.{WithinSizes}
 use Rattle.blif_text.specs.Decls.{Decl, decls, ins, outs, defs}
 use Rattle.blif_text.specs.Places.{maxTokens}
 use Rattle.blif_text.specs.Walk.{stmtsFrom, StmtsAt}
-use Rattle.blif_text.proofs.RefusalLaws.{stmts-end}
+use Rattle.blif_declarations.specs.Declarations.{declAt, NextIs}
+use Rattle.blif_declarations.specs.declared.Declaration.{Declaration}
+use Rattle.blif_declarations.proofs.NextLaws.{decls-end}
 use Rattle.blif_reading.specs.Read.{gateCount, pinCount, overSizes, tooLarge}
 use Rattle.blif_reading.proofs.SizeLimits.{not-over, within-over, sizes-within}
-use Rattle.blif_read_sizes.specs.Sizes.{Totals, RowCounted}
+use Rattle.blif_read_sizes.specs.Sizes.{Few, sizes, sizesOf, Added, Totals}
 use Rattle.blif_read_sizes.specs.declared.Sizes.{Sizes}
+use Rattle.blif_read_sizes.proofs.SizeLaws.{counts-of, totals-more, few-of}
 
 -- no declaration, no size
 module _ {ds : List Decl} {w : Sizes} where
@@ -30,18 +33,21 @@ module _ {ds : List Decl} {w : Sizes} where
         pins = omega (arith, t .pins, h .pins);
       })
 
--- ---- statement by statement
+-- ---- declaration by declaration
 
 -- the sizes so far are within their limits, and with what is left they are the text's
-pub record Counting (text tokens : List ℕ) (n : ℕ) (w : Sizes) : Type 0 where
-  pub rest : StmtsAt text tokens n (w .at)
+pub record Counting (text tokens : List ℕ) (n at : ℕ) (w : Sizes) : Type 0 where
+  -- statements stand at the place
+  pub rest : StmtsAt text tokens n at
+  -- no more tokens than a text may have
   pub few : n ≤ maxTokens
+  -- no size is passed
   pub within : WithinSizes (w .inputs) (w .outputs) (w .gates) (w .pins)
-  pub totals : Totals (decls (stmtsFrom text tokens n 0)) w (decls (stmtsFrom text tokens n (w .at)))
+  -- what is left is what the declarations from there on have
+  pub totals : Totals (decls (stmtsFrom text tokens n 0)) w (decls (stmtsFrom text tokens n at))
 
--- before the first statement
-pub counting-start : {text tokens : List ℕ} {n : ℕ} → StmtsAt text tokens n 0 → n ≤ maxTokens
-    → Counting text tokens n (record { at = 0; inputs = 0; outputs = 0; gates = 0; pins = 0 })
+-- before the first declaration
+pub counting-start : {text tokens : List ℕ} {n : ℕ} → StmtsAt text tokens n 0 → n ≤ maxTokens → Counting text tokens n 0 (sizes 0 0 0 0)
 counting-start c h =
     record {
       rest = c;
@@ -50,40 +56,43 @@ counting-start c h =
       totals = record { inputs = omega arith; outputs = omega arith; gates = omega arith; pins = omega arith };
     }
 
-module _ {text tokens : List ℕ} {n : ℕ} {v w : Sizes} (c : Counting text tokens n v) (s : RowCounted text tokens n v w) where
-  -- the text's sizes
-  now-totals : Totals (decls (stmtsFrom text tokens n 0)) w (decls (stmtsFrom text tokens n (w .at)))
-  now-totals = s .totals (decls (stmtsFrom text tokens n 0)) (c .totals)
+module _ {text tokens : List ℕ} {n at : ℕ} {v : Sizes} {d : Declaration} {behind : ℕ} (c : Counting text tokens n at v) (x : NextIs text tokens n at d behind) where
+  -- it can be counted
+  pub counting-few : Few d
+  counting-few = few-of text tokens n behind d (c .few) (x .places)
 
-  -- a size is passed: what is left does not make it smaller
-  pub counting-past : overSizes (w .inputs) (w .outputs) (w .gates) (w .pins) ≡ true → true ≡ tooLarge (decls (stmtsFrom text tokens n 0))
-  counting-past e =
-      let ds : List Decl = decls (stmtsFrom text tokens n 0) in
-      by-test (tooLarge ds) (λ t. sym t)
-      (λ t.
-      let f = sizes-within ds t in
-      let u = now-totals in
-      let z : overSizes (w .inputs) (w .outputs) (w .gates) (w .pins) ≡ false =
-      within-over (w .inputs) (w .outputs) (w .gates) (w .pins)
-      (record {
-        inputs = omega (arith, u .inputs, f .inputs);
-        outputs = omega (arith, u .outputs, f .outputs);
-        gates = omega (arith, u .gates, f .gates);
-        pins = omega (arith, u .pins, f .pins);
-      }) in
-      let y : _≡_ {A = ℕ} 0 1 = cc in
-      absurd (omega arith))
+  module _ {w : Sizes} (a : Added v (sizesOf d) w) where
+    -- the text's sizes
+    now-totals : Totals (decls (stmtsFrom text tokens n 0)) w (decls (stmtsFrom text tokens n behind))
+    now-totals =
+        let ds : List Decl = decls (stmtsFrom text tokens n 0) in
+        totals-more ds (declAt text tokens n d) (decls (stmtsFrom text tokens n behind)) (counts-of text tokens (c .rest .rows .places .room) behind d (x .places)) a
+        (subst (Totals ds v) (x .are) (c .totals))
 
-  -- none is
-  pub counting-next : overSizes (w .inputs) (w .outputs) (w .gates) (w .pins) ≡ false → Counting text tokens n w
-  counting-next e = record { rest = s .rest; few = c .few; within = not-over (w .inputs) (w .outputs) (w .gates) (w .pins) e; totals = now-totals }
+    -- a size is passed: what is left does not make it smaller
+    pub counting-past : overSizes (w .inputs) (w .outputs) (w .gates) (w .pins) ≡ true → true ≡ tooLarge (decls (stmtsFrom text tokens n 0))
+    counting-past e =
+        let ds : List Decl = decls (stmtsFrom text tokens n 0) in
+        by-test (tooLarge ds) (λ t. sym t)
+        (λ t.
+        let f = sizes-within ds t in
+        let u = now-totals in
+        let z : overSizes (w .inputs) (w .outputs) (w .gates) (w .pins) ≡ false =
+        within-over (w .inputs) (w .outputs) (w .gates) (w .pins)
+        (record {
+          inputs = omega (arith, u .inputs, f .inputs);
+          outputs = omega (arith, u .outputs, f .outputs);
+          gates = omega (arith, u .gates, f .gates);
+          pins = omega (arith, u .pins, f .pins);
+        }) in
+        let y : _≡_ {A = ℕ} 0 1 = cc in
+        absurd (omega arith))
 
--- no statement, no declaration
-pub no-decls : decls [] ≡ []
-unfolding decls
-no-decls = refl
+    -- none is
+    pub counting-next : overSizes (w .inputs) (w .outputs) (w .gates) (w .pins) ≡ false → Counting text tokens n behind w
+    counting-next e = record { rest = x .rest; few = c .few; within = not-over (w .inputs) (w .outputs) (w .gates) (w .pins) e; totals = now-totals }
 
--- behind the last statement
-pub counting-done : {text tokens : List ℕ} {n : ℕ} {w : Sizes} → Counting text tokens n w → n ≤ w .at → false ≡ tooLarge (decls (stmtsFrom text tokens n 0))
-counting-done {text} {tokens} {n} {w} c h =
-    sym (totals-all (subst (Totals (decls (stmtsFrom text tokens n 0)) w) (ap decls (stmts-end (c .rest) h) ∙ no-decls) (c .totals)) (c .within))
+-- behind the last declaration
+pub counting-done : {text tokens : List ℕ} {n at : ℕ} {w : Sizes} → Counting text tokens n at w → n ≤ at → false ≡ tooLarge (decls (stmtsFrom text tokens n 0))
+counting-done {text} {tokens} {n} {at} {w} c h =
+    sym (totals-all (subst (Totals (decls (stmtsFrom text tokens n 0)) w) (decls-end (c .rest) h) (c .totals)) (c .within))

@@ -1,4 +1,2 @@
-pub mod RowStarts
-pub mod LineWalk
 pub mod SizeLaws
 pub mod Counting

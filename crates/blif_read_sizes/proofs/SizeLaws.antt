@@ -1,25 +1,30 @@
--- Sizes counted statement by statement. Assumes nothing.
-use mathlib.Core.Path.{_≡_, sym, ap, ap₂, _∙_, subst}
+-- Sizes counted declaration by declaration. Assumes nothing.
+use mathlib.Core.Path.{_≡_, refl, sym, ap, ap₂, _∙_, subst}
 use mathlib.Core.Bool.{Bool, true, false}
-use mathlib.Core.List.{List, _∷_, flatMap}
+use mathlib.Core.List.{List, _++_, flatMap, append-nil}
 use Prim.Native.Nat.{ℕ, _+_, _-_, _*_, _≤_, _<_}
 use native.Mathlib.Omega.{arith}
 use native.Mathlib.Nat.{mul-le-mul}
 use lib.Dec.{ltb}
-use lib.ListN.{length, length-append}
+use lib.ListN.{length, take, length-append}
+use lib.Seq.{length-take-le}
 use borrow.Author.Tests.{lt-ltb, le-ltb}
 use Rattle.lists.specs.Lists.{if_then_else_, sumOf}
 use Rattle.lists.proofs.Counting.{sum-append}
-use Rattle.blif_text.specs.Decls.{Def, cover, Decl, model, end, inputs, outputs, gate, cubes, decls, insOf, outsOf, defsOf, ins, outs, defs}
-use Rattle.blif_text.specs.Walk.{stmtsFrom, StmtsAt}
+use Rattle.lists.proofs.Places.{flatMap-append}
+use Rattle.blif_text.specs.Decls.{Def, Decl, insOf, outsOf, defsOf, ins, outs, defs}
+use Rattle.blif_text.specs.Places.{maxTokens}
+use Rattle.blif_text.specs.Walk.{rowsFrom}
+use Rattle.blif_text.specs.declared.Block.{Block}
 use Rattle.blif_text.specs.declared.Run.{Run}
-use Rattle.blif_text.specs.declared.Statement.the-variants as place
-use Rattle.blif_text.proofs.RefusalLaws.{stmts-end}
+use Rattle.blif_declarations.specs.Rows.{names}
+use Rattle.blif_declarations.specs.Declarations.{declAt, CoverIn, PlacesIn}
+use Rattle.blif_declarations.specs.declared.Declaration.{Declaration}
+use Rattle.blif_declarations.specs.declared.Declaration.the-variants as next
+use Rattle.blif_declarations.proofs.RowStarts.{names-length}
 use Rattle.blif_reading.specs.Read.{added, gateCount, pinCount, overSizes}
-use Rattle.blif_read_sizes.specs.Rows.{names, RowIs, LinesAt}
-use Rattle.blif_read_sizes.specs.Sizes.{Totals, RowCounted}
+use Rattle.blif_read_sizes.specs.Sizes.{Few, sizes, sizesOf, Added, Totals}
 use Rattle.blif_read_sizes.specs.declared.Sizes.{Sizes}
-use Rattle.blif_read_sizes.proofs.RowStarts.{names-length, stmts-behind}
 
 -- ---- a size that is passed
 
@@ -39,130 +44,108 @@ module _ (w : Sizes) where
   pub past-pins : w .inputs ≤ 256 → w .outputs ≤ 256 → w .gates ≤ 1024 → ltb 16384 (w .pins) ≡ past
   past-pins k l m = rw (le-ltb 256 (w .inputs) k, le-ltb 256 (w .outputs) l, le-ltb 1024 (w .gates) m)
 
--- ---- one declaration more
+-- ---- the sizes of declarations
 
-module _ (d : Decl) (ds : List Decl) where
-  ins-cons : length (ins (d ∷ ds)) ≡ length (insOf d) + length (ins ds)
-  unfolding ins flatMap
-  ins-cons = length-append (insOf d) (flatMap insOf ds)
+-- z are the sizes of declarations
+pub record Counts (ds : List Decl) (z : Sizes) : Type 0 where
+  pub ins-are : length (ins ds) ≡ z .inputs
+  pub outs-are : length (outs ds) ≡ z .outputs
+  pub gates-are : sumOf gateCount (defs ds) ≡ z .gates
+  pub pins-are : sumOf pinCount (defs ds) ≡ z .pins
 
-  outs-cons : length (outs (d ∷ ds)) ≡ length (outsOf d) + length (outs ds)
-  unfolding outs flatMap
-  outs-cons = length-append (outsOf d) (flatMap outsOf ds)
-
-  defs-cons : (f : Def → ℕ) → sumOf f (defs (d ∷ ds)) ≡ sumOf f (defsOf d) + sumOf f (defs ds)
-  unfolding defs flatMap
-  defs-cons f = sum-append f (defsOf d) (flatMap defsOf ds)
-
--- the sizes v became w by a declaration
-record Adds (d : Decl) (v w : Sizes) : Type 0 where
-  inputs-more : w .inputs ≡ v .inputs + length (insOf d)
-  outputs-more : w .outputs ≡ v .outputs + length (outsOf d)
-  gates-more : w .gates ≡ v .gates + sumOf gateCount (defsOf d)
-  pins-more : w .pins ≡ v .pins + sumOf pinCount (defsOf d)
-
-totals-more : (d : Decl) (v w : Sizes) (ds left : List Decl) → Adds d v w → Totals ds v (d ∷ left) → Totals ds w left
-totals-more d v w ds left a t =
-    record {
-      inputs = omega (arith, t .inputs, ins-cons d left, a .inputs-more);
-      outputs = omega (arith, t .outputs, outs-cons d left, a .outputs-more);
-      gates = omega (arith, t .gates, defs-cons d left gateCount, a .gates-more);
-      pins = omega (arith, t .pins, defs-cons d left pinCount, a .pins-more);
-    }
-
--- ---- one statement more
-
-module _ {text tokens : List ℕ} {n : ℕ} (v : Sizes) where
-  -- it declares something
-  counts-decl : (w : Sizes) (d : Decl) → v .at < w .at → StmtsAt text tokens n (w .at) → Adds d v w
-      → decls (stmtsFrom text tokens n (v .at)) ≡ d ∷ decls (stmtsFrom text tokens n (w .at)) → RowCounted text tokens n v w
-  counts-decl w d h r a e =
-      record { low = h; rest = r; totals = λ ds t. totals-more d v w ds (decls (stmtsFrom text tokens n (w .at))) a (subst (Totals ds v) e t) }
-
-  -- it declares nothing
-  counts-none : (at : ℕ) → v .at < at → StmtsAt text tokens n at → decls (stmtsFrom text tokens n (v .at)) ≡ decls (stmtsFrom text tokens n at)
-      → RowCounted text tokens n v (record { at = at; inputs = v .inputs; outputs = v .outputs; gates = v .gates; pins = v .pins })
-  counts-none at h r e =
+module _ (text tokens : List ℕ) {n : ℕ} (h : n ≤ length tokens) where
+  -- of a cover
+  cover-counts : (block : Block) → CoverIn text tokens n block → Counts (declAt text tokens n (next.Cover block)) (sizesOf (next.Cover block))
+  unfolding ins outs defs flatMap insOf outsOf defsOf gateCount pinCount
+  cover-counts block p =
+      let ns = names text tokens (record { first = block .first; count = block .names }) in
+      let ls = take (block .lines) (rowsFrom text tokens n (block .first + block .names)) in
+      let k : length ls ≡ block .lines = length-take-le (block .lines) (rowsFrom text tokens n (block .first + block .names)) (p .enough) in
+      let m : length ns ≡ block .names = names-length text tokens (record { first = block .first; count = block .names }) (omega (arith, p .few)) in
       record {
-        low = h;
-        rest = r;
-        totals = λ ds t.
-            let u = subst (Totals ds v) e t in
-            record { inputs = u .inputs; outputs = u .outputs; gates = u .gates; pins = u .pins };
+        ins-are = refl;
+        outs-are = refl;
+        gates-are = omega (arith, ap added k);
+        pins-are = omega (arith, ap₂ (λ (x y : ℕ). (x + 1) * (y - 1 + 2)) k m);
       }
 
-  module _ {r : ℕ} where
-    pub count-inputs : {run : Run} → RowIs text tokens n (v .at) r (place.Inputs run)
-        → RowCounted text tokens n v (record { at = r; inputs = v .inputs + (r - v .at - 1); outputs = v .outputs; gates = v .gates; pins = v .pins })
-    unfolding decls insOf outsOf defsOf
-    count-inputs w =
-        counts-decl _ (inputs (names text tokens (v .at) r)) (w .low) (w .rest)
-        (record { inputs-more = ap (λ (k : ℕ). v .inputs + k) (sym (names-length w)); outputs-more = omega arith; gates-more = omega arith; pins-more = omega arith })
-        (ap decls (w .starts))
+  -- of what a declaration of places declares
+  pub counts-of : (behind : ℕ) (d : Declaration) → PlacesIn text tokens n behind d → Counts (declAt text tokens n d) (sizesOf d)
+  unfolding ins outs defs flatMap insOf outsOf defsOf gateCount pinCount
+  counts-of behind next.Model p = record { ins-are = refl; outs-are = refl; gates-are = refl; pins-are = refl }
+  counts-of behind next.End p = record { ins-are = refl; outs-are = refl; gates-are = refl; pins-are = refl }
+  counts-of behind (next.Inputs run) p =
+      record { ins-are = ap length (append-nil (names text tokens run)) ∙ names-length text tokens run (omega arith); outs-are = refl; gates-are = refl; pins-are = refl }
+  counts-of behind (next.Outputs run) p =
+      record { ins-are = refl; outs-are = ap length (append-nil (names text tokens run)) ∙ names-length text tokens run (omega arith); gates-are = refl; pins-are = refl }
+  counts-of behind (next.Latch first) p = record { ins-are = refl; outs-are = refl; gates-are = refl; pins-are = refl }
+  counts-of behind (next.Cover block) p = cover-counts block p
+  counts-of behind next.None p = record { ins-are = refl; outs-are = refl; gates-are = refl; pins-are = refl }
 
-    pub count-outputs : {run : Run} → RowIs text tokens n (v .at) r (place.Outputs run)
-        → RowCounted text tokens n v (record { at = r; inputs = v .inputs; outputs = v .outputs + (r - v .at - 1); gates = v .gates; pins = v .pins })
-    unfolding decls insOf outsOf defsOf
-    count-outputs w =
-        counts-decl _ (outputs (names text tokens (v .at) r)) (w .low) (w .rest)
-        (record { inputs-more = omega arith; outputs-more = ap (λ (k : ℕ). v .outputs + k) (sym (names-length w)); gates-more = omega arith; pins-more = omega arith })
-        (ap decls (w .starts))
+-- ---- more declarations
 
-    pub count-latch : {first : ℕ} → RowIs text tokens n (v .at) r (place.Latch first)
-        → RowCounted text tokens n v (record { at = r; inputs = v .inputs; outputs = v .outputs; gates = v .gates + 1; pins = v .pins + 3 })
-    unfolding decls insOf outsOf defsOf gateCount pinCount
-    count-latch w =
-        counts-decl _ _ (w .low) (w .rest)
-        (record { inputs-more = omega arith; outputs-more = omega arith; gates-more = omega arith; pins-more = omega arith })
-        (ap decls (w .starts .0))
+module _ (xs ys : List Decl) where
+  ins-append : length (ins (xs ++ ys)) ≡ length (ins xs) + length (ins ys)
+  unfolding ins
+  ins-append = ap length (flatMap-append insOf xs ys) ∙ length-append (flatMap insOf xs) (flatMap insOf ys)
 
-    pub count-names : {run : Run} {k e g p : ℕ} → RowIs text tokens n (v .at) r (place.Names run) → LinesAt text tokens n r k e
-        → g ≡ 1 + added k → p ≡ (k + 1) * (r - v .at - 1 - 1 + 2)
-        → RowCounted text tokens n v (record { at = e; inputs = v .inputs; outputs = v .outputs; gates = v .gates + g; pins = v .pins + p })
-    unfolding decls insOf outsOf defsOf gateCount pinCount
-    count-names {run} {k} {e} {g} {p} w l a b =
-        let ns = names text tokens (v .at) r in
-        let ls = cubes (stmtsFrom text tokens n r) in
-        let a′ : g ≡ 1 + added (length ls) = a ∙ ap (λ (j : ℕ). 1 + added j) (l .counted) in
-        let b′ : p ≡ (length ls + 1) * (length ns - 1 + 2) =
-        b ∙ ap₂ (λ (j m : ℕ). (j + 1) * (m - 1 + 2)) (l .counted) (sym (names-length w)) in
-        counts-decl _ (gate (cover ns ls)) (omega (arith, w .low, l .low)) (l .rest)
-        (record { inputs-more = omega arith; outputs-more = omega arith; gates-more = omega arith; pins-more = omega arith })
-        (ap decls (w .starts) ∙ ap (λ (x : List Decl). gate (cover ns ls) ∷ x) (sym (l .same)))
+  outs-append : length (outs (xs ++ ys)) ≡ length (outs xs) + length (outs ys)
+  unfolding outs
+  outs-append = ap length (flatMap-append outsOf xs ys) ∙ length-append (flatMap outsOf xs) (flatMap outsOf ys)
 
-    -- "`.exdc` stops naming and building"
-    pub count-exdc : RowIs text tokens n (v .at) r place.Exdc
-        → RowCounted text tokens n v (record { at = n; inputs = v .inputs; outputs = v .outputs; gates = v .gates; pins = v .pins })
-    unfolding decls
-    count-exdc w =
-        let b = stmts-behind (w .rest) in
-        counts-none n (omega (arith, w .low, w .rest .rows .high)) b (ap decls (w .starts) ∙ sym (ap decls (stmts-end b (omega arith))))
+  defs-append : (f : Def → ℕ) → sumOf f (defs (xs ++ ys)) ≡ sumOf f (defs xs) + sumOf f (defs ys)
+  unfolding defs
+  defs-append f = ap (sumOf f) (flatMap-append defsOf xs ys) ∙ sum-append f (flatMap defsOf xs) (flatMap defsOf ys)
 
-    -- it adds to no size
-    pub count-model : RowIs text tokens n (v .at) r place.Model
-        → RowCounted text tokens n v (record { at = r; inputs = v .inputs; outputs = v .outputs; gates = v .gates; pins = v .pins })
-    unfolding decls insOf outsOf defsOf
-    count-model w =
-        counts-decl _ model (w .low) (w .rest)
-        (record { inputs-more = omega arith; outputs-more = omega arith; gates-more = omega arith; pins-more = omega arith })
-        (ap decls (w .starts))
+pub totals-more : {v w z : Sizes} (ds xs left : List Decl) → Counts xs z → Added v z w → Totals ds v (xs ++ left) → Totals ds w left
+totals-more ds xs left c a t =
+    record {
+      inputs = omega (arith, t .inputs, ins-append xs left, c .ins-are, a .inputs);
+      outputs = omega (arith, t .outputs, outs-append xs left, c .outs-are, a .outputs);
+      gates = omega (arith, t .gates, defs-append xs left gateCount, c .gates-are, a .gates);
+      pins = omega (arith, t .pins, defs-append xs left pinCount, c .pins-are, a .pins);
+    }
 
-    -- "statements after `.end` still count"
-    pub count-end : RowIs text tokens n (v .at) r place.End
-        → RowCounted text tokens n v (record { at = r; inputs = v .inputs; outputs = v .outputs; gates = v .gates; pins = v .pins })
-    unfolding decls insOf outsOf defsOf
-    count-end w =
-        counts-decl _ end (w .low) (w .rest)
-        (record { inputs-more = omega arith; outputs-more = omega arith; gates-more = omega arith; pins-more = omega arith })
-        (ap decls (w .starts))
+-- the sizes of an equal declaration
+added-as : {v w : Sizes} {d e : Declaration} → d ≡ e → Added v (sizesOf e) w → Added v (sizesOf d) w
+added-as {v} {w} q a = subst (λ (d : Declaration). Added v (sizesOf d) w) (sym q) a
 
-    -- "Cube lines count only directly after their `.names`"
-    pub count-cube : {run : Run} → RowIs text tokens n (v .at) r (place.Cube run)
-        → RowCounted text tokens n v (record { at = r; inputs = v .inputs; outputs = v .outputs; gates = v .gates; pins = v .pins })
-    unfolding decls
-    count-cube w = counts-none r (w .low) (w .rest) (ap decls (w .starts))
+-- a declaration without sizes
+pub add-none : {v z : Sizes} → z ≡ sizes 0 0 0 0 → Added v z v
+add-none {v} e =
+    subst (λ (z : Sizes). Added v z v) (sym e) (record { inputs = omega arith; outputs = omega arith; gates = omega arith; pins = omega arith })
+
+-- the others
+module _ {v : Sizes} {d : Declaration} where
+  pub add-inputs : {run : Run} → d ≡ next.Inputs run → Added v (sizesOf d) (sizes (v .inputs + run .count) (v .outputs) (v .gates) (v .pins))
+  add-inputs e = added-as e (record { inputs = refl; outputs = omega arith; gates = omega arith; pins = omega arith })
+
+  pub add-outputs : {run : Run} → d ≡ next.Outputs run → Added v (sizesOf d) (sizes (v .inputs) (v .outputs + run .count) (v .gates) (v .pins))
+  add-outputs e = added-as e (record { inputs = omega arith; outputs = refl; gates = omega arith; pins = omega arith })
+
+  pub add-latch : {first : ℕ} → d ≡ next.Latch first → Added v (sizesOf d) (sizes (v .inputs) (v .outputs) (v .gates + 1) (v .pins + 3))
+  add-latch e = added-as e (record { inputs = omega arith; outputs = omega arith; gates = refl; pins = refl })
+
+  pub add-cover : {block : Block} {g p : ℕ} → d ≡ next.Cover block → g ≡ 1 + added (block .lines) → p ≡ (block .lines + 1) * (block .names - 1 + 2)
+      → Added v (sizesOf d) (sizes (v .inputs) (v .outputs) (v .gates + g) (v .pins + p))
+  add-cover e a b =
+      added-as e (record { inputs = omega arith; outputs = omega arith; gates = ap (λ (k : ℕ). v .gates + k) a; pins = ap (λ (k : ℕ). v .pins + k) b })
 
 -- ---- sizes that fit
+
+-- names and lines are among the tokens
+pub few-of : (text tokens : List ℕ) (n behind : ℕ) (d : Declaration) → n ≤ maxTokens → PlacesIn text tokens n behind d → Few d
+few-of text tokens n behind next.Model h p = tt
+few-of text tokens n behind next.End h p = tt
+few-of text tokens n behind (next.Inputs run) h p = omega arith
+few-of text tokens n behind (next.Outputs run) h p = omega arith
+few-of text tokens n behind (next.Latch first) h p = tt
+few-of text tokens n behind (next.Cover block) h p = (omega (arith, p .few), omega (arith, p .short))
+few-of text tokens n behind next.None h p = tt
+
+-- as few of an equal declaration
+pub few-as : {d e : Declaration} → Few d → d ≡ e → Few e
+few-as f q = subst Few q f
 
 -- a cover's lines add no more gates than there are
 pub added-few : (k : ℕ) → added k ≤ k

@@ -27,11 +27,19 @@ nameCount blocks j = getD blocks (j * blockWidth + 1) 0
 abbrev pub lineCount : List ℕ → ℕ → ℕ
 lineCount blocks j = getD blocks (j * blockWidth + 2) 0
 
--- a latch by its first name's token; or a cover, whose lines are the rows behind its names
+-- a latch by the token of its first name
+abbrev pub latchFrom : Bytes → List ℕ → ℕ → Def
+latchFrom text tokens first = latch (plainLatch (tokenOf text (getD tokens first 0)) (tokenOf text (getD tokens (first + 1) 0)))
+
+-- a cover by the token of its first name, and how many names it has; its lines are the rows behind them
+abbrev pub coverFrom : Bytes → List ℕ → ℕ → ℕ → ℕ → ℕ → Def
+coverFrom text tokens n first names lines =
+    cover (tokensOf text (slice first (first + names) tokens)) (take lines (rowsFrom text tokens n (first + names)))
+
+-- a latch, which is told by no name count; or a cover
 abbrev pub defFrom : Bytes → List ℕ → ℕ → ℕ → ℕ → ℕ → Def
-defFrom text tokens n first zero lines = latch (plainLatch (tokenOf text (getD tokens first 0)) (tokenOf text (getD tokens (first + 1) 0)))
-defFrom text tokens n first (suc k) lines =
-    cover (tokensOf text (slice first (first + suc k) tokens)) (take lines (rowsFrom text tokens n (first + suc k)))
+defFrom text tokens n first zero lines = latchFrom text tokens first
+defFrom text tokens n first (suc k) lines = coverFrom text tokens n first (suc k) lines
 
 -- the definition that block j's record places
 abbrev pub defAt : Bytes → List ℕ → ℕ → List ℕ → ℕ → Def

@@ -12,24 +12,28 @@ use Rattle.blif_text.specs.Decls.{cubes, decls}
 use Rattle.blif_text.specs.Places.{tokenOf, tokensOf}
 use Rattle.blif_text.specs.PlacedStatements.{statementAt}
 use Rattle.blif_text.specs.Walk.{rowsFrom, stmtsFrom, StmtsAt}
+use Rattle.blif_text.specs.declared.Run.{Run}
 use Rattle.blif_text.specs.declared.Statement.{Statement}
 use Rattle.blif_text.specs.declared.Statement.the-variants as place
 
--- the names of the row from at to end: the tokens behind its keyword
-abbrev pub names : Bytes → List ℕ → ℕ → ℕ → List Bytes
-names text tokens at end = tokensOf text (slice (at + 1) end tokens)
+-- the names of a run of tokens
+abbrev pub names : Bytes → List ℕ → Run → List Bytes
+names text tokens run = tokensOf text (slice (run .first) (run .first + run .count) tokens)
 
--- the statements from at on are this one's, and those from end on
+-- the statements from at on are this one, whose places end at end, and those from end on
 abbrev pub Starts : Bytes → List ℕ → ℕ → ℕ → ℕ → Statement → Type 0
 Starts text tokens n at end place.Model = stmtsFrom text tokens n at ≡ Stmt.model ∷ stmtsFrom text tokens n end
 Starts text tokens n at end place.End = stmtsFrom text tokens n at ≡ Stmt.end ∷ stmtsFrom text tokens n end
 Starts text tokens n at end place.Exdc = stmtsFrom text tokens n at ≡ Stmt.exdc ∷ stmtsFrom text tokens n end
-Starts text tokens n at end (place.Inputs run) = stmtsFrom text tokens n at ≡ Stmt.inputs (names text tokens at end) ∷ stmtsFrom text tokens n end
-Starts text tokens n at end (place.Outputs run) = stmtsFrom text tokens n at ≡ Stmt.outputs (names text tokens at end) ∷ stmtsFrom text tokens n end
-Starts text tokens n at end (place.Names run) = stmtsFrom text tokens n at ≡ Stmt.names (names text tokens at end) ∷ stmtsFrom text tokens n end
+Starts text tokens n at end (place.Inputs run) =
+    (stmtsFrom text tokens n at ≡ Stmt.inputs (names text tokens run) ∷ stmtsFrom text tokens n end) × (run .first + run .count ≡ end)
+Starts text tokens n at end (place.Outputs run) =
+    (stmtsFrom text tokens n at ≡ Stmt.outputs (names text tokens run) ∷ stmtsFrom text tokens n end) × (run .first + run .count ≡ end)
+Starts text tokens n at end (place.Names run) =
+    (stmtsFrom text tokens n at ≡ Stmt.names (names text tokens run) ∷ stmtsFrom text tokens n end) × (run .first + run .count ≡ end)
 Starts text tokens n at end (place.Latch first) =
-    (stmtsFrom text tokens n at ≡ Stmt.latch (plainLatch (tokenOf text (getD tokens (at + 1) 0)) (tokenOf text (getD tokens (at + 2) 0))) ∷ stmtsFrom text tokens n end)
-    × (at + 3 ≤ end)
+    (stmtsFrom text tokens n at ≡ Stmt.latch (plainLatch (tokenOf text (getD tokens first 0)) (tokenOf text (getD tokens (first + 1) 0))) ∷ stmtsFrom text tokens n end)
+    × (first + 2 ≤ end)
 Starts text tokens n at end (place.Cube run) = stmtsFrom text tokens n at ≡ Stmt.cube (tokensOf text (slice at end tokens)) ∷ stmtsFrom text tokens n end
 Starts text tokens n at end (place.Refused r) = ⊥
 

@@ -1,9 +1,9 @@
 -- `row_at` finds the end of a row and its statement. Assumes nothing.
 use native.Mathlib.Omega.{arith}
 use borrow.Author.Needs.{needs}
-use Rattle.blif_read_sizes.proofs.RowStarts.{row-is}
-use Rattle.blif_read_sizes.proofs.row_at.Statement.{statement}
-use Rattle.blif_read_sizes.proofs.row_at.Tie as tie
+use Rattle.blif_declarations.proofs.RowStarts.{row-is}
+use Rattle.blif_declarations.proofs.row_at.Statement.{statement}
+use Rattle.blif_declarations.proofs.row_at.Tie as tie
 
 statement-at-requires : tie.Need-statement-at-requires
 statement-at-requires c κs =

@@ -11,9 +11,9 @@ use types.Run.{OneOf}
 use Rattle.blif_text.specs.declared.Statement.{Statement}
 use Rattle.blif_text.specs.declared.Statement.the-variants as place
 use Rattle.blif_text.proofs.Statement.{the-type}
-use Rattle.blif_read_sizes.specs.Rows.{isCube}
-use Rattle.blif_read_sizes.proofs.is_cube.Statement.{statement}
-use Rattle.blif_read_sizes.proofs.is_cube.Tie as tie
+use Rattle.blif_declarations.specs.Rows.{isCube}
+use Rattle.blif_declarations.proofs.is_cube.Statement.{statement}
+use Rattle.blif_declarations.proofs.is_cube.Tie as tie
 
 -- a key of the other arm is not the cube line's
 apart : (x : ℕ) → OneOf (0 ∷ 1 ∷ 2 ∷ 3 ∷ 4 ∷ 5 ∷ 6 ∷ 8 ∷ []) x → x ≡ 7 → ⊥

@@ -15,7 +15,7 @@ use Rattle.blif_text.specs.Walk.{rowsFrom, stmtsFrom, StmtsAt}
 use Rattle.blif_text.specs.declared.Statement.{Statement}
 use Rattle.blif_text.specs.declared.Statement.the-variants as place
 use Rattle.blif_text.proofs.RefusalLaws.{stmts-end}
-use Rattle.blif_read_sizes.specs.Rows.{Starts, RowIs, isCube, LinesAt}
+use Rattle.blif_declarations.specs.Rows.{Starts, RowIs, isCube, LinesAt}
 
 -- ---- a statement that is a cube line, and one that is none
 
@@ -37,7 +37,7 @@ module _ (text tokens : List ℕ) (n at end : ℕ) where
     unfolding cubes
     cube-lines = ap cubes (cube-starts s e t)
 
-    cube-decls : decls (stmtsFrom text tokens n end) ≡ decls (stmtsFrom text tokens n at)
+    pub cube-decls : decls (stmtsFrom text tokens n end) ≡ decls (stmtsFrom text tokens n at)
     unfolding decls
     cube-decls = sym (ap decls (cube-starts s e t))
 
@@ -46,9 +46,9 @@ module _ (text tokens : List ℕ) (n at end : ℕ) where
   no-cube place.Model e t = ap cubes e
   no-cube place.End e t = ap cubes e
   no-cube place.Exdc e t = ap cubes e
-  no-cube (place.Inputs run) e t = ap cubes e
-  no-cube (place.Outputs run) e t = ap cubes e
-  no-cube (place.Names run) e t = ap cubes e
+  no-cube (place.Inputs run) e t = ap cubes (e .0)
+  no-cube (place.Outputs run) e t = ap cubes (e .0)
+  no-cube (place.Names run) e t = ap cubes (e .0)
   no-cube (place.Latch first) e t = ap cubes (e .0)
   no-cube (place.Cube run) e t = let z : _≡_ {A = ℕ} 0 1 = cc in absurd (omega arith)
   no-cube (place.Refused m) e t = absurd e

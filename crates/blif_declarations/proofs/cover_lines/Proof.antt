@@ -2,16 +2,17 @@
 use mathlib.Core.Path.{sym, _∙_}
 use Prim.Native.Nat.{_-_}
 use native.Mathlib.Omega.{arith}
+use lib.ListN.{length}
 use borrow.Author.Tests.{not-true, not-false}
-use Rattle.blif_read_sizes.proofs.LineWalk.{Passed, passed-start, passed-next, passed-stop, passed-end}
-use Rattle.blif_read_sizes.proofs.cover_lines.Statement.{statement}
-use Rattle.blif_read_sizes.proofs.cover_lines.Tie as tie
+use Rattle.blif_declarations.proofs.LineWalk.{Passed, passed-start, passed-next, passed-stop, passed-end}
+use Rattle.blif_declarations.proofs.cover_lines.Statement.{statement}
+use Rattle.blif_declarations.proofs.cover_lines.Tie as tie
 
 abbrev Inv-loop : tie.InvT-loop
-Inv-loop text tokens n at count₀ i₀ count i = Passed text tokens n at count i
+Inv-loop text tokens at count₀ i₀ count i = Passed text tokens (length tokens) at count i
 
 abbrev μ-loop : tie.MeasureT-loop
-μ-loop text tokens n at count₀ i₀ count i = n - i
+μ-loop text tokens at count₀ i₀ count i = length tokens - i
 
 loop-holds : tie.Need-loop-holds Inv-loop μ-loop
 loop-holds c = passed-start (c .before .before .pre)

@@ -1,0 +1,4 @@
+pub mod RowStarts
+pub mod LineWalk
+pub mod NextLaws
+pub mod FrontLaws
