@@ -28,7 +28,7 @@ use Rattle.sort.specs.declared.Sorted.{Sorted}
 use Rattle.sort.specs.declared.Sorted.the-variants.{Order, Loop}
 use Rattle.sort_order.proofs.Summary.{sorted-keeps}
 use Rattle.blif_text.specs.Statements.{parsed, firstBad}
-use Rattle.blif_text.specs.Places.{maxText}
+use Rattle.blif_text.specs.Lines.{maxText}
 use Rattle.blif_text.specs.Decls.{Def, outs, declsOf}
 use Rattle.blif_text.specs.Blocks.{defsAt}
 use Rattle.blif_reading.specs.Read.{declFault, readFault, Result, read, refused, answer, signalOf, builtFrom, readText}

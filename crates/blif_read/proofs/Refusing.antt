@@ -16,7 +16,8 @@ use Rattle.refusals.proofs.Order.{orElse-stop, orElse-go, refuseIf-yes, refuseI
 use Rattle.sort_order.specs.Sorted.{sorted}
 use Rattle.blif_text.specs.Statements.{parsed, firstBad}
 use Rattle.blif_text.specs.Decls.{decls, defs, declsOf}
-use Rattle.blif_text.specs.Places.{maxText, TokensMarked}
+use Rattle.blif_text.specs.Places.{TokensMarked}
+use Rattle.blif_text.specs.Lines.{maxText}
 use Rattle.blif_text.specs.Walk.{stmtsFrom}
 use Rattle.blif_text.proofs.RefusalLaws.{stmts-start, stmts-all}
 use Rattle.blif_reading.specs.Read.{tooLarge, naming, undefined, coverFaults, declFault, readFault, Result, refused, answer, builtFrom, readText}

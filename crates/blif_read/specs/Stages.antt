@@ -17,7 +17,8 @@ use Rattle.network.specs.Record.{gateWidth}
 use Rattle.blif_text.specs.Statements.{parsed, firstBad}
 use Rattle.blif_text.specs.Decls.{decls, ins, defs, defines, declsOf}
 use Rattle.blif_text.specs.Decls as names
-use Rattle.blif_text.specs.Places.{maxText, maxTokens}
+use Rattle.blif_text.specs.Places.{maxTokens}
+use Rattle.blif_text.specs.Lines.{maxText}
 use Rattle.blif_text.specs.Walk.{stmtsFrom, StmtsAt}
 use Rattle.blif_text.specs.Blocks.{Blocks, defsAt}
 use Rattle.blif_reading.specs.Read.{tooLarge, naming, undefined, coverFaults, declFault, readFault, Result, read, refused, signalOf, readText}

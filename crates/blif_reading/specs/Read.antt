@@ -16,7 +16,7 @@ use Rattle.signal.specs.Signal.{Signal}
 use Rattle.network.specs.Net.{Net}
 use Rattle.network.specs.Sizes.{maxInputs, maxOutputs, maxGates, maxPins}
 use Rattle.sort_order.specs.Sorted.{sorted}
-use Rattle.blif_text.specs.Places.{maxText}
+use Rattle.blif_text.specs.Lines.{maxText}
 use Rattle.blif_text.specs.Statements.{parsed, firstBad}
 use Rattle.blif_text.specs.Decls.{Def, latch, cover, Decl, model, end, inputs, outputs, gate, declsOf, ins, outs, defs, coverOut, defines, usedNames, columns, output, isOne}
 use Rattle.blif_reading.specs.Lookup.{lookup, byte-names}

@@ -8,6 +8,10 @@ use Rattle.lists.specs.Lists.{if_then_else_, Bytes, any, filter}
 
 -- ---- lines
 
+-- "Text at most 32,768 bytes"
+abbrev pub maxText : ℕ
+maxText = 32768
+
 -- one more byte at the front of the first part
 unfoldable pub consFirst : ℕ → List Bytes → List Bytes
 consFirst c [] = (c ∷ []) ∷ []

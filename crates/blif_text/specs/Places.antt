@@ -10,10 +10,6 @@ use Rattle.lists.specs.Lists.{Bytes}
 use Rattle.blif_text.specs.Rows.{textRows}
 use Rattle.blif_text.specs.PlaceRows.{placeLines, placeRows}
 
--- "Text at most 32,768 bytes"
-abbrev pub maxText : ℕ
-maxText = 32768
-
 -- a text within the limit has at most this many tokens
 abbrev pub maxTokens : ℕ
 maxTokens = 16384

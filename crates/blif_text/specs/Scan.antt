@@ -7,9 +7,9 @@ use Prim.Native.Nat.{ℕ, _+_, _-_, _*_, _≤_, _<_}
 use lib.Dec.{eqb}
 use lib.ListN.{length, getD, set}
 use Rattle.lists.specs.Lists.{Bytes, overwriteAt}
-use Rattle.blif_text.specs.Lines.{isBlank}
+use Rattle.blif_text.specs.Lines.{isBlank, maxText}
 use Rattle.blif_text.specs.PlaceRows.{placeLines, placeRows}
-use Rattle.blif_text.specs.Places.{maxText, maxTokens, tokenCell, isFirst, rowsCells}
+use Rattle.blif_text.specs.Places.{maxTokens, tokenCell, isFirst, rowsCells}
 
 -- what ends a word: "Blanks are 9 to 13 and 32", and "`#` cuts the line"
 unfoldable pub endsWord : ℕ → Bool

@@ -10,7 +10,7 @@ use Rattle.lists.proofs.Tests.{by-test, or-left, or-right}
 use Rattle.refusals.specs.declared.Refusal.{Refusal}
 use Rattle.refusals.specs.declared.Refusal.the-variants as refusal
 use Rattle.network.specs.Cells.{Lent, isNetwork, netOf}
-use Rattle.blif_text.specs.Places.{maxText}
+use Rattle.blif_text.specs.Lines.{maxText}
 use Rattle.blif_writing.specs.WrittenModel.{wide}
 use Rattle.blif_writing.specs.Text.{textOf}
 use Rattle.blif_write.specs.Into.{WriteOutcome, refusedText, writtenText, tooLong, writeInto}

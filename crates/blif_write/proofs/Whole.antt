@@ -18,7 +18,7 @@ use Rattle.refusals.specs.declared.Refusal.the-variants as refusal
 use Rattle.network.specs.Net.{Net}
 use Rattle.network.specs.Cells.{Lent, isNetwork, netOf}
 use Rattle.network.proofs.Lent.{network-readable, network-sizes}
-use Rattle.blif_text.specs.Places.{maxText}
+use Rattle.blif_text.specs.Lines.{maxText}
 use Rattle.blif_writing.specs.Names.{nameBytes}
 use Rattle.blif_writing.specs.WrittenModel.{latchBlocks, combBlocks, inverterBlock, inverters, wide, inputNames}
 use Rattle.blif_writing.specs.Text.{line, allLines, headLines, textOf}

@@ -8,7 +8,7 @@ use Rattle.lists.specs.Lists.{if_then_else_, Bytes, zeros, any, overwrite}
 use Rattle.refusals.specs.declared.Refusal.{Refusal}
 use Rattle.refusals.specs.declared.Refusal.the-variants as refusal
 use Rattle.network.specs.Cells.{Lent, netOf, isNetwork}
-use Rattle.blif_text.specs.Places.{maxText}
+use Rattle.blif_text.specs.Lines.{maxText}
 use Rattle.blif_writing.specs.WrittenModel.{wide}
 use Rattle.blif_writing.specs.Text.{textOf}
 use Rattle.blif_write.specs.declared.WriteAnswer.{WriteAnswer}

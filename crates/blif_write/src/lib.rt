@@ -24,7 +24,7 @@ ghost use Rattle.gates.specs.Decode.{runWithin, gateIn};
 ghost use Rattle.network.specs.Cells.{orBuf, cellGates, cellNet, lent};
 ghost use Rattle.network.specs.Sizes.{maxGates, maxInputs};
 ghost use Rattle.network.specs.Record.{gateAt};
-ghost use Rattle.blif_text.specs.Places.{maxText};
+ghost use Rattle.blif_text.specs.Lines.{maxText};
 ghost use Rattle.blif_writing.specs.Names.{nameBytes};
 ghost use Rattle.blif_writing.specs.WrittenModel.{inputNames, named, tooWide, wide};
 ghost use Rattle.blif_writing.specs.Text.{spaced, textOf};

@@ -17,7 +17,7 @@ use Rattle.network.specs.Clock.{NetRuns, zeroBits}
 use Rattle.network.specs.Settle.{run, SameOutputs}
 use Rattle.network.proofs.Lent.{network-laid}
 use Rattle.network.proofs.Summary.{one-run}
-use Rattle.blif_text.specs.Places.{maxText}
+use Rattle.blif_text.specs.Lines.{maxText}
 use Rattle.blif_writing.specs.Text.{textOf}
 use Rattle.blif_reading.specs.Read.{read, readText}
 use Rattle.blif_writing.specs.WrittenModel.{wide}

@@ -29,7 +29,7 @@ use Rattle.network.specs.Net.{Valid, Formed, Loop}
 use Rattle.network.specs.Settle.{SameOutputs}
 use Rattle.blif_reading.specs.Read.{tooLarge}
 use Rattle.blif_text.specs.Decls.{declsOf}
-use Rattle.blif_text.specs.Places.{maxText}
+use Rattle.blif_text.specs.Lines.{maxText}
 use Prim.Native.Nat.{_≤_}
 use mathlib.Core.Bool.{false}
 

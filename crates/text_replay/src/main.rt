@@ -13,7 +13,8 @@ use refusals::Checked;
 use replay::read_word;
 ghost use Prim.Native.Nat.{_≤_};
 ghost use lib.ListN.{length};
-ghost use Rattle.blif_text.specs.Places.{maxText, maxTokens, TokensMarked};
+ghost use Rattle.blif_text.specs.Places.{maxTokens, TokensMarked};
+ghost use Rattle.blif_text.specs.Lines.{maxText};
 
 // A blank and the token of a cell.
 fn print_token(text: &[u8], cell: u32) {

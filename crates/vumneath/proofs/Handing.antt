@@ -10,7 +10,7 @@ use Rattle.refusals.specs.declared.Refusal.the-variants as refusal
 use Rattle.network.specs.Cells.{Lent, countsOf}
 use Rattle.network.specs.Sizes.{WithinSizes}
 use Rattle.network.specs.declared.Counts.{Counts}
-use Rattle.blif_text.specs.Places.{maxText}
+use Rattle.blif_text.specs.Lines.{maxText}
 use Rattle.blif_reading.specs.Read.{Result, read, refused, readText}
 use Rattle.blif_reading.proofs.ReadNet.{read-net}
 use Rattle.blif_read.specs.Into.{Lengths, enough, filled, readInto, ReadOutcome, readOutcome}

@@ -18,7 +18,7 @@ slice-aggregate-build-name-to-sig c = walk-count (c .before .before .before .bef
 build-name-to-sig-requires : tie.Need-build-name-to-sig-requires
 build-name-to-sig-requires c κs =
     let pre = c .before .before .before .before .before .before .before .before .before .before .pre in
-    ((walk-front (pre .1 .stands), walk-few (pre .1 .stands) (pre .1 .few)), (ap tooLarge (walk-decls (pre .1 .stands)) ∙ sized-again (pre .1), (refl, omega (arith, pre .0 .workPins), pre .0 .gates)))
+    ((walk-front (pre .1 .stands), walk-few (pre .1 .stands) (pre .1 .few)), (ap tooLarge (walk-decls (pre .1 .stands)) ∙ sized-again (pre .1), (refl, omega (arith, pre .0 .workPins), omega (arith, pre .0 .gates))))
 
 read-outputs-requires : tie.Need-read-outputs-requires
 read-outputs-requires c κs =

@@ -1,7 +1,7 @@
 -- `read_text` tests the text's length and bytes. Assumes nothing.
 use mathlib.Core.Path.{sym, _∙_}
 use borrow.Author.Tests.{lt-ltb, le-ltb}
-use Rattle.blif_text.specs.Places.{maxText}
+use Rattle.blif_text.specs.Lines.{maxText}
 use Rattle.blif_read.proofs.Refusing.{holds-refused, too-long, high-byte, readable}
 use borrow.Author.Needs.{needs}
 use Rattle.blif_read.proofs.read_text.Statement.{statement}
