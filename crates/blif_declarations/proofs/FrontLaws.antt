@@ -8,9 +8,9 @@ use lib.Seq.{slice, take-take, length-take-le, getD-take}
 use Rattle.lists.specs.Lists.{Bytes}
 use Rattle.blif_text.specs.Statements.{firstBad, stmts}
 use Rattle.blif_text.specs.Decls.{decls}
-use Rattle.blif_text.specs.Rows.{rowStmt}
-use Rattle.blif_text.specs.Places.{InText, grouped}
-use Rattle.blif_text.specs.Walk.{rowsFrom, stmtsFrom, Inside, RowsAt, StmtsAt}
+use Rattle.blif_text.specs.between.Rows.{rowStmt}
+use Rattle.blif_text.specs.between.Places.{InText, grouped}
+use Rattle.blif_text.specs.between.Walk.{rowsFrom, stmtsFrom, Inside, RowsAt, StmtsAt}
 
 module _ (text cells : List ℕ) (n : ℕ) (h : n ≤ length cells) where
   -- as many

@@ -10,12 +10,12 @@ use Rattle.lists.specs.Lists.{Bytes, sumOf}
 use Rattle.lists.proofs.Counting.{sum-append}
 use Rattle.blif_text.specs.Decls.{cubes, decls}
 use Rattle.blif_text.specs.Statements.{Stmt}
-use Rattle.blif_text.specs.Places.{tokenOf, tokensOf}
-use Rattle.blif_text.specs.Walk.{rowsFrom, stmtsFrom, StmtsAt}
+use Rattle.blif_text.specs.between.Places.{tokenOf, tokensOf}
+use Rattle.blif_text.specs.between.Walk.{rowsFrom, stmtsFrom, StmtsAt}
 use Rattle.blif_text.specs.declared.Statement.{Statement}
 use Rattle.blif_text.specs.declared.Statement.the-variants as place
 use Rattle.blif_text.proofs.RefusalLaws.{stmts-end}
-use Rattle.blif_declarations.specs.Rows.{Starts, RowIs, isCube, LinesAt}
+use Rattle.blif_declarations.specs.between.Rows.{Starts, RowIs, isCube, LinesAt}
 
 -- ---- a statement that is a cube line, and one that is none
 

@@ -7,13 +7,13 @@ use native.Mathlib.Omega.{arith}
 use lib.ListN.{length, take}
 use Rattle.lists.specs.Lists.{Bytes}
 use Rattle.blif_text.specs.Decls.{cover, Decl, gate, decls}
-use Rattle.blif_text.specs.Walk.{rowsFrom, stmtsFrom, RowsAt, StmtsAt}
+use Rattle.blif_text.specs.between.Walk.{rowsFrom, stmtsFrom, RowsAt, StmtsAt}
 use Rattle.blif_text.specs.declared.Run.{Run}
 use Rattle.blif_text.specs.declared.Statement.{Statement}
 use Rattle.blif_text.specs.declared.Statement.the-variants as place
 use Rattle.blif_text.proofs.RefusalLaws.{stmts-end}
-use Rattle.blif_declarations.specs.Rows.{names, RowIs, isCube, LinesAt}
-use Rattle.blif_declarations.specs.Declarations.{NextIs}
+use Rattle.blif_declarations.specs.between.Rows.{names, RowIs, isCube, LinesAt}
+use Rattle.blif_declarations.specs.between.Declarations.{NextIs}
 use Rattle.blif_declarations.specs.declared.Declaration.{Declaration}
 use Rattle.blif_declarations.specs.declared.Declaration.the-variants as next
 use Rattle.blif_declarations.proofs.RowStarts.{stmts-behind}

@@ -14,11 +14,11 @@ use Rattle.refusals.specs.declared.Refusal.the-variants as refusal
 use Rattle.refusals.specs.declared.Checked.the-variants.{Fine}
 use Rattle.refusals.proofs.Order.{refused-ne-fine}
 use Rattle.blif_text.specs.Statements.{Stmt, firstBad, stmts}
-use Rattle.blif_text.specs.Rows.{rowStmt}
-use Rattle.blif_text.specs.Places.{tokenOf, tokensOf, grouped}
+use Rattle.blif_text.specs.between.Rows.{rowStmt}
+use Rattle.blif_text.specs.between.Places.{tokenOf, tokensOf, grouped}
 use Rattle.blif_text.specs.Keywords.{keywordOf}
-use Rattle.blif_text.specs.PlacedStatements.{runTokens, parsedFrom, RowTo, statementOf, statementAt, refusalIn}
-use Rattle.blif_text.specs.Walk.{rowsFrom, stmtsFrom, RowsAt, StmtsAt}
+use Rattle.blif_text.specs.between.PlacedStatements.{runTokens, parsedFrom, RowTo, statementOf, statementAt, refusalIn}
+use Rattle.blif_text.specs.between.Walk.{rowsFrom, stmtsFrom, RowsAt, StmtsAt}
 use Rattle.blif_text.specs.declared.Keyword.{Keyword}
 use Rattle.blif_text.specs.declared.Keyword.the-variants as key
 use Rattle.blif_text.specs.declared.Run.{Run}
@@ -27,7 +27,7 @@ use Rattle.blif_text.specs.declared.Statement.the-variants as place
 use Rattle.blif_text.proofs.WordLaws.{drop-take}
 use Rattle.blif_text.proofs.RowWalk.{rows-end, rows-are}
 use Rattle.blif_text.proofs.RefusalLaws.{stmts-are, stmts-parsedFrom, stmts-next}
-use Rattle.blif_declarations.specs.Rows.{names, Starts, RowIs}
+use Rattle.blif_declarations.specs.between.Rows.{names, Starts, RowIs}
 
 -- ---- where a statement's places end
 

@@ -8,9 +8,9 @@ use blif_text::statement_at;
 ghost use mathlib.Core.Path.{_≡_};
 ghost use Prim.Native.Nat.{_<_};
 ghost use lib.ListN.{length};
-ghost use Rattle.blif_text.specs.Walk.{StmtsAt};
-ghost use Rattle.blif_declarations.specs.Rows.{RowIs, isCube, LinesAt};
-ghost use Rattle.blif_declarations.specs.Declarations.{NextIs, Declares};
+ghost use Rattle.blif_text.specs.between.Walk.{StmtsAt};
+ghost use Rattle.blif_declarations.specs.between.Rows.{RowIs, isCube, LinesAt};
+ghost use Rattle.blif_declarations.specs.between.Declarations.{NextIs, Declares};
 
 // A row of tokens: its statement, and where the next row starts.
 pub struct Row {

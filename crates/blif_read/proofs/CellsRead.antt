@@ -16,7 +16,7 @@ use Rattle.network.proofs.Lent.{laid-network}
 use Rattle.blif_reading.specs.Read.{Result, read, readText}
 use Rattle.blif_reading.proofs.ReadNet.{NetRead, read-net}
 use Rattle.blif_read.specs.Into.{Lengths, lengths, enough, ReadOutcome, filled, readInto}
-use Rattle.blif_read.specs.Stages.{Enough}
+use Rattle.blif_read.specs.between.Stages.{Enough}
 use Rattle.blif_read.proofs.Lending.{enough-cells}
 use Rattle.blif_read.proofs.Summary.{read-answers}
 

@@ -17,25 +17,26 @@ use Rattle.refusals.proofs.Order.{orElse-right}
 use Rattle.signal.specs.Cell.{sigCell, sigOf}
 use Rattle.network.specs.Net.{Net}
 use Rattle.network.specs.Sizes.{maxGates}
-use Rattle.network.specs.Cells.{lent, netOf, countsOf, Laid}
+use Rattle.network.specs.Cells.{lent, netOf, countsOf}
+use Rattle.network.specs.between.Cells.{Laid}
 use Rattle.network.specs.Record.{gateWidth, gateCells, pinCells}
 use Rattle.network.specs.declared.Counts.{Counts}
 use Rattle.network.proofs.Laying.{laid-overwrite}
 use Rattle.sort_order.specs.Sorted.{sorted, Preserved}
-use Rattle.sort.specs.Into.{SortOutcome, sortOutcome, sortInto}
-use Rattle.sort_order.specs.Sortable.{Sortable}
+use Rattle.sort.specs.between.Into.{SortOutcome, sortOutcome, sortInto}
+use Rattle.sort_order.specs.between.Sortable.{Sortable}
 use Rattle.sort.specs.declared.Sorted.{Sorted}
 use Rattle.sort.specs.declared.Sorted.the-variants.{Order, Loop}
 use Rattle.sort_order.proofs.Summary.{sorted-keeps}
 use Rattle.blif_text.specs.Statements.{parsed, firstBad}
 use Rattle.blif_text.specs.Lines.{maxText}
 use Rattle.blif_text.specs.Decls.{Def, outs, declsOf}
-use Rattle.blif_text.specs.Blocks.{defsAt}
+use Rattle.blif_text.specs.between.Blocks.{defsAt}
 use Rattle.blif_reading.specs.Read.{declFault, readFault, Result, read, refused, answer, signalOf, builtFrom, readText}
-use Rattle.blif_reading.specs.Working.{GatesIn, placed, builtGates, WorkRoom}
-use Rattle.blif_read_gates.specs.Covers.{Buildable, BuiltBy}
+use Rattle.blif_reading.specs.between.Working.{GatesIn, placed, builtGates, WorkRoom}
+use Rattle.blif_read_gates.specs.between.Covers.{Buildable, BuiltBy}
 use Rattle.blif_read_gates.specs.declared.Built.{Built}
-use Rattle.blif_read.specs.Stages.{Holds, Placing}
+use Rattle.blif_read.specs.between.Stages.{Holds, Placing}
 use Rattle.blif_read.specs.declared.ReadAnswer.{ReadAnswer}
 use Rattle.blif_read.specs.declared.ReadAnswer.the-variants.{Read, Refused}
 use Rattle.blif_reading.proofs.BuiltNet.{BuiltIn}

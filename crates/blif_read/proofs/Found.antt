@@ -9,10 +9,10 @@ use Rattle.lists.proofs.Tests.{by-test, and-left, and-right, and-false}
 use Rattle.refusals.specs.declared.Checked.the-variants.{Fine}
 use Rattle.signal.specs.Cell.{sigCell}
 use Rattle.blif_text.specs.Decls.{Decl, ins, outs, defs, defines, usedNames}
-use Rattle.name_index.specs.Search.{signalIn}
+use Rattle.name_index.specs.between.Search.{signalIn}
 use Rattle.blif_reading.specs.Read.{tooLarge, naming, undefined, signalOf}
-use Rattle.blif_read_names.specs.Entries.{entries}
-use Rattle.blif_read_signals.specs.Resolve.{isFound, Signals}
+use Rattle.blif_read_names.specs.between.Entries.{entries}
+use Rattle.blif_read_signals.specs.between.Resolve.{isFound, Signals}
 use Rattle.blif_read_names.proofs.EntryLaws.{entry-signal, entry-found}
 
 -- ---- a test of every element

@@ -13,7 +13,7 @@ use Rattle.network.specs.declared.Counts.{Counts}
 use Rattle.network.proofs.Laying.{length-gateCells}
 use Rattle.blif_reading.specs.Read.{Result, read, refused, readText}
 use Rattle.blif_read.specs.Into.{Lengths, enough, readOutcome, leaving, filled, readInto, answered}
-use Rattle.blif_read.specs.Stages.{countsIn, Holds}
+use Rattle.blif_read.specs.between.Stages.{countsIn, Holds}
 use Rattle.blif_read.specs.declared.ReadAnswer.{ReadAnswer}
 use Rattle.blif_read.specs.declared.ReadAnswer.the-variants.{Read, Refused}
 

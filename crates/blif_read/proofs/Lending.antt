@@ -13,7 +13,7 @@ use borrow.Author.Tests.{le-leb, lt-leb, leb-true}
 use Rattle.lists.specs.Lists.{zeros, overwrite}
 use Rattle.lists.proofs.Tests.{and-false, and-left, and-right}
 use Rattle.blif_read.specs.Into.{Lengths, lengths, enough}
-use Rattle.blif_read.specs.Stages.{Enough}
+use Rattle.blif_read.specs.between.Stages.{Enough}
 
 -- ---- refusal 1
 

@@ -14,20 +14,20 @@ use Rattle.refusals.specs.declared.Checked.the-variants.{Fine, Refused}
 use Rattle.signal.specs.Cell.{sigCell}
 use Rattle.network.specs.Sizes.{maxPins}
 use Rattle.blif_text.specs.Decls.{Def, latch, cover, Decl, decls, ins, outs, defs, defines, usedNames, declsOf}
-use Rattle.blif_text.specs.Places.{InText, tokensOf}
-use Rattle.blif_text.specs.Walk.{stmtsFrom, Inside}
-use Rattle.blif_text.specs.Blocks.{defsAt}
-use Rattle.name_index.specs.Search.{Entry, signalIn}
-use Rattle.name_index.specs.Index.{entriesOf}
+use Rattle.blif_text.specs.between.Places.{InText, tokensOf}
+use Rattle.blif_text.specs.between.Walk.{stmtsFrom, Inside}
+use Rattle.blif_text.specs.between.Blocks.{defsAt}
+use Rattle.name_index.specs.between.Search.{Entry, signalIn}
+use Rattle.name_index.specs.between.Index.{entriesOf}
 use Rattle.blif_reading.specs.Read.{pinCount, tooLarge, naming, undefined, coverFaults, readFault, refused, signalOf, readText}
-use Rattle.blif_reading.specs.Working.{GatesIn, placed, placedCount}
-use Rattle.blif_read_names.specs.Entries.{entries}
-use Rattle.blif_read_names.specs.Tables.{Tables}
+use Rattle.blif_reading.specs.between.Working.{GatesIn, placed, placedCount}
+use Rattle.blif_read_names.specs.between.Entries.{entries}
+use Rattle.blif_read_names.specs.between.Tables.{Tables}
 use Rattle.blif_read_names.specs.declared.Declared.{Declared}
-use Rattle.blif_read_signals.specs.Resolve.{isFound, allFound, Resolved, PlacedBy, Signals}
+use Rattle.blif_read_signals.specs.between.Resolve.{isFound, allFound, Resolved, PlacedBy, Signals}
 use Rattle.blif_read_signals.specs.declared.Placed.the-variants as answer
 use Rattle.blif_read_signals.proofs.Placing.{pins-found, refused-found}
-use Rattle.blif_read.specs.Stages.{Sized, Defining, Resolving, Placing}
+use Rattle.blif_read.specs.between.Stages.{Sized, Defining, Resolving, Placing}
 use Rattle.blif_reading.proofs.SizeLimits.{sizes-within}
 use Rattle.blif_read_names.proofs.DefiningGates.{defs-few}
 use Rattle.blif_read.proofs.Refusing.{refuses, refuses-refuseIf, goes-on, passes-refuseIf}

@@ -16,12 +16,12 @@ use Rattle.refusals.proofs.Order.{orElse-stop, orElse-go, refuseIf-yes, refuseI
 use Rattle.sort_order.specs.Sorted.{sorted}
 use Rattle.blif_text.specs.Statements.{parsed, firstBad}
 use Rattle.blif_text.specs.Decls.{decls, defs, declsOf}
-use Rattle.blif_text.specs.Places.{TokensMarked}
+use Rattle.blif_text.specs.between.Places.{TokensMarked}
 use Rattle.blif_text.specs.Lines.{maxText}
-use Rattle.blif_text.specs.Walk.{stmtsFrom}
+use Rattle.blif_text.specs.between.Walk.{stmtsFrom}
 use Rattle.blif_text.proofs.RefusalLaws.{stmts-start, stmts-all}
 use Rattle.blif_reading.specs.Read.{tooLarge, naming, undefined, coverFaults, declFault, readFault, Result, refused, answer, builtFrom, readText}
-use Rattle.blif_read.specs.Stages.{Holds, PlainText, Sized}
+use Rattle.blif_read.specs.between.Stages.{Holds, PlainText, Sized}
 use Rattle.blif_read.specs.declared.ReadAnswer.the-variants.{Refused}
 
 module _ (text : Bytes) where

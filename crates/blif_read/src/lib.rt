@@ -28,7 +28,7 @@ ghost use Rattle.lists.specs.Lists.{any, overwrite, zeros};
 ghost use Rattle.refusals.specs.declared.Checked.the-variants.{Fine};
 ghost use Rattle.blif_reading.specs.Read.{readFault, readText};
 ghost use Rattle.blif_read.specs.Into.{lengths, enough, readOutcome, readInto, answered};
-ghost use Rattle.blif_read.specs.Stages.{countsIn, Holds, Enough, PlainText, Sized, Defining, Resolving, Placing};
+ghost use Rattle.blif_read.specs.between.Stages.{countsIn, Holds, Enough, PlainText, Sized, Defining, Resolving, Placing};
 
 // The network's counts, or a refusal.
 pub enum ReadAnswer {

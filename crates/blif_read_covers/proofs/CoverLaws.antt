@@ -9,13 +9,13 @@ use lib.Seq.{slice, length-slice}
 use Rattle.lists.specs.Lists.{all, any}
 use Rattle.refusals.specs.Order.{_orElse_, refuseIf}
 use Rattle.refusals.specs.declared.Refusal.the-variants as refusal
-use Rattle.blif_text.specs.Places.{tokenOf, tokensOf}
-use Rattle.blif_text.specs.Walk.{rowsFrom}
+use Rattle.blif_text.specs.between.Places.{tokenOf, tokensOf}
+use Rattle.blif_text.specs.between.Walk.{rowsFrom}
 use Rattle.blif_text.specs.Decls.{isOne}
-use Rattle.blif_text.specs.Blocks.{defFrom}
+use Rattle.blif_text.specs.between.Blocks.{defFrom}
 use Rattle.blif_reading.specs.Read.{goodLine, coverFault}
 use Rattle.blif_read_covers.proofs.LineLaws.{linesFault}
-use Rattle.blif_read_covers.specs.Pass.{differ, linesIn}
+use Rattle.blif_read_covers.specs.between.Pass.{differ, linesIn}
 use Rattle.blif_read_covers.specs.declared.Outputs.{Outputs}
 
 -- no output yet

@@ -15,11 +15,11 @@ use Rattle.refusals.specs.Order.{_orElse_, refuseIf}
 use Rattle.refusals.specs.declared.Refusal.the-variants as refusal
 use Rattle.refusals.specs.declared.Checked.{Checked}
 use Rattle.refusals.specs.declared.Checked.the-variants.{Fine, Refused}
-use Rattle.blif_text.specs.Places.{tokenOf, tokensOf}
+use Rattle.blif_text.specs.between.Places.{tokenOf, tokensOf}
 use Rattle.blif_text.specs.Decls.{columns, output, isOne}
 use Rattle.blif_text.proofs.ColumnLaws.{row-count, last-output}
 use Rattle.blif_reading.specs.Read.{goodLine, isColumn}
-use Rattle.blif_read_covers.specs.Pass.{outputOf, withOutput, right, fits}
+use Rattle.blif_read_covers.specs.between.Pass.{outputOf, withOutput, right, fits}
 use Rattle.blif_read_covers.specs.declared.Output.{Output}
 use Rattle.blif_read_covers.specs.declared.Output.the-variants.{Zero, One, Wrong}
 use Rattle.blif_read_covers.specs.declared.Outputs.{Outputs}

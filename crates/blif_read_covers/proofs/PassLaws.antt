@@ -19,14 +19,14 @@ use Rattle.refusals.specs.declared.Refusal.the-variants as refusal
 use Rattle.refusals.specs.declared.Checked.{Checked}
 use Rattle.refusals.specs.declared.Checked.the-variants.{Fine, Refused}
 use Rattle.refusals.proofs.Order.{orElse-assoc}
-use Rattle.blif_text.specs.Places.{maxTokens, InText, tokenOf, tokensOf}
+use Rattle.blif_text.specs.between.Places.{maxTokens, InText, tokenOf, tokensOf}
 use Rattle.blif_text.specs.Decls.{columns}
-use Rattle.blif_text.specs.PlacedStatements.{RowTo}
-use Rattle.blif_text.specs.Walk.{rowsFrom, Inside, RowsAt}
-use Rattle.blif_text.specs.Blocks.{firstName, nameCount, lineCount, defFrom, defAt, defsAt, BlockIn, Blocks}
+use Rattle.blif_text.specs.between.PlacedStatements.{RowTo}
+use Rattle.blif_text.specs.between.Walk.{rowsFrom, Inside, RowsAt}
+use Rattle.blif_text.specs.between.Blocks.{firstName, nameCount, lineCount, defFrom, defAt, defsAt, BlockIn, Blocks}
 use Rattle.blif_text.proofs.RowWalk.{inside-less, rows-end, rows-next, rows-are}
 use Rattle.blif_reading.specs.Read.{coverFault, coverFaults, isColumn}
-use Rattle.blif_read_covers.specs.Pass.{outputOf, withOutput, differ, fits, linesIn}
+use Rattle.blif_read_covers.specs.between.Pass.{outputOf, withOutput, differ, fits, linesIn}
 use Rattle.blif_read_covers.specs.declared.Output.{Output}
 use Rattle.blif_read_covers.specs.declared.Outputs.{Outputs}
 use Rattle.blif_read_covers.proofs.CoverLaws.{noOutput, block-fault, latch-none, cover-lines, none-left}

@@ -9,9 +9,9 @@ use refusals::Checked;
 use refusals::Refusal;
 ghost use mathlib.Core.Path.{_≡_};
 ghost use Prim.Native.Nat.{_-_, _<_};
-ghost use Rattle.blif_text.specs.Blocks.{defsAt, Blocks};
+ghost use Rattle.blif_text.specs.between.Blocks.{defsAt, Blocks};
 ghost use Rattle.blif_reading.specs.Read.{coverFaults, isColumn};
-ghost use Rattle.blif_read_covers.specs.Pass.{outputOf, withOutput, differ, fits, linesIn};
+ghost use Rattle.blif_read_covers.specs.between.Pass.{outputOf, withOutput, differ, fits, linesIn};
 
 // What a line's last token says of its output.
 enum Output {

@@ -10,15 +10,15 @@ use borrow.Author.Tests.{not-false}
 use Rattle.lists.specs.Lists.{Bytes, all}
 use Rattle.network.specs.Record.{countAt}
 use Rattle.blif_text.specs.Decls.{Def, cover}
-use Rattle.blif_text.specs.Places.{maxTokens, tokensOf}
-use Rattle.blif_text.specs.Walk.{rowsFrom}
-use Rattle.blif_text.specs.Blocks.{firstName, nameCount, lineCount, defFrom, defAt, BlockIn, Blocks}
+use Rattle.blif_text.specs.between.Places.{maxTokens, tokensOf}
+use Rattle.blif_text.specs.between.Walk.{rowsFrom}
+use Rattle.blif_text.specs.between.Blocks.{firstName, nameCount, lineCount, defFrom, defAt, BlockIn, Blocks}
 use Rattle.blif_text.proofs.BlockLaws.{cover-from}
 use Rattle.blif_reading.specs.Read.{goodLine, added, coverFault}
 use Rattle.refusals.specs.declared.Refusal.the-variants as refusal
 use Rattle.refusals.specs.declared.Checked.the-variants.{Fine}
 use Rattle.refusals.proofs.Order.{orElse-left, fine-refuseIf}
-use Rattle.blif_read_gates.specs.Steps.{GoodRows, CoverRoom, CoverBuilt, BlockRoom, BlockBuilt}
+use Rattle.blif_read_gates.specs.between.Steps.{GoodRows, CoverRoom, CoverBuilt, BlockRoom, BlockBuilt}
 use Rattle.blif_read_gates.proofs.GateLaws.{kept-none}
 
 -- the cells of block j's record are these

@@ -16,12 +16,12 @@ use Rattle.blif_meaning.specs.Model.{Block}
 use Rattle.blif_reading.specs.Build.{blockGate, newGates, blockGates, allNewGates}
 use Rattle.blif_reading.specs.TextModel.{blockOf}
 use Rattle.blif_reading.proofs.WorkingLaws.{gate-parts}
-use Rattle.blif_reading.specs.Working.{GateIn, GatesIn, placed}
+use Rattle.blif_reading.specs.between.Working.{GateIn, GatesIn, placed}
 use Rattle.blif_reading.proofs.ModelToBuilt.{blockGates-length}
 use Rattle.blif_read_gates.specs.declared.Built.{Built}
-use Rattle.blif_read_gates.specs.Pins.{builtPins}
-use Rattle.blif_read_gates.specs.Covers.{Buildable, BuiltBy}
-use Rattle.blif_read_gates.specs.Steps.{addedOf, addedPins, BlockRoom, BlockBuilt}
+use Rattle.blif_read_gates.specs.between.Pins.{builtPins}
+use Rattle.blif_read_gates.specs.between.Covers.{Buildable, BuiltBy}
+use Rattle.blif_read_gates.specs.between.Steps.{addedOf, addedPins, BlockRoom, BlockBuilt}
 use Rattle.blif_read_gates.proofs.Counting.{placed-long, blockGates-append, newGates-append, newGates-long, take-next, sum-next, sum-part, pins-split, gates-split, no-fault, built-few}
 use Rattle.blif_read_gates.proofs.LinesLaws.{append-place, one-place}
 

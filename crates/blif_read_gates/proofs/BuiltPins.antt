@@ -17,9 +17,9 @@ use Rattle.blif_text.specs.Decls.{Def, latch, cover, coverIns, columns, isOne}
 use Rattle.blif_reading.specs.Build.{literals, lineGate, coverGate, lineGates, blockGate, newGates, blockGates, allNewGates}
 use Rattle.blif_reading.specs.TextModel.{colOfByte, lineOf, blockOf}
 use Rattle.blif_reading.specs.Read.{goodLine, coverFault, coverFaults}
-use Rattle.blif_reading.specs.Working.{builtGates}
-use Rattle.blif_read_gates.specs.Pins.{literalPins, linePins, coverPins, builtPins}
-use Rattle.blif_read_gates.specs.Steps.{literalCells, lineCells}
+use Rattle.blif_reading.specs.between.Working.{builtGates}
+use Rattle.blif_read_gates.specs.between.Pins.{literalPins, linePins, coverPins, builtPins}
+use Rattle.blif_read_gates.specs.between.Steps.{literalCells, lineCells}
 use Rattle.blif_read_gates.proofs.CellLaws.{literals-sig, line-sig}
 use Rattle.blif_read_gates.proofs.JoinLaws.{run-long}
 use Rattle.blif_read_gates.proofs.RowLaws.{two-tokens}

@@ -8,7 +8,8 @@ use lib.Dec.{eqb}
 use lib.ListN.{length, getD, take, drop, length-append, length-map}
 use lib.Seq.{take-take, getD-take, drop-cons}
 use borrow.Author.Tests.{eq-eqb, ne-eqb}
-use Rattle.lists.specs.Lists.{Bytes, overwriteAt}
+use Rattle.lists.specs.Lists.{Bytes}
+use Rattle.lists.specs.between.Lists.{overwriteAt}
 use Rattle.lists.proofs.OverAt.{run-before, overwriteAt-same, overwriteAt-again}
 use Rattle.lists.proofs.Places.{run-within, length-run}
 use Rattle.signal.specs.Signal.{Node, Const, Input, Var, Signal, invert, zeroS, oneS}
@@ -18,13 +19,14 @@ use Rattle.gates.specs.Gate.{pins}
 use Rattle.blif_meaning.specs.Model.{Col, C0, C1, Dash}
 use Rattle.blif_reading.specs.Build.{literals, literalGate}
 use Rattle.blif_reading.specs.TextModel.{colOfByte}
-use Rattle.gates.specs.Decode.{pinsIn, pinCount}
+use Rattle.gates.specs.between.Decode.{pinsIn, pinCount}
 use Rattle.gates.specs.declared.Gate.the-variants as G
 use Rattle.gates.specs.declared.NaryType.the-variants as N
 use Rattle.gates.specs.declared.PinRun.{PinRun}
-use Rattle.network.specs.Record.{recordOf, handRecord, RunFrom}
+use Rattle.network.specs.Record.{recordOf}
+use Rattle.network.specs.between.Record.{handRecord, RunFrom}
 use Rattle.network.proofs.RecordCells.{hand-buf, hand-nary}
-use Rattle.blif_read_gates.specs.Steps.{turnCell, columnCells, literalCells, singleCell, lineCells, lineInHand}
+use Rattle.blif_read_gates.specs.between.Steps.{turnCell, columnCells, literalCells, singleCell, lineCells, lineInHand}
 
 -- ---- lists with the same front
 

@@ -15,16 +15,16 @@ use Rattle.lists.proofs.Range.{length-range, map-range}
 use Rattle.signal.specs.Signal.{Signal}
 use Rattle.gates.specs.Gate.{Gate, pins}
 use Rattle.blif_text.specs.Decls.{Def, latch, cover, coverIns}
-use Rattle.blif_text.specs.Blocks.{defAt, defsAt}
+use Rattle.blif_text.specs.between.Blocks.{defAt, defsAt}
 use Rattle.blif_meaning.specs.Model.{Block, Line}
 use Rattle.blif_reading.specs.Build.{lineGate, lineGates, blockGate, newGates, blockGates, allNewGates}
 use Rattle.blif_reading.specs.Read.{gateCount, pinCount, added, coverFault, coverFaults}
 use Rattle.blif_reading.specs.TextModel.{lineOf, blockOf}
-use Rattle.blif_reading.specs.Working.{placed, placedCount}
+use Rattle.blif_reading.specs.between.Working.{placed, placedCount}
 use Rattle.refusals.specs.declared.Checked.the-variants.{Fine}
 use Rattle.refusals.proofs.Order.{orElse-left, orElse-right}
-use Rattle.blif_read_gates.specs.Pins.{builtPins}
-use Rattle.blif_read_gates.specs.Steps.{addedOf, addedPins}
+use Rattle.blif_read_gates.specs.between.Pins.{builtPins}
+use Rattle.blif_read_gates.specs.between.Steps.{addedOf, addedPins}
 use Rattle.blif_read_gates.proofs.PinLaws.{cover-few}
 use Rattle.blif_read_gates.proofs.CoverLaws.{added-many}
 use Rattle.blif_read_gates.proofs.BlockLaws.{cover-good}

@@ -7,30 +7,32 @@ use native.Mathlib.Omega.{arith}
 use lib.ListN.{length, getD, getElem?, take, drop, length-map}
 use lib.Seq.{drop-cons, length-take-le}
 use borrow.Author.Tests.{lt-ltb}
-use Rattle.lists.specs.Lists.{Bytes, all, overwriteAt}
+use Rattle.lists.specs.Lists.{Bytes, all}
+use Rattle.lists.specs.between.Lists.{overwriteAt}
 use Rattle.lists.proofs.OverAt.{length-overwriteAt}
 use Rattle.lists.proofs.Tests.{and-left}
 use Rattle.signal.specs.Signal.{Signal, zeroS}
 use Rattle.signal.specs.Cell.{sigCell}
 use Rattle.gates.specs.Gate.{OrN, AndN, Buf, Gate, Comb}
 use Rattle.network.specs.Sizes.{maxGates, maxPins}
-use Rattle.gates.specs.Decode.{pinCount}
+use Rattle.gates.specs.between.Decode.{pinCount}
 use Rattle.gates.specs.declared.Gate as code
 use Rattle.gates.specs.declared.Gate.the-variants as G
 use Rattle.gates.specs.declared.NaryType.the-variants as N
 use Rattle.signal.specs.declared.Signal as signal
-use Rattle.network.specs.Record.{gateWidth, recordOf, RecordIn, handRecord, LayRoom, GateLaid, firstAt, countAt}
+use Rattle.network.specs.Record.{gateWidth, recordOf, firstAt, countAt}
+use Rattle.network.specs.between.Record.{RecordIn, handRecord, LayRoom, GateLaid}
 use Rattle.network.proofs.RecordCells.{record-in, length-handRecord, hand-buf, hand-nary}
 use Rattle.blif_reading.proofs.WorkingLaws.{gate-run}
 use Rattle.blif_text.specs.Decls.{columns, isOne}
-use Rattle.blif_text.specs.PlacedStatements.{RowTo}
-use Rattle.blif_text.specs.Walk.{rowsFrom}
+use Rattle.blif_text.specs.between.PlacedStatements.{RowTo}
+use Rattle.blif_text.specs.between.Walk.{rowsFrom}
 use Rattle.blif_text.proofs.RowWalk.{inside-less, row-there, rows-are}
 use Rattle.blif_reading.specs.Build.{lineGate, gateRun, coverGate, lineGates}
 use Rattle.blif_reading.specs.Read.{goodLine, added}
 use Rattle.blif_reading.specs.TextModel.{lineOf}
-use Rattle.blif_reading.specs.Working.{GateIn}
-use Rattle.blif_read_gates.specs.Steps.{joinInHand, LineRoom, LinePut, rowTokens, GoodRow, GatesKept, GoodRows, LinesRoom, LinesPut, CoverRoom, CoverBuilt}
+use Rattle.blif_reading.specs.between.Working.{GateIn}
+use Rattle.blif_read_gates.specs.between.Steps.{joinInHand, LineRoom, LinePut, rowTokens, GoodRow, GatesKept, GoodRows, LinesRoom, LinesPut, CoverRoom, CoverBuilt}
 use Rattle.blif_read_gates.proofs.CellLaws.{run-front}
 use Rattle.blif_read_gates.proofs.JoinLaws.{joinCells, run-long}
 use Rattle.blif_read_gates.proofs.RowLaws.{row-wide}

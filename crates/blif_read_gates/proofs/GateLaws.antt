@@ -5,22 +5,24 @@ use mathlib.Core.List.{List, map}
 use Prim.Native.Nat.{ℕ, _+_, _*_, _≤_, _<_}
 use native.Mathlib.Omega.{arith}
 use lib.ListN.{length, take, drop, length-map}
-use Rattle.lists.specs.Lists.{Bytes, overwriteAt}
+use Rattle.lists.specs.Lists.{Bytes}
+use Rattle.lists.specs.between.Lists.{overwriteAt}
 use Rattle.lists.proofs.OverAt.{length-overwriteAt, run-overwriteAt}
 use Rattle.signal.specs.Signal.{Signal}
 use Rattle.signal.specs.Cell.{sigCell}
 use Rattle.gates.specs.Gate.{Gate, pins}
 use Rattle.network.specs.Sizes.{maxPins}
-use Rattle.gates.specs.Decode as decode
-use Rattle.gates.specs.Decode.{pinCount}
+use Rattle.gates.specs.between.Decode as decode
+use Rattle.gates.specs.between.Decode.{pinCount}
 use Rattle.gates.specs.declared.Gate as code
-use Rattle.network.specs.Record.{gateWidth, recordOf, RecordIn, handRecord, RunFrom, LayRoom, GateLaid}
+use Rattle.network.specs.Record.{gateWidth, recordOf}
+use Rattle.network.specs.between.Record.{RecordIn, handRecord, RunFrom, LayRoom, GateLaid}
 use Rattle.network.proofs.RecordCells.{record-in, length-handRecord}
 use Rattle.blif_reading.specs.Build.{literals, literalGate}
 use Rattle.blif_reading.specs.TextModel.{colOfByte}
-use Rattle.blif_reading.specs.Working.{GateIn}
+use Rattle.blif_reading.specs.between.Working.{GateIn}
 use Rattle.blif_reading.proofs.WorkingLaws.{record-kept, run-kept, used-more, gate-written}
-use Rattle.blif_read_gates.specs.Steps.{literalCells, literalsAt, lineCells, lineInHand, LineRoom, LinePut, GatesKept}
+use Rattle.blif_read_gates.specs.between.Steps.{literalCells, literalsAt, lineCells, lineInHand, LineRoom, LinePut, GatesKept}
 use Rattle.blif_read_gates.proofs.LiteralLaws.{LaidAt}
 use Rattle.blif_read_gates.proofs.CellLaws.{overwrite-front, front-less, literals-sig, literals-few, line-sig, record-sig, line-few, hand-long, hand-from, hand-pins}
 

@@ -4,9 +4,10 @@ use mathlib.Core.List.{List, _∷_, map}
 use Prim.Native.Nat.{ℕ, zero, suc, _+_, _-_, _^_, _≤_, _<_}
 use native.Mathlib.Omega.{arith}
 use lib.ListN.{length, set}
-use Rattle.lists.specs.Lists.{overwriteAt}
+use Rattle.lists.specs.between.Lists.{overwriteAt}
 use Rattle.lists.proofs.Laying.{Laying, laying-start, laying-next, laying-done}
-use Rattle.signal.specs.Cell.{sigCell, gateCell}
+use Rattle.signal.specs.Cell.{sigCell}
+use Rattle.signal.specs.between.Cell.{gateCell}
 use Rattle.signal.proofs.Cells.{gate-cell}
 use Rattle.network.specs.Sizes.{maxGates}
 use Rattle.blif_reading.specs.Build.{gateRun}

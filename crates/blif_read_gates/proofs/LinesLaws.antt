@@ -17,15 +17,15 @@ use Rattle.signal.specs.Signal.{Signal}
 use Rattle.signal.specs.Cell.{sigCell}
 use Rattle.gates.specs.Gate.{Gate}
 use Rattle.blif_text.specs.Decls.{columns, isOne}
-use Rattle.blif_text.specs.PlacedStatements.{RowTo}
-use Rattle.blif_text.specs.Walk.{rowsFrom, RowsAt}
+use Rattle.blif_text.specs.between.PlacedStatements.{RowTo}
+use Rattle.blif_text.specs.between.Walk.{rowsFrom, RowsAt}
 use Rattle.blif_text.proofs.RowWalk.{inside-less, row-there, rows-next, rows-are}
 use Rattle.blif_reading.specs.Build.{lineGate}
 use Rattle.blif_reading.specs.Read.{goodLine}
 use Rattle.blif_reading.specs.TextModel.{lineOf}
-use Rattle.blif_reading.specs.Working.{GateIn}
-use Rattle.blif_read_gates.specs.Pins.{linePins}
-use Rattle.blif_read_gates.specs.Steps.{LineRoom, LinePut, rowTokens, GoodRow, GoodRows, LinesRoom, LinesPut}
+use Rattle.blif_reading.specs.between.Working.{GateIn}
+use Rattle.blif_read_gates.specs.between.Pins.{linePins}
+use Rattle.blif_read_gates.specs.between.Steps.{LineRoom, LinePut, rowTokens, GoodRow, GoodRows, LinesRoom, LinesPut}
 use Rattle.blif_read_gates.proofs.CellLaws.{run-front}
 use Rattle.blif_read_gates.proofs.RowLaws.{row-wide}
 use Rattle.blif_read_gates.proofs.GateLaws.{kept-none, kept-then, kept-some, room-wide, line-kept, line-same, line-gate}

@@ -8,13 +8,14 @@ use lib.Dec.{eqb}
 use lib.ListN.{length, getD, take, drop, set, length-append, drop-of-length-le}
 use lib.Seq.{getD-take, getD-drop}
 use borrow.Author.Tests.{eq-eqb, ne-eqb}
-use Rattle.lists.specs.Lists.{Bytes, overwriteAt}
+use Rattle.lists.specs.Lists.{Bytes}
+use Rattle.lists.specs.between.Lists.{overwriteAt}
 use Rattle.lists.proofs.OverAt.{overwriteAt-nil}
 use Rattle.lists.proofs.Laying.{one-store, Laying, laying-start, laying-more, laying-done}
 use Rattle.lists.proofs.Places.{drop-next, length-run}
 use Rattle.signal.specs.Signal.{zeroS, xorS}
 use Rattle.signal.specs.Cell.{sigCell, sigOf}
-use Rattle.blif_read_gates.specs.Steps.{turnCell, columnCells, literalCells, literalsAt, singleCell}
+use Rattle.blif_read_gates.specs.between.Steps.{turnCell, columnCells, literalCells, literalsAt, singleCell}
 use Rattle.blif_read_gates.proofs.CellLaws.{overwrite-front, front-at, front-less, one-literal}
 
 -- ---- one column

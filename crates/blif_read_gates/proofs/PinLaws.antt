@@ -14,8 +14,8 @@ use Rattle.lists.proofs.Places.{length-run}
 use Rattle.lists.proofs.Tests.{by-test, and-left, and-right}
 use Rattle.blif_text.specs.Decls.{columns}
 use Rattle.blif_reading.specs.Read.{goodLine}
-use Rattle.blif_read_gates.specs.Pins.{literalCount, literalPins, linePins, coverPins}
-use Rattle.blif_read_gates.specs.Steps.{columnCells, literalCells, lineCells, LinePut}
+use Rattle.blif_read_gates.specs.between.Pins.{literalCount, literalPins, linePins, coverPins}
+use Rattle.blif_read_gates.specs.between.Steps.{columnCells, literalCells, lineCells, LinePut}
 use Rattle.blif_read_gates.proofs.CellLaws.{literals-few}
 use Rattle.blif_read_gates.proofs.RowLaws.{two-tokens}
 

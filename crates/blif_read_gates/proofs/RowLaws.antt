@@ -10,10 +10,10 @@ use borrow.Author.Tests.{eqb-true}
 use Rattle.lists.specs.Lists.{Bytes, same, elem}
 use Rattle.lists.proofs.Tests.{by-test, and-left, and-right}
 use Rattle.blif_text.specs.Decls.{columns, isOne}
-use Rattle.blif_text.specs.Places.{InText, tokenOf}
+use Rattle.blif_text.specs.between.Places.{InText, tokenOf}
 use Rattle.blif_text.proofs.ColumnLaws.{row-count, last-output}
 use Rattle.blif_reading.specs.Read.{goodLine}
-use Rattle.blif_read_gates.specs.Steps.{rowTokens, GoodRow}
+use Rattle.blif_read_gates.specs.between.Steps.{rowTokens, GoodRow}
 
 -- what a good line's tokens are: its output, or its columns and its output
 pub record TwoTokens (n : ℕ) (ts : List Bytes) : Type 0 where

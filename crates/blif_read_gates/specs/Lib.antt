@@ -1,3 +1,1 @@
-pub mod Pins
-pub mod Covers
-pub mod Steps
+pub mod between

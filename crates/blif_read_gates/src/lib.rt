@@ -15,19 +15,21 @@ ghost use mathlib.Core.Path.{_≡_};
 ghost use mathlib.Core.List.{[], _∷_, map};
 ghost use Prim.Native.Nat.{_+_, _*_, _≤_, _<_};
 ghost use lib.ListN.{length, getD, take, drop};
-ghost use Rattle.lists.specs.Lists.{overwriteAt, same};
+ghost use Rattle.lists.specs.Lists.{same};
+ghost use Rattle.lists.specs.between.Lists.{overwriteAt};
 ghost use Rattle.signal.specs.Cell.{sigCell};
 ghost use Rattle.network.specs.Sizes.{maxGates};
-ghost use Rattle.network.specs.Record.{RecordIn, firstAt, countAt};
+ghost use Rattle.network.specs.Record.{firstAt, countAt};
+ghost use Rattle.network.specs.between.Record.{RecordIn};
 ghost use Rattle.blif_text.specs.Decls.{columns, isOne};
-ghost use Rattle.blif_text.specs.Places.{InText, tokenOf};
-ghost use Rattle.blif_text.specs.Walk.{rowsFrom};
-ghost use Rattle.blif_text.specs.Blocks.{defAt, defsAt, Blocks};
+ghost use Rattle.blif_text.specs.between.Places.{InText, tokenOf};
+ghost use Rattle.blif_text.specs.between.Walk.{rowsFrom};
+ghost use Rattle.blif_text.specs.between.Blocks.{defAt, defsAt, Blocks};
 ghost use Rattle.blif_reading.specs.Build.{gateRun};
 ghost use Rattle.blif_reading.specs.Read.{added};
-ghost use Rattle.blif_read_gates.specs.Covers.{Buildable, BuiltBy};
-ghost use Rattle.blif_read_gates.specs.Steps.{columnCells, literalsAt, singleCell, lineInHand, joinInHand, LineRoom, LinePut};
-ghost use Rattle.blif_read_gates.specs.Steps.{rowTokens, GoodRow, GoodRows, LinesRoom, LinesPut, CoverRoom, CoverBuilt, BlockRoom, BlockBuilt};
+ghost use Rattle.blif_read_gates.specs.between.Covers.{Buildable, BuiltBy};
+ghost use Rattle.blif_read_gates.specs.between.Steps.{columnCells, literalsAt, singleCell, lineInHand, joinInHand, LineRoom, LinePut};
+ghost use Rattle.blif_read_gates.specs.between.Steps.{rowTokens, GoodRow, GoodRows, LinesRoom, LinesPut, CoverRoom, CoverBuilt, BlockRoom, BlockBuilt};
 
 // How many gates are built, and how many pins are in use.
 pub struct Built {

@@ -8,22 +8,22 @@ use lib.ListN.{length, take}
 use lib.Seq.{slice, length-slice}
 use Rattle.lists.specs.Lists.{Bytes}
 use Rattle.blif_text.specs.Decls.{Decl, decls}
-use Rattle.blif_text.specs.Walk.{stmtsFrom, Inside, StmtsAt}
+use Rattle.blif_text.specs.between.Walk.{stmtsFrom, Inside, StmtsAt}
 use Rattle.blif_text.specs.declared.Run.{Run}
 use Rattle.blif_text.proofs.RowWalk.{inside-less}
-use Rattle.blif_declarations.specs.Rows.{names}
-use Rattle.blif_declarations.specs.Declarations.{NextIs}
+use Rattle.blif_declarations.specs.between.Rows.{names}
+use Rattle.blif_declarations.specs.between.Declarations.{NextIs}
 use Rattle.blif_declarations.specs.declared.Declaration.the-variants as next
 use Rattle.blif_declarations.proofs.RowStarts.{names-length}
-use Rattle.name_index.specs.Search.{Entry}
-use Rattle.name_index.specs.Index.{entriesOf, Index}
+use Rattle.name_index.specs.between.Search.{Entry}
+use Rattle.name_index.specs.between.Index.{entriesOf, Index}
 use Rattle.refusals.specs.Order.{_orElse_, refuseIf}
 use Rattle.refusals.specs.declared.Refusal.the-variants as refusal
 use Rattle.refusals.specs.declared.Checked.{Checked}
 use Rattle.refusals.specs.declared.Checked.the-variants.{Fine, Refused}
 use Rattle.blif_reading.specs.Read.{naming}
-use Rattle.blif_read_names.specs.Entries.{inputEntries}
-use Rattle.blif_read_names.specs.Naming.{namesIn, InputsEntered, walkAt, stepOf, TablesTo, NamingSoFar, Steps, stops, goes}
+use Rattle.blif_read_names.specs.between.Entries.{inputEntries}
+use Rattle.blif_read_names.specs.between.Naming.{namesIn, InputsEntered, walkAt, stepOf, TablesTo, NamingSoFar, Steps, stops, goes}
 use Rattle.blif_read_names.specs.declared.Walk.{Walk}
 use Rattle.blif_read_names.specs.declared.Step.{Step}
 use Rattle.blif_read_names.specs.declared.Step.the-variants as step

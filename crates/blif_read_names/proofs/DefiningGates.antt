@@ -10,22 +10,22 @@ use Rattle.lists.proofs.Places.{getD-any}
 use Rattle.lists.proofs.Tests.{by-order}
 use Rattle.blif_meaning.specs.Model.{LatchDef, plainLatch}
 use Rattle.blif_text.specs.Decls.{Def, latch, cover, gate, decls, defs, coverOut, defines}
-use Rattle.blif_text.specs.Places.{tokenOf}
-use Rattle.blif_text.specs.Walk.{rowsFrom, stmtsFrom, StmtsAt}
-use Rattle.blif_text.specs.Blocks.{defFrom, defsAt, BlockIn}
+use Rattle.blif_text.specs.between.Places.{tokenOf}
+use Rattle.blif_text.specs.between.Walk.{rowsFrom, stmtsFrom, StmtsAt}
+use Rattle.blif_text.specs.between.Blocks.{defFrom, defsAt, BlockIn}
 use Rattle.blif_text.specs.declared.Block.{Block}
 use Rattle.blif_text.specs.declared.Run.{Run}
 use Rattle.blif_text.proofs.BlockLaws.{cover-from}
-use Rattle.blif_declarations.specs.Rows.{names}
-use Rattle.blif_declarations.specs.Declarations.{NextIs}
+use Rattle.blif_declarations.specs.between.Rows.{names}
+use Rattle.blif_declarations.specs.between.Declarations.{NextIs}
 use Rattle.blif_declarations.specs.declared.Declaration.the-variants as next
 use Rattle.blif_declarations.proofs.RowStarts.{names-length}
-use Rattle.name_index.specs.Index.{entriesOf}
+use Rattle.name_index.specs.between.Index.{entriesOf}
 use Rattle.refusals.specs.Order.{_orElse_, refuseIf}
 use Rattle.refusals.specs.declared.Refusal.the-variants as refusal
 use Rattle.refusals.specs.declared.Checked.{Checked}
 use Rattle.blif_reading.specs.Read.{gateCount, naming}
-use Rattle.blif_read_names.specs.Naming.{namesIn, GateDefined, walkAt, gateWalk, stepOf, LatchStep, CoverStep, NamingSoFar, Steps, stops}
+use Rattle.blif_read_names.specs.between.Naming.{namesIn, GateDefined, walkAt, gateWalk, stepOf, LatchStep, CoverStep, NamingSoFar, Steps, stops}
 use Rattle.blif_read_names.specs.declared.Walk.{Walk}
 use Rattle.blif_read_names.specs.declared.Step.{Step}
 use Rattle.blif_read_names.specs.declared.Step.the-variants as step

@@ -8,25 +8,27 @@ use native.Mathlib.Numerals.{add-one}
 use lib.ListN.{length, getD, take, set, length-map}
 use lib.Seq.{slice, slice-cons, slice-empty, length-slice, take-add}
 use borrow.Author.Tests.{not-true, not-false}
-use Rattle.lists.specs.Lists.{Bytes, known, overwriteAt}
+use Rattle.lists.specs.Lists.{Bytes, known}
+use Rattle.lists.specs.between.Lists.{overwriteAt}
 use Rattle.lists.proofs.OverAt.{run-before, run-overwriteAt}
 use Rattle.lists.proofs.Laying.{Laying, laying-start, laying-next, laying-done}
 use Rattle.signal.specs.Signal.{Input, plain}
-use Rattle.signal.specs.Cell.{sigCell, gateCell, inputCell}
+use Rattle.signal.specs.Cell.{sigCell}
+use Rattle.signal.specs.between.Cell.{gateCell, inputCell}
 use Rattle.signal.proofs.Cells.{gate-cell, input-cell}
-use Rattle.blif_text.specs.Places.{tokenOf, tokensOf}
-use Rattle.blif_text.specs.Walk.{Inside}
-use Rattle.blif_text.specs.Blocks.{blockWidth}
+use Rattle.blif_text.specs.between.Places.{tokenOf, tokensOf}
+use Rattle.blif_text.specs.between.Walk.{Inside}
+use Rattle.blif_text.specs.between.Blocks.{blockWidth}
 use Rattle.blif_text.specs.declared.Block.{Block}
 use Rattle.blif_text.proofs.WordLaws.{slice-snoc}
-use Rattle.name_index.specs.Search.{Entry, entry}
-use Rattle.name_index.specs.Index.{entriesOf, Index, Entered}
+use Rattle.name_index.specs.between.Search.{Entry, entry}
+use Rattle.name_index.specs.between.Index.{entriesOf, Index, Entered}
 use Rattle.refusals.specs.declared.Refusal.the-variants as refusal
 use Rattle.refusals.specs.declared.Checked.the-variants.{Fine, Refused}
 use Rattle.refusals.proofs.Order.{refused-ne-fine, refuseIf-yes, refuseIf-no}
 use Rattle.blif_reading.specs.Read.{definedTwice}
-use Rattle.blif_read_names.specs.Entries.{inputEntries}
-use Rattle.blif_read_names.specs.Naming.{namesIn, InputsFit, InputsEntered, GateFits, GateDefined}
+use Rattle.blif_read_names.specs.between.Entries.{inputEntries}
+use Rattle.blif_read_names.specs.between.Naming.{namesIn, InputsFit, InputsEntered, GateFits, GateDefined}
 
 -- ---- lists
 

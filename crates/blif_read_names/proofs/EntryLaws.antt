@@ -19,13 +19,13 @@ use Rattle.refusals.specs.declared.Checked.the-variants.{Fine}
 use Rattle.signal.specs.Signal.{Signal, Input, Var, plain}
 use Rattle.signal.specs.Cell.{sigCell}
 use Rattle.blif_text.specs.Decls.{Def, Decl, model, end, inputs, outputs, gate, insOf, defsOf, ins, defs, defines}
-use Rattle.name_index.specs.Search.{Entry, signalIn}
+use Rattle.name_index.specs.between.Search.{Entry, signalIn}
 use Rattle.blif_reading.specs.Lookup.{byte-names}
 use Rattle.blif_reading.specs.TextModel.{blockOf, modelOf}
 use Rattle.blif_reading.specs.Read.{tooLarge, naming, signalOf}
 use Rattle.blif_reading.proofs.Lookups.{looks}
 use Rattle.blif_reading.proofs.Passed.{target-of, once-of}
-use Rattle.blif_read_names.specs.Entries.{inputEntries, entries}
+use Rattle.blif_read_names.specs.between.Entries.{inputEntries, entries}
 use Rattle.blif_reading.proofs.SizeLimits.{sizes-within}
 use Rattle.blif_read_names.proofs.Defining.{input-names}
 

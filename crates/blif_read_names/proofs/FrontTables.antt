@@ -10,13 +10,13 @@ use Rattle.lists.specs.Lists.{Bytes}
 use Rattle.refusals.specs.declared.Checked.{Checked}
 use Rattle.blif_meaning.specs.Model.{plainLatch}
 use Rattle.blif_text.specs.Decls.{latch, cover, Decl, decls}
-use Rattle.blif_text.specs.Places.{tokenOf, tokensOf}
-use Rattle.blif_text.specs.Walk.{stmtsFrom, Inside}
-use Rattle.blif_text.specs.Blocks.{firstName, nameCount, lineCount, defFrom, defAt, BlockIn}
+use Rattle.blif_text.specs.between.Places.{tokenOf, tokensOf}
+use Rattle.blif_text.specs.between.Walk.{stmtsFrom, Inside}
+use Rattle.blif_text.specs.between.Blocks.{firstName, nameCount, lineCount, defFrom, defAt, BlockIn}
 use Rattle.blif_declarations.proofs.FrontLaws.{length-front, cell-front, rows-front, decls-front, rows-back}
 use Rattle.name_index.proofs.EntryLaws.{map-range-same}
 use Rattle.blif_reading.specs.Read.{naming}
-use Rattle.blif_read_names.specs.Tables.{Named, Tables}
+use Rattle.blif_read_names.specs.between.Tables.{Named, Tables}
 
 module _ (text tokens : List ℕ) (n : ℕ) (p : Inside text tokens n) where
   -- the first n tokens

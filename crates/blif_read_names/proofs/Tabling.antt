@@ -6,20 +6,21 @@ use native.Mathlib.Omega.{arith}
 use native.Mathlib.Numerals.{add-one}
 use lib.ListN.{length, getD, take, length-append, length-map, List·getD-append}
 use lib.Seq.{slice, getD-take, getD-drop, getD-append-add, length-take-le}
-use Rattle.lists.specs.Lists.{Bytes, overwriteAt}
+use Rattle.lists.specs.Lists.{Bytes}
+use Rattle.lists.specs.between.Lists.{overwriteAt}
 use Rattle.lists.proofs.Tests.{by-order}
 use Rattle.lists.proofs.OverAt.{length-overwriteAt, overwriteAt-before, overwriteAt-inside}
 use Rattle.signal.specs.Signal.{Var, plain}
 use Rattle.signal.specs.Cell.{sigCell}
 use Rattle.blif_text.specs.Decls.{Def, Decl, model, end, inputs, outputs, gate, insOf, outsOf, defsOf, ins, outs, defs, defines}
-use Rattle.blif_text.specs.Places.{InText, tokenOf, tokensOf}
-use Rattle.blif_text.specs.Walk.{Inside}
-use Rattle.blif_text.specs.Blocks.{blockWidth, firstName, nameCount, lineCount, defFrom, defAt, defsAt, BlockIn, Blocks}
-use Rattle.name_index.specs.Search.{Entry, entry}
-use Rattle.name_index.specs.Index.{entriesOf, Index}
+use Rattle.blif_text.specs.between.Places.{InText, tokenOf, tokensOf}
+use Rattle.blif_text.specs.between.Walk.{Inside}
+use Rattle.blif_text.specs.between.Blocks.{blockWidth, firstName, nameCount, lineCount, defFrom, defAt, defsAt, BlockIn, Blocks}
+use Rattle.name_index.specs.between.Search.{Entry, entry}
+use Rattle.name_index.specs.between.Index.{entriesOf, Index}
 use Rattle.name_index.proofs.EntryLaws.{map-range-last, map-range-same}
-use Rattle.blif_read_names.specs.Entries.{inputEntries, entries}
-use Rattle.blif_read_names.specs.Naming.{TablesTo}
+use Rattle.blif_read_names.specs.between.Entries.{inputEntries, entries}
+use Rattle.blif_read_names.specs.between.Naming.{TablesTo}
 
 -- ---- a record behind the others
 

@@ -10,21 +10,21 @@ use Rattle.refusals.specs.declared.Refusal.{Refusal}
 use Rattle.refusals.specs.declared.Checked.the-variants.{Fine, Refused}
 use Rattle.network.specs.Sizes.{maxGates, maxOutputs}
 use Rattle.blif_text.specs.Decls.{Def, Decl, gate, decls, ins, outs, defs}
-use Rattle.blif_text.specs.Places.{maxTokens, tokensOf}
-use Rattle.blif_text.specs.Walk.{stmtsFrom, StmtsAt}
-use Rattle.blif_text.specs.Blocks.{blockWidth, defsAt}
+use Rattle.blif_text.specs.between.Places.{maxTokens, tokensOf}
+use Rattle.blif_text.specs.between.Walk.{stmtsFrom, StmtsAt}
+use Rattle.blif_text.specs.between.Blocks.{blockWidth, defsAt}
 use Rattle.blif_text.specs.declared.Block.{Block}
 use Rattle.blif_text.specs.declared.Run.{Run}
 use Rattle.blif_text.proofs.RowWalk.{inside-less}
-use Rattle.blif_declarations.specs.Declarations.{NextIs}
+use Rattle.blif_declarations.specs.between.Declarations.{NextIs}
 use Rattle.blif_declarations.specs.declared.Declaration.the-variants as next
 use Rattle.blif_declarations.proofs.RowStarts.{names-length}
 use Rattle.blif_declarations.proofs.NextLaws.{decls-end}
-use Rattle.name_index.specs.Index.{indexCells, entriesOf, Index}
+use Rattle.name_index.specs.between.Index.{indexCells, entriesOf, Index}
 use Rattle.name_index.proofs.IndexLaws.{index-empty}
 use Rattle.blif_reading.specs.Read.{tooLarge, naming}
-use Rattle.blif_read_names.specs.Naming.{namesIn, InputsFit, CoverFits, walkAt, LatchFits, TablesTo, NamingSoFar, Steps, stops, goes}
-use Rattle.blif_read_names.specs.Tables.{Tables, DefinedBy}
+use Rattle.blif_read_names.specs.between.Naming.{namesIn, InputsFit, CoverFits, walkAt, LatchFits, TablesTo, NamingSoFar, Steps, stops, goes}
+use Rattle.blif_read_names.specs.between.Tables.{Tables, DefinedBy}
 use Rattle.blif_read_names.specs.declared.Walk.{Walk}
 use Rattle.blif_read_names.specs.declared.Step.the-variants as step
 use Rattle.blif_read_names.specs.declared.Defined.the-variants as defined

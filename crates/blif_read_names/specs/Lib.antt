@@ -1,3 +1,1 @@
-pub mod Entries
-pub mod Tables
-pub mod Naming
+pub mod between

@@ -19,14 +19,14 @@ ghost use lib.Seq.{slice};
 ghost use Rattle.lists.specs.Lists.{zeros};
 ghost use Rattle.network.specs.Sizes.{maxGates, maxOutputs};
 ghost use Rattle.blif_text.specs.Decls.{decls};
-ghost use Rattle.blif_text.specs.Places.{maxTokens, tokenOf};
-ghost use Rattle.blif_text.specs.Walk.{stmtsFrom, StmtsAt};
-ghost use Rattle.blif_text.specs.Blocks.{blockWidth};
-ghost use Rattle.blif_declarations.specs.Declarations.{NextIs};
-ghost use Rattle.name_index.specs.Index.{indexCells};
+ghost use Rattle.blif_text.specs.between.Places.{maxTokens, tokenOf};
+ghost use Rattle.blif_text.specs.between.Walk.{stmtsFrom, StmtsAt};
+ghost use Rattle.blif_text.specs.between.Blocks.{blockWidth};
+ghost use Rattle.blif_declarations.specs.between.Declarations.{NextIs};
+ghost use Rattle.name_index.specs.between.Index.{indexCells};
 ghost use Rattle.blif_reading.specs.Read.{tooLarge};
-ghost use Rattle.blif_read_names.specs.Naming.{InputsFit, InputsEntered, GateFits, GateDefined, CoverFits, CoverDefined, stepOf, LatchFits, LatchStep, CoverStep, NamingSoFar, Steps};
-ghost use Rattle.blif_read_names.specs.Tables.{DefinedBy};
+ghost use Rattle.blif_read_names.specs.between.Naming.{InputsFit, InputsEntered, GateFits, GateDefined, CoverFits, CoverDefined, stepOf, LatchFits, LatchStep, CoverStep, NamingSoFar, Steps};
+ghost use Rattle.blif_read_names.specs.between.Tables.{DefinedBy};
 
 // How many inputs, gates and outputs are declared.
 pub struct Declared {

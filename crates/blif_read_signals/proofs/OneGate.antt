@@ -7,7 +7,8 @@ use Prim.Native.Nat.{ℕ, zero, suc, _+_, _-_, _*_, _≤_, _<_}
 use native.Mathlib.Omega.{arith}
 use lib.ListN.{length, getD, take, drop, set, length-take, length-drop, length-map}
 use lib.Seq.{slice, drop-cons, getD-take, getD-drop, length-slice}
-use Rattle.lists.specs.Lists.{Bytes, all, overwriteAt}
+use Rattle.lists.specs.Lists.{Bytes, all}
+use Rattle.lists.specs.between.Lists.{overwriteAt}
 use Rattle.lists.proofs.OverAt.{overwrite-three, part-laid}
 use Rattle.lists.proofs.Places.{run-within}
 use Rattle.lists.proofs.Laying.{one-store}
@@ -16,17 +17,18 @@ use Rattle.gates.specs.Forms.{formNumber, flopNumber}
 use Rattle.signal.specs.declared.Signal as signal
 use Rattle.gates.specs.declared.Gate as code
 use Rattle.gates.specs.declared.Gate.the-variants as G
-use Rattle.network.specs.Record.{gateWidth, handRecord, LayRoom, GateLaid}
+use Rattle.network.specs.Record.{gateWidth}
+use Rattle.network.specs.between.Record.{handRecord, LayRoom, GateLaid}
 use Rattle.network.proofs.RecordCells.{record-in}
 use Rattle.blif_meaning.specs.Model.{plainLatch}
-use Rattle.blif_text.specs.Places.{tokenOf, tokensOf}
-use Rattle.blif_text.specs.Walk.{rowsFrom, Inside}
+use Rattle.blif_text.specs.between.Places.{tokenOf, tokensOf}
+use Rattle.blif_text.specs.between.Walk.{rowsFrom, Inside}
 use Rattle.blif_text.specs.Decls.{Def, latch, cover, coverIns, usedNames}
-use Rattle.blif_text.specs.Blocks.{firstName, nameCount, lineCount, defFrom, defAt, Blocks}
+use Rattle.blif_text.specs.between.Blocks.{firstName, nameCount, lineCount, defFrom, defAt, Blocks}
 use Rattle.blif_text.proofs.BlockLaws.{cover-from}
-use Rattle.blif_reading.specs.Working.{placedCount}
-use Rattle.blif_read_signals.specs.Resolve.{isFound, placedTo, Resolved}
-use Rattle.blif_read_signals.specs.Steps.{NamesAt, GateRoom, andInHand, GatePlaced, DefPlaced}
+use Rattle.blif_reading.specs.between.Working.{placedCount}
+use Rattle.blif_read_signals.specs.between.Resolve.{isFound, placedTo, Resolved}
+use Rattle.blif_read_signals.specs.between.Steps.{NamesAt, GateRoom, andInHand, GatePlaced, DefPlaced}
 use Rattle.blif_read_signals.specs.declared.Placed.{Placed}
 use Rattle.blif_read_signals.specs.declared.Placed.the-variants as answer
 use Rattle.refusals.specs.declared.Refusal.the-variants as refusal

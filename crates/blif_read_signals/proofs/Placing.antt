@@ -8,7 +8,8 @@ use native.Mathlib.Omega.{arith}
 use native.Mathlib.Nat.{sub-zero}
 use native.Mathlib.Decide.{ℕ-discrete}
 use lib.ListN.{length, getElem?, length-take, length-map}
-use Rattle.lists.specs.Lists.{Bytes, all, range, sumOf, overwriteAt}
+use Rattle.lists.specs.Lists.{Bytes, all, range, sumOf}
+use Rattle.lists.specs.between.Lists.{overwriteAt}
 use Rattle.lists.proofs.Tests.{and-left, and-right}
 use Rattle.lists.proofs.OverAt.{length-overwriteAt}
 use Rattle.lists.proofs.Places.{map-map, place-lt}
@@ -18,16 +19,17 @@ use Rattle.signal.specs.Cell.{sigCell}
 use Rattle.gates.specs.Gate.{Gate, pins}
 use Rattle.network.specs.Sizes.{maxGates, maxPins}
 use Rattle.gates.specs.declared.NaryType.the-variants as N
-use Rattle.network.specs.Record.{gateWidth, recordOf, handRecord}
+use Rattle.network.specs.Record.{gateWidth, recordOf}
+use Rattle.network.specs.between.Record.{handRecord}
 use Rattle.network.proofs.RecordCells.{record-in, hand-dff, hand-nary, length-handRecord}
 use Rattle.blif_text.specs.Decls.{Def, latch, cover, coverIns, usedNames}
-use Rattle.blif_text.specs.Blocks.{Blocks}
+use Rattle.blif_text.specs.between.Blocks.{Blocks}
 use Rattle.blif_meaning.specs.WellFormed.{optName}
 use Rattle.blif_reading.specs.Build.{optSig}
-use Rattle.blif_reading.specs.Working.{GateIn, placed, placedCount, WorkRoom}
+use Rattle.blif_reading.specs.between.Working.{GateIn, placed, placedCount, WorkRoom}
 use Rattle.blif_reading.proofs.WorkingLaws.{record-kept, run-kept, used-more, gate-written}
-use Rattle.blif_read_signals.specs.Resolve.{isFound, allFound, placedTo, Signals, PlacedBy}
-use Rattle.blif_read_signals.specs.Steps.{GateRoom, placedInHand, optCell, placedRun, DefPlaced}
+use Rattle.blif_read_signals.specs.between.Resolve.{isFound, allFound, placedTo, Signals, PlacedBy}
+use Rattle.blif_read_signals.specs.between.Steps.{GateRoom, placedInHand, optCell, placedRun, DefPlaced}
 use Rattle.blif_read_signals.specs.declared.Placed.{Placed}
 use Rattle.blif_read_signals.specs.declared.Placed.the-variants as answer
 use Rattle.refusals.specs.declared.Refusal.{Refusal}

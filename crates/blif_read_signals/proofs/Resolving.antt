@@ -9,8 +9,8 @@ use borrow.Author.Tests.{ne-eqb}
 use Rattle.lists.specs.Lists.{Bytes, all}
 use Rattle.lists.proofs.Places.{drop-next}
 use Rattle.lists.proofs.Laying.{Laying, laying-start, laying-next, laying-done}
-use Rattle.blif_text.specs.Places.{tokenOf, tokensOf}
-use Rattle.blif_read_signals.specs.Resolve.{isFound, Resolved}
+use Rattle.blif_text.specs.between.Places.{tokenOf, tokensOf}
+use Rattle.blif_read_signals.specs.between.Resolve.{isFound, Resolved}
 
 -- the signals of the names from i on
 abbrev pub left : (Bytes → ℕ) → List ℕ → List ℕ → ℕ → List ℕ

@@ -1,2 +1,1 @@
-pub mod Resolve
-pub mod Steps
+pub mod between

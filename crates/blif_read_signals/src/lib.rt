@@ -16,14 +16,14 @@ ghost use Rattle.lists.specs.Lists.{sumOf};
 ghost use Rattle.network.specs.Sizes.{maxGates, maxPins};
 ghost use Rattle.blif_meaning.specs.Model.{plainLatch};
 ghost use Rattle.blif_text.specs.Decls.{latch};
-ghost use Rattle.blif_text.specs.Places.{tokenOf, tokensOf};
-ghost use Rattle.blif_text.specs.Walk.{Inside};
-ghost use Rattle.blif_text.specs.Blocks.{defAt, defsAt, Blocks};
-ghost use Rattle.name_index.specs.Search.{signalIn};
-ghost use Rattle.name_index.specs.Index.{entriesOf, Index};
-ghost use Rattle.blif_reading.specs.Working.{placedCount, WorkRoom};
-ghost use Rattle.blif_read_signals.specs.Resolve.{Resolved, PlacedBy};
-ghost use Rattle.blif_read_signals.specs.Steps.{NamesAt, GateRoom, andInHand, GatePlaced, DefPlaced};
+ghost use Rattle.blif_text.specs.between.Places.{tokenOf, tokensOf};
+ghost use Rattle.blif_text.specs.between.Walk.{Inside};
+ghost use Rattle.blif_text.specs.between.Blocks.{defAt, defsAt, Blocks};
+ghost use Rattle.name_index.specs.between.Search.{signalIn};
+ghost use Rattle.name_index.specs.between.Index.{entriesOf, Index};
+ghost use Rattle.blif_reading.specs.between.Working.{placedCount, WorkRoom};
+ghost use Rattle.blif_read_signals.specs.between.Resolve.{Resolved, PlacedBy};
+ghost use Rattle.blif_read_signals.specs.between.Steps.{NamesAt, GateRoom, andInHand, GatePlaced, DefPlaced};
 
 // How many pins are in use, or the refusal of a name that is not defined.
 pub enum Placed {

@@ -7,16 +7,16 @@ use native.Mathlib.Omega.{arith}
 use lib.ListN.{length}
 use Rattle.lists.specs.Lists.{sumOf}
 use Rattle.lists.proofs.Tests.{by-test}
-use Rattle.network.specs.Sizes.{WithinSizes}
+use Rattle.network.specs.between.Sizes.{WithinSizes}
 use Rattle.blif_text.specs.Decls.{Decl, decls, ins, outs, defs}
-use Rattle.blif_text.specs.Places.{maxTokens}
-use Rattle.blif_text.specs.Walk.{stmtsFrom, StmtsAt}
-use Rattle.blif_declarations.specs.Declarations.{declAt, NextIs}
+use Rattle.blif_text.specs.between.Places.{maxTokens}
+use Rattle.blif_text.specs.between.Walk.{stmtsFrom, StmtsAt}
+use Rattle.blif_declarations.specs.between.Declarations.{declAt, NextIs}
 use Rattle.blif_declarations.specs.declared.Declaration.{Declaration}
 use Rattle.blif_declarations.proofs.NextLaws.{decls-end}
 use Rattle.blif_reading.specs.Read.{gateCount, pinCount, overSizes, tooLarge}
 use Rattle.blif_reading.proofs.SizeLimits.{not-over, within-over, sizes-within}
-use Rattle.blif_read_sizes.specs.Sizes.{Few, sizes, sizesOf, Added, Totals}
+use Rattle.blif_read_sizes.specs.between.Sizes.{Few, sizes, sizesOf, Added, Totals}
 use Rattle.blif_read_sizes.specs.declared.Sizes.{Sizes}
 use Rattle.blif_read_sizes.proofs.SizeLaws.{counts-of, totals-more, few-of}
 

@@ -13,17 +13,17 @@ use Rattle.lists.specs.Lists.{if_then_else_, sumOf}
 use Rattle.lists.proofs.Counting.{sum-append}
 use Rattle.lists.proofs.Places.{flatMap-append}
 use Rattle.blif_text.specs.Decls.{Def, Decl, insOf, outsOf, defsOf, ins, outs, defs}
-use Rattle.blif_text.specs.Places.{maxTokens}
-use Rattle.blif_text.specs.Walk.{rowsFrom}
+use Rattle.blif_text.specs.between.Places.{maxTokens}
+use Rattle.blif_text.specs.between.Walk.{rowsFrom}
 use Rattle.blif_text.specs.declared.Block.{Block}
 use Rattle.blif_text.specs.declared.Run.{Run}
-use Rattle.blif_declarations.specs.Rows.{names}
-use Rattle.blif_declarations.specs.Declarations.{declAt, CoverIn, PlacesIn}
+use Rattle.blif_declarations.specs.between.Rows.{names}
+use Rattle.blif_declarations.specs.between.Declarations.{declAt, CoverIn, PlacesIn}
 use Rattle.blif_declarations.specs.declared.Declaration.{Declaration}
 use Rattle.blif_declarations.specs.declared.Declaration.the-variants as next
 use Rattle.blif_declarations.proofs.RowStarts.{names-length}
 use Rattle.blif_reading.specs.Read.{added, gateCount, pinCount, overSizes}
-use Rattle.blif_read_sizes.specs.Sizes.{Few, sizes, sizesOf, Added, Totals}
+use Rattle.blif_read_sizes.specs.between.Sizes.{Few, sizes, sizesOf, Added, Totals}
 use Rattle.blif_read_sizes.specs.declared.Sizes.{Sizes}
 
 -- ---- a size that is passed

@@ -8,12 +8,12 @@ use network::MAX_PINS;
 ghost use mathlib.Core.Path.{_≡_};
 ghost use Prim.Native.Nat.{_+_, _-_, _*_, _≤_};
 ghost use lib.ListN.{length};
-ghost use Rattle.network.specs.Sizes.{WithinSizes};
+ghost use Rattle.network.specs.between.Sizes.{WithinSizes};
 ghost use Rattle.blif_text.specs.Decls.{decls};
-ghost use Rattle.blif_text.specs.Places.{maxTokens};
-ghost use Rattle.blif_text.specs.Walk.{stmtsFrom, StmtsAt};
+ghost use Rattle.blif_text.specs.between.Places.{maxTokens};
+ghost use Rattle.blif_text.specs.between.Walk.{stmtsFrom, StmtsAt};
 ghost use Rattle.blif_reading.specs.Read.{added, overSizes, tooLarge};
-ghost use Rattle.blif_read_sizes.specs.Sizes.{Few, sizesOf, Added};
+ghost use Rattle.blif_read_sizes.specs.between.Sizes.{Few, sizesOf, Added};
 
 // How many inputs, outputs, gates and pins are declared.
 struct Sizes {

@@ -21,7 +21,7 @@ use Rattle.blif_meaning.specs.Model.{Col, C0, C1, Dash, Line}
 use Rattle.blif_reading.specs.Build.{literals, literalGate, lineGate, gateRun, coverGate, lineGates, blockGate, newGates, blockGates, allNewGates}
 use Rattle.blif_reading.specs.TextModel.{lineOf, blockOf}
 use Rattle.blif_reading.specs.Read.{added, gateCount, pinCount}
-use Rattle.blif_reading.specs.Working.{builtGates}
+use Rattle.blif_reading.specs.between.Working.{builtGates}
 use Rattle.blif_reading.proofs.ModelToBuilt.{blockGates-length}
 
 -- ---- sums

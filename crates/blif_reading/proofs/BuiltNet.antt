@@ -24,12 +24,12 @@ use Rattle.network.specs.Sizes.{maxGates, maxPins}
 use Rattle.network.specs.Record.{gateWidth, gateAt, pinCells}
 use Rattle.network.specs.declared.Counts.{Counts}
 use Rattle.network.proofs.Lent.{valid-small}
-use Rattle.sort_order.specs.Sortable.{Sortable}
+use Rattle.sort_order.specs.between.Sortable.{Sortable}
 use Rattle.blif_text.specs.Decls.{Decl, ins, outs, defs}
 use Rattle.blif_reading.specs.Read.{declFault, signalOf, builtFrom}
 use Rattle.network.proofs.RecordCells.{record-runs, gate-there}
 use Rattle.blif_reading.proofs.WorkingLaws.{gate-parts, gate-run}
-use Rattle.blif_reading.specs.Working.{GateIn, GatesIn, builtGates}
+use Rattle.blif_reading.specs.between.Working.{GateIn, GatesIn, builtGates}
 use Rattle.blif_reading.proofs.SizeLimits.{Sized, sizes-within}
 use Rattle.blif_reading.proofs.BuiltCounts.{built-gates, built-pins, built-formed}
 use Rattle.blif_reading.proofs.Passed.{passed, passed-valid}

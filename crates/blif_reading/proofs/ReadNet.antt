@@ -9,7 +9,7 @@ use Rattle.lists.specs.Lists.{Bytes, sumOf}
 use Rattle.lists.proofs.Every.{every-place}
 use Rattle.gates.specs.Gate.{Gate}
 use Rattle.network.specs.Net.{Net, Valid, Formed, Feeds, Path, last, more, Loop}
-use Rattle.network.specs.Sizes.{WithinSizes}
+use Rattle.network.specs.between.Sizes.{WithinSizes}
 use Rattle.network.specs.Record.{pinCells}
 use Rattle.sort_order.specs.Sorted.{sorted}
 use Rattle.sort_order.proofs.Summary.{sorted-keeps, inputs-lower}

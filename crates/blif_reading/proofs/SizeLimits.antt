@@ -8,7 +8,8 @@ use lib.ListN.{length}
 use borrow.Author.Tests.{le-ltb, ltb-false}
 use Rattle.lists.specs.Lists.{sumOf}
 use Rattle.lists.proofs.Tests.{or-left, or-right}
-use Rattle.network.specs.Sizes.{maxInputs, maxOutputs, maxGates, maxPins, WithinSizes}
+use Rattle.network.specs.Sizes.{maxInputs, maxOutputs, maxGates, maxPins}
+use Rattle.network.specs.between.Sizes.{WithinSizes}
 use Rattle.blif_text.specs.Decls.{Decl, ins, outs, defs}
 use Rattle.blif_reading.specs.Read.{gateCount, pinCount, overSizes, tooLarge}
 

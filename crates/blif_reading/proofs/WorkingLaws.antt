@@ -5,13 +5,14 @@ use mathlib.Core.Logic.{_⊎_, inl, ⊎-elim}
 use Prim.Native.Nat.{ℕ, _+_, _*_, _≤_}
 use native.Mathlib.Omega.{arith}
 use lib.ListN.{length, take, drop, length-map}
-use Rattle.lists.specs.Lists.{overwriteAt}
+use Rattle.lists.specs.between.Lists.{overwriteAt}
 use Rattle.lists.proofs.OverAt.{run-before, drop-behind, run-overwriteAt}
 use Rattle.signal.specs.Cell.{sigCell}
 use Rattle.gates.specs.Gate.{Gate, pins}
-use Rattle.network.specs.Record.{gateWidth, recordOf, recordAt, firstAt, countAt, runAt, RecordIn}
+use Rattle.network.specs.Record.{gateWidth, recordOf, firstAt, countAt, runAt}
+use Rattle.network.specs.between.Record.{recordAt, RecordIn}
 use Rattle.network.proofs.RecordCells.{RecordIs, record-is, length-recordOf, recordAt-written, recordAt-apart, recordIn-written}
-use Rattle.blif_reading.specs.Working.{GateIn}
+use Rattle.blif_reading.specs.between.Working.{GateIn}
 
 -- ---- what the record and the run of a gate tell
 

@@ -2,7 +2,7 @@
 use mathlib.Core.Path.{_≡_, refl}
 use mathlib.Core.List.{List}
 use Prim.Native.Nat.{ℕ, zero, suc}
-use Rattle.blif_text.specs.Blocks.{coverFrom, defFrom}
+use Rattle.blif_text.specs.between.Blocks.{coverFrom, defFrom}
 
 -- a record with names is a cover's
 pub cover-from : (text tokens : List ℕ) (n first names lines : ℕ) → (names ≡ 0 → ⊥)

@@ -4,8 +4,8 @@ use mathlib.Core.Bool.{true, false}
 use mathlib.Core.List.{[], _∷_, _++_, headD}
 use Rattle.lists.specs.Lists.{bytes}
 use Rattle.blif_text.specs.Lines.{consFirst, split, cut, continues, before, isBlank, nonEmpty}
-use Rattle.blif_text.specs.PlaceRows.{crBeforeLf, placeLines, kept, placeTokens, placeRows}
-use Rattle.blif_text.specs.Places.{tokenCell, rowCells, rowsCells, tokenCells}
+use Rattle.blif_text.specs.between.PlaceRows.{crBeforeLf, placeLines, kept, placeTokens, placeRows}
+use Rattle.blif_text.specs.between.Places.{tokenCell, rowCells, rowsCells, tokenCells}
 
 -- what a comment holds is no token; equal names stand each at its place; a statement goes on behind a backslash, CR and LF, and another
 -- follows; without LF the CR stays, and so does the backslash before it

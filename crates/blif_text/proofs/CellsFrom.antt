@@ -12,9 +12,9 @@ use Rattle.lists.specs.Lists.{Bytes, range}
 use Rattle.lists.proofs.Range.{length-range}
 use Rattle.lists.proofs.Tests.{by-order, by-test}
 use Rattle.blif_text.specs.Lines.{continues, isBlank}
-use Rattle.blif_text.specs.PlaceRows.{byteAt, bytesAt, crBeforeLf, placeLines, placeTokens, placeRows}
-use Rattle.blif_text.specs.Places.{tokenCell, placesCell, rowCells, rowsCells}
-use Rattle.blif_text.specs.Scan.{endsWord, NoneTo, SpacesTo, LineAfter, StopTo, at-end, at-lf, cellsFrom}
+use Rattle.blif_text.specs.between.PlaceRows.{byteAt, bytesAt, crBeforeLf, placeLines, placeTokens, placeRows}
+use Rattle.blif_text.specs.between.Places.{tokenCell, placesCell, rowCells, rowsCells}
+use Rattle.blif_text.specs.between.Scan.{endsWord, NoneTo, SpacesTo, LineAfter, StopTo, at-end, at-lf, cellsFrom}
 use Rattle.blif_text.proofs.Loops.{none-as}
 use Rattle.blif_text.proofs.Parts.{firstOf, restOf}
 use Rattle.blif_text.proofs.ScanBytes.{word-blank, not-lf, space-blank, stop-le}

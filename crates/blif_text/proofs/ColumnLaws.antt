@@ -7,7 +7,7 @@ use lib.ListN.{length, getD, length-map}
 use lib.Seq.{slice, slice-empty, slice-cons, length-slice}
 use Rattle.lists.proofs.Tests.{by-order}
 use Rattle.blif_text.specs.Decls.{columns, output}
-use Rattle.blif_text.specs.Places.{tokenOf, tokensOf}
+use Rattle.blif_text.specs.between.Places.{tokenOf, tokensOf}
 
 module _ (text tokens : List ℕ) (row end : ℕ) (l : row < end) (r : end ≤ length tokens) where
   -- a token for each cell

@@ -7,7 +7,7 @@ use lib.ListN.{length, take}
 use Rattle.lists.specs.Lists.{Bytes, filter}
 use Rattle.lists.proofs.Tests.{by-test}
 use Rattle.blif_text.specs.Lines.{split, cut, continues, before, joined, isBlank, nonEmpty, tokens}
-use Rattle.blif_text.specs.Rows.{lineRows}
+use Rattle.blif_text.specs.between.Rows.{lineRows}
 use Rattle.blif_text.proofs.Parts.{full-skip, firstOf, restOf, first-cons, rest-cons}
 
 -- at a blank: go on

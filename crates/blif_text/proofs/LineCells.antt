@@ -11,9 +11,9 @@ use borrow.Author.Tests.{eqb-true}
 use Rattle.lists.specs.Lists.{if_then_else_, Bytes, any}
 use Rattle.lists.proofs.Tests.{by-test, or-left, or-right}
 use Rattle.blif_text.specs.Lines.{split, cut, continues, before, isBlank, nonEmpty}
-use Rattle.blif_text.specs.PlaceRows.{byteAt, bytesAt, kept, placeTokens, placeRows}
-use Rattle.blif_text.specs.Places.{placesCell, rowCells, rowsCells}
-use Rattle.blif_text.specs.Scan.{endsWord}
+use Rattle.blif_text.specs.between.PlaceRows.{byteAt, bytesAt, kept, placeTokens, placeRows}
+use Rattle.blif_text.specs.between.Places.{placesCell, rowCells, rowsCells}
+use Rattle.blif_text.specs.between.Scan.{endsWord}
 use Rattle.blif_text.proofs.ScanBytes.{word-plain, word-blank, blank-of, blank-not, backslash-word, hash-word}
 use Rattle.blif_text.proofs.Parts.{Without, full-skip, full-end, full-last, firstOf, restOf}
 

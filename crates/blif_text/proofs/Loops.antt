@@ -10,9 +10,9 @@ use Rattle.lists.specs.Lists.{Bytes, any}
 use Rattle.lists.proofs.Places.{length-run, place-mem, place-getD}
 use Rattle.lists.proofs.Range.{any-none}
 use Rattle.lists.proofs.Tests.{by-order}
-use Rattle.blif_text.specs.Places.{isFirst}
-use Rattle.blif_text.specs.PlacedStatements.{RowTo}
-use Rattle.blif_text.specs.Scan.{NoneTo, SpacesTo}
+use Rattle.blif_text.specs.between.Places.{isFirst}
+use Rattle.blif_text.specs.between.PlacedStatements.{RowTo}
+use Rattle.blif_text.specs.between.Scan.{NoneTo, SpacesTo}
 
 -- where none passes, no element does
 none-passes : (p : ℕ → Bool) (l : List ℕ) → any p l ≡ false → (k : ℕ) → k < length l → p (getD l k 0) ≡ false

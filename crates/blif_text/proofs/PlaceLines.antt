@@ -13,8 +13,8 @@ use Rattle.lists.specs.Lists.{Bytes, filter, range}
 use Rattle.lists.proofs.Range.{range-cons, range-end}
 use Rattle.lists.proofs.Tests.{by-order, by-test, and-left, and-right}
 use Rattle.blif_text.specs.Lines.{consFirst, split, isBlank}
-use Rattle.blif_text.specs.PlaceRows.{byteAt, crBeforeLf, placeLines}
-use Rattle.blif_text.specs.Scan.{NoneTo, StopTo, at-end, at-lf, at-cr}
+use Rattle.blif_text.specs.between.PlaceRows.{byteAt, crBeforeLf, placeLines}
+use Rattle.blif_text.specs.between.Scan.{NoneTo, StopTo, at-end, at-lf, at-cr}
 use Rattle.blif_text.proofs.ScanBytes.{not-lf, not-cr}
 use Rattle.blif_text.proofs.Parts.{firstOf, restOf, first-cons, rest-cons}
 

@@ -11,8 +11,8 @@ use lib.Seq.{drop-cons}
 use Rattle.lists.specs.Lists.{Bytes, filter, range}
 use Rattle.lists.proofs.Tests.{by-test}
 use Rattle.blif_text.specs.Lines.{consFirst, split, dropCR, lines, cut, continues, before, isBlank, nonEmpty, tokens}
-use Rattle.blif_text.specs.Rows.{lineRows}
-use Rattle.blif_text.specs.PlaceRows.{byteAt, bytesAt, crBeforeLf, placeLines, kept, placeTokens, placeRows}
+use Rattle.blif_text.specs.between.Rows.{lineRows}
+use Rattle.blif_text.specs.between.PlaceRows.{byteAt, bytesAt, crBeforeLf, placeLines, kept, placeTokens, placeRows}
 
 -- ---- parts
 

@@ -11,10 +11,10 @@ use Rattle.refusals.specs.declared.Checked.{Checked}
 use Rattle.refusals.specs.declared.Checked.the-variants.{Fine, Refused}
 use Rattle.refusals.proofs.Order.{orElse-left, orElse-right, orElse-stop, orElse-go}
 use Rattle.blif_text.specs.Statements.{Parsed, parsed, firstBad, stmts, refusalOf}
-use Rattle.blif_text.specs.Rows.{rowStmt}
-use Rattle.blif_text.specs.Places.{TokensMarked}
-use Rattle.blif_text.specs.PlacedStatements.{parsedFrom, RowTo, statementAt, refusalIn}
-use Rattle.blif_text.specs.Walk.{rowsFrom, stmtsFrom, RowsAt, StmtsAt}
+use Rattle.blif_text.specs.between.Rows.{rowStmt}
+use Rattle.blif_text.specs.between.Places.{TokensMarked}
+use Rattle.blif_text.specs.between.PlacedStatements.{parsedFrom, RowTo, statementAt, refusalIn}
+use Rattle.blif_text.specs.between.Walk.{rowsFrom, stmtsFrom, RowsAt, StmtsAt}
 use Rattle.blif_text.specs.declared.Statement.{Statement}
 use Rattle.blif_text.specs.declared.Statement.the-variants as place
 use Rattle.blif_text.proofs.RowLaws.{parsed-rows}

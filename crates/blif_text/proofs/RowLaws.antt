@@ -6,9 +6,9 @@ use Prim.Native.Nat.{ℕ}
 use Rattle.lists.specs.Lists.{Bytes}
 use Rattle.blif_text.specs.Lines.{lines, nonEmpty}
 use Rattle.blif_text.specs.Statements.{Parsed, stmtOf, parsedLine, parsed}
-use Rattle.blif_text.specs.Rows.{lineRows, fullRows, textRows, rowStmt}
-use Rattle.blif_text.specs.Places.{isFirst, tokenOf, tokensOf, withToken, grouped}
-use Rattle.blif_text.specs.Scan.{NoneFirst, Firsts}
+use Rattle.blif_text.specs.between.Rows.{lineRows, fullRows, textRows, rowStmt}
+use Rattle.blif_text.specs.between.Places.{isFirst, tokenOf, tokensOf, withToken, grouped}
+use Rattle.blif_text.specs.between.Scan.{NoneFirst, Firsts}
 use Rattle.blif_text.proofs.JoinedRows.{rows-joined}
 
 -- ---- a text's statements are those of its rows

@@ -8,10 +8,10 @@ use lib.ListN.{length, getD, take, drop}
 use lib.Seq.{slice, slice-empty, slice-cons, take-add, drop-drop}
 use Rattle.lists.specs.Lists.{Bytes}
 use Rattle.lists.proofs.Tests.{by-test, by-order}
-use Rattle.blif_text.specs.Places.{isFirst, tokenOf, tokensOf, withToken, grouped, TokensMarked}
-use Rattle.blif_text.specs.Scan.{NoneFirst}
-use Rattle.blif_text.specs.PlacedStatements.{RowTo}
-use Rattle.blif_text.specs.Walk.{rowsFrom, Inside, RowsAt}
+use Rattle.blif_text.specs.between.Places.{isFirst, tokenOf, tokensOf, withToken, grouped, TokensMarked}
+use Rattle.blif_text.specs.between.Scan.{NoneFirst}
+use Rattle.blif_text.specs.between.PlacedStatements.{RowTo}
+use Rattle.blif_text.specs.between.Walk.{rowsFrom, Inside, RowsAt}
 use Rattle.blif_text.proofs.WordLaws.{drop-take}
 use Rattle.blif_text.proofs.RowLaws.{grouped-append, grouped-none}
 

@@ -9,7 +9,7 @@ use borrow.Author.Tests.{ne-eqb, lt-leb}
 use Rattle.lists.specs.Lists.{Bytes}
 use Rattle.lists.proofs.Tests.{or-false, or-left, or-right, and-false}
 use Rattle.blif_text.specs.Lines.{isBlank}
-use Rattle.blif_text.specs.Scan.{endsWord, StopTo, at-end, at-lf, at-cr, StopOf}
+use Rattle.blif_text.specs.between.Scan.{endsWord, StopTo, at-end, at-lf, at-cr, StopOf}
 
 -- ---- bytes
 

@@ -7,12 +7,13 @@ use native.Mathlib.Numerals.{add-one}
 use native.Mathlib.Omega.{arith}
 use lib.ListN.{length, getD, take, set, length-set}
 use borrow.Author.Tests.{ne-eqb}
-use Rattle.lists.specs.Lists.{overwrite, overwriteAt}
+use Rattle.lists.specs.Lists.{overwrite}
+use Rattle.lists.specs.between.Lists.{overwriteAt}
 use Rattle.lists.proofs.Over.{length-overwrite, take-overwrite}
 use Rattle.lists.proofs.OverAt.{overwriteAt-nil, overwrite-first}
 use Rattle.lists.proofs.Tests.{by-order}
-use Rattle.blif_text.specs.Places.{tokenCell, tokenCells, TokensMarked}
-use Rattle.blif_text.specs.Scan.{endsWord, NoneTo, FirstTo, SpacesTo, LineAfter, StopTo, at-lf, cellsFrom, ScanAt, Scanned, WordPut}
+use Rattle.blif_text.specs.between.Places.{tokenCell, tokenCells, TokensMarked}
+use Rattle.blif_text.specs.between.Scan.{endsWord, NoneTo, FirstTo, SpacesTo, LineAfter, StopTo, at-lf, cellsFrom, ScanAt, Scanned, WordPut}
 use Rattle.blif_text.proofs.Loops.{none-start, none-next, none-join}
 use Rattle.blif_text.proofs.ScanBytes.{blank-of, stop-le, stop-high}
 use Rattle.blif_text.proofs.CellsFrom.{line-stops, from-end, from-stop, from-blank, from-spaces, from-comment, comment-moves, from-word, from-alone, from-goes}

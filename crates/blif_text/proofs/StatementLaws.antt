@@ -12,10 +12,10 @@ use Rattle.refusals.specs.declared.Refusal.the-variants as refusal
 use Rattle.blif_meaning.specs.Model.{plainLatch}
 use Rattle.blif_text.specs.Statements.{ok, bad, modelStmt, latchStmt, byKeyword, stmtOf}
 use Rattle.blif_text.specs.Statements as stmt
-use Rattle.blif_text.specs.Rows.{rowStmt}
-use Rattle.blif_text.specs.Places.{tokenOf, tokensOf}
+use Rattle.blif_text.specs.between.Rows.{rowStmt}
+use Rattle.blif_text.specs.between.Places.{tokenOf, tokensOf}
 use Rattle.blif_text.specs.Keywords.{keywordOf}
-use Rattle.blif_text.specs.PlacedStatements.{parsedFrom, statementOf, statementAt}
+use Rattle.blif_text.specs.between.PlacedStatements.{parsedFrom, statementOf, statementAt}
 use Rattle.blif_text.specs.declared.Keyword.{Keyword}
 use Rattle.blif_text.specs.declared.Keyword.the-variants as key
 use Rattle.blif_text.specs.declared.Statement.the-variants as place

@@ -15,10 +15,10 @@ use Rattle.lists.proofs.Places.{place-getD}
 use Rattle.lists.proofs.Range.{length-range}
 use Rattle.lists.proofs.Tests.{by-test}
 use Rattle.blif_text.specs.Lines.{consFirst, split, cut, continues, before, isBlank, nonEmpty}
-use Rattle.blif_text.specs.Rows.{lineRows, fullRows, textRows}
-use Rattle.blif_text.specs.PlaceRows.{byteAt, bytesAt, crBeforeLf, placeLines, kept, placeTokens, placeRows}
-use Rattle.blif_text.specs.Places.{isFirst, InText, tokenOf, tokensOf, grouped, placesCell, rowCells, rowsCells, tokenCells, TokensMarked}
-use Rattle.blif_text.specs.Scan.{NoneFirst, Firsts}
+use Rattle.blif_text.specs.between.Rows.{lineRows, fullRows, textRows}
+use Rattle.blif_text.specs.between.PlaceRows.{byteAt, bytesAt, crBeforeLf, placeLines, kept, placeTokens, placeRows}
+use Rattle.blif_text.specs.between.Places.{isFirst, InText, tokenOf, tokensOf, grouped, placesCell, rowCells, rowsCells, tokenCells, TokensMarked}
+use Rattle.blif_text.specs.between.Scan.{NoneFirst, Firsts}
 use Rattle.blif_text.proofs.WordLaws.{cell-start, cell-length, cell-first}
 use Rattle.blif_text.proofs.RowLaws.{grouped-append, grouped-row, oneRow, full-cons}
 use Rattle.blif_text.proofs.PlaceLines.{lines-end, lines-lf, lines-cr, lines-byte, cr-lf}

@@ -8,7 +8,7 @@ use lib.ListN.{length, getD, take, drop}
 use lib.Seq.{take-nil, take-suc, drop-append-le, length-take-le, slice}
 use borrow.Author.Tests.{le-leb, lt-leb}
 use Rattle.lists.specs.Lists.{Bytes}
-use Rattle.blif_text.specs.Places.{tokenCell, isFirst, tokenStart, tokenLength}
+use Rattle.blif_text.specs.between.Places.{tokenCell, isFirst, tokenStart, tokenLength}
 
 -- ---- the cell of a place
 

@@ -2,10 +2,4 @@ pub mod Lines
 pub mod Keywords
 pub mod Statements
 pub mod Decls
-pub mod Rows
-pub mod PlaceRows
-pub mod Places
-pub mod Scan
-pub mod PlacedStatements
-pub mod Walk
-pub mod Blocks
+pub mod between

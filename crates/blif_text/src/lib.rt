@@ -9,16 +9,17 @@ ghost use mathlib.Core.List.{[], _∷_};
 ghost use Prim.Native.Nat.{_+_, _*_, _≤_, _<_};
 ghost use lib.ListN.{length, getD};
 ghost use lib.Seq.{slice};
-ghost use Rattle.lists.specs.Lists.{any, overwrite, overwriteAt};
+ghost use Rattle.lists.specs.Lists.{any, overwrite};
+ghost use Rattle.lists.specs.between.Lists.{overwriteAt};
 ghost use Rattle.blif_text.specs.Lines.{isBlank, maxText};
-ghost use Rattle.blif_text.specs.Places.{maxTokens, tokenCell, isFirst, tokenStart, tokenLength, InText, tokenOf, tokensOf, tokenCells, TokensMarked};
+ghost use Rattle.blif_text.specs.between.Places.{maxTokens, tokenCell, isFirst, tokenStart, tokenLength, InText, tokenOf, tokensOf, tokenCells, TokensMarked};
 ghost use Rattle.blif_text.specs.Keywords.{keywordOf};
-ghost use Rattle.blif_text.specs.PlacedStatements.{RowTo, statementOf, statementAt, refusalIn};
+ghost use Rattle.blif_text.specs.between.PlacedStatements.{RowTo, statementOf, statementAt, refusalIn};
 ghost use Rattle.blif_text.specs.Statements.{parsed, firstBad};
 ghost use Rattle.blif_text.specs.Decls.{columns};
-ghost use Rattle.blif_text.specs.Walk.{Inside};
-ghost use Rattle.blif_text.specs.Blocks.{blockWidth, firstName, nameCount, lineCount};
-ghost use Rattle.blif_text.specs.Scan.{endsWord, NoneTo, FirstTo, SpacesTo, LineAfter, StopOf, WordPut, ScanAt, Scanned};
+ghost use Rattle.blif_text.specs.between.Walk.{Inside};
+ghost use Rattle.blif_text.specs.between.Blocks.{blockWidth, firstName, nameCount, lineCount};
+ghost use Rattle.blif_text.specs.between.Scan.{endsWord, NoneTo, FirstTo, SpacesTo, LineAfter, StopOf, WordPut, ScanAt, Scanned};
 
 pub const MAX_TEXT: usize = 32768;
 

@@ -12,7 +12,7 @@ use Rattle.signal.specs.Cell.{sigOf}
 use Rattle.signal.specs.declared.Signal as signal
 use Rattle.gates.specs.Gate.{Form, Comb}
 use Rattle.gates.specs.Forms.{formNumber, binaryForm, ternaryForm, naryForm}
-use Rattle.gates.specs.Decode.{runOf, runWithin, gateIn}
+use Rattle.gates.specs.between.Decode.{runOf, runWithin, gateIn}
 use Rattle.gates.specs.declared.PinRun.{PinRun}
 use Rattle.gates.specs.declared.BinaryType.{BinaryType}
 use Rattle.gates.specs.declared.BinaryType.the-variants as B
@@ -26,9 +26,9 @@ use Rattle.blif_meaning.specs.Model.{Block}
 use Rattle.blif_writing.specs.Names.{nameBytes}
 use Rattle.blif_writing.specs.WrittenModel.{formBlock, bufBlock, combBlock, tooWide, wide}
 use Rattle.blif_writing.specs.Text.{line, blockLines}
-use Rattle.blif_write_cubes.specs.Lines.{Narrow}
-use Rattle.blif_write_gates.specs.Blocks.{blockText, storedText}
-use Rattle.blif_write.specs.Parts.{blocksText, coverText, latchText}
+use Rattle.blif_write_cubes.specs.between.Lines.{Narrow}
+use Rattle.blif_write_gates.specs.between.Blocks.{blockText, storedText}
+use Rattle.blif_write.specs.between.Parts.{blocksText, coverText, latchText}
 
 -- ---- runs of pins
 

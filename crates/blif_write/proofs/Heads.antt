@@ -8,7 +8,7 @@ use Rattle.blif_writing.specs.WrittenModel.{inputNames}
 use Rattle.blif_writing.specs.Names.{nameBytes}
 use Rattle.blif_writing.specs.Text.{spaced, line}
 use Rattle.blif_write_names.proofs.Parts.{Parts}
-use Rattle.blif_write.specs.Parts.{headText}
+use Rattle.blif_write.specs.between.Parts.{headText}
 
 -- an input's name is a part of the text of all
 pub input-parts : (n : ℕ) → Parts n (λ (i k : ℕ). spaced (inputNames nameBytes i k)) (λ (i : ℕ). 32 ∷ nameBytes (plain (Input i)))

@@ -12,15 +12,16 @@ use Rattle.lists.proofs.Tests.{by-test, and-false}
 use Rattle.signal.specs.Cell.{sigOf}
 use Rattle.gates.specs.Gate.{XorN, XnorN, Buf, Gate, Comb, Dff, pins}
 use Rattle.gates.specs.Forms.{formNumber, flopNumber, formCell, kindOf}
-use Rattle.gates.specs.Decode.{kindComb}
+use Rattle.gates.specs.between.Decode.{kindComb}
 use Rattle.gates.proofs.Forms.{From, comb-number}
 use Rattle.network.specs.Cells.{orBuf}
-use Rattle.network.specs.Record.{formAt, firstAt, countAt, CellIs, runAt, gateAt, HasRun}
+use Rattle.network.specs.Record.{formAt, firstAt, countAt, runAt, gateAt}
+use Rattle.network.specs.between.Record.{CellIs, HasRun}
 use Rattle.network.proofs.GateRead.{has-run, gate-is, run-pins}
 use Rattle.network.proofs.Records.{cut-run}
 use Rattle.blif_writing.specs.WrittenModel.{named, exclusive, maxExclusive, tooWide, wide}
-use Rattle.blif_write.specs.Parts.{latchText, coverText, HeldAt}
-use Rattle.blif_write_inverters.specs.Marks.{SignalsMarked}
+use Rattle.blif_write.specs.between.Parts.{latchText, coverText, HeldAt}
+use Rattle.blif_write_inverters.specs.between.Marks.{SignalsMarked}
 use Rattle.blif_write_inverters.proofs.Marking.{as-marked}
 
 -- ---- by the form number

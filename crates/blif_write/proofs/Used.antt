@@ -18,9 +18,9 @@ use Rattle.network.specs.Net.{Net}
 use Rattle.blif_writing.specs.Names.{nameBytes}
 use Rattle.blif_writing.specs.WrittenModel.{sameNode, usedAmong, named, usedIn, inverted, downTo, inverterBlock}
 use Rattle.blif_writing.specs.Text.{line, blockLines, allLines}
-use Rattle.blif_write_gates.specs.Blocks.{blockText}
-use Rattle.blif_write.specs.Parts.{blocksText, invertersText}
-use Rattle.blif_write_inverters.specs.Marks.{gateOf, inputOf, marked, markAll, namedIn, inverterAt, gateInverters, inputInverters}
+use Rattle.blif_write_gates.specs.between.Blocks.{blockText}
+use Rattle.blif_write.specs.between.Parts.{blocksText, invertersText}
+use Rattle.blif_write_inverters.specs.between.Marks.{gateOf, inputOf, marked, markAll, namedIn, inverterAt, gateInverters, inputInverters}
 use Rattle.blif_write_inverters.proofs.Marking.{marked-length}
 
 -- ---- marks and uses

@@ -9,19 +9,20 @@ use Rattle.lists.specs.Lists.{Bytes, any}
 use Rattle.lists.proofs.Places.{place-mem, flatMap-append}
 use Rattle.lists.proofs.Range.{any-none, range-cons, range-end}
 use Rattle.gates.specs.Gate.{Gate, Comb, Dff}
-use Rattle.gates.specs.Decode.{gateIn, decodedIn}
+use Rattle.gates.specs.between.Decode.{gateIn, decodedIn}
 use Rattle.gates.specs.declared.Gate as code
 use Rattle.gates.specs.declared.Gate.the-variants as G
 use Rattle.gates.specs.declared.Decoded.{Decoded}
 use Rattle.gates.specs.declared.Decoded.the-variants.{Good, Bad}
 use Rattle.network.specs.Cells.{orBuf, cellGates}
-use Rattle.network.specs.Record.{gateAt, decodedAt}
+use Rattle.network.specs.Record.{gateAt}
+use Rattle.network.specs.between.Record.{decodedAt}
 use Rattle.network.proofs.GateRead.{decoded-is, cell-gate}
 use Rattle.blif_writing.specs.Names.{nameBytes}
 use Rattle.blif_writing.specs.WrittenModel.{combBlock, combBlocks, latchBlocks, wide}
 use Rattle.blif_writing.specs.Text.{line, blockLines, allLines}
 use Rattle.blif_write_names.proofs.Parts.{Parts}
-use Rattle.blif_write.specs.Parts.{latchText, coverText, latchesText, coversText, HeldAt}
+use Rattle.blif_write.specs.between.Parts.{latchText, coverText, latchesText, coversText, HeldAt}
 use Rattle.blif_write.proofs.Covers.{block-alone}
 use Rattle.blif_write.proofs.Told.{held-is}
 

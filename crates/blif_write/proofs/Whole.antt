@@ -22,10 +22,10 @@ use Rattle.blif_text.specs.Lines.{maxText}
 use Rattle.blif_writing.specs.Names.{nameBytes}
 use Rattle.blif_writing.specs.WrittenModel.{latchBlocks, combBlocks, inverterBlock, inverters, wide, inputNames}
 use Rattle.blif_writing.specs.Text.{line, allLines, headLines, textOf}
-use Rattle.blif_write_names.specs.Text.{Wrote}
+use Rattle.blif_write_names.specs.between.Text.{Wrote}
 use Rattle.blif_write.specs.Into.{writeOutcome, refusedText, writtenText, tooLong, writeInto}
 use Rattle.blif_write.specs.declared.WriteAnswer.the-variants.{Written}
-use Rattle.blif_write.specs.Parts.{latchesText, coversText, headText, Readable, invertersText, Writable}
+use Rattle.blif_write.specs.between.Parts.{latchesText, coversText, headText, Readable, invertersText, Writable}
 
 -- ---- the whole text
 

@@ -20,7 +20,7 @@ ghost use Prim.Native.Nat.{_≤_, _<_, min};
 ghost use lib.ListN.{length};
 ghost use Rattle.lists.specs.Lists.{any};
 ghost use Rattle.signal.specs.Cell.{sigOf};
-ghost use Rattle.gates.specs.Decode.{runWithin, gateIn};
+ghost use Rattle.gates.specs.between.Decode.{runWithin, gateIn};
 ghost use Rattle.network.specs.Cells.{orBuf, cellGates, cellNet, lent};
 ghost use Rattle.network.specs.Sizes.{maxGates, maxInputs};
 ghost use Rattle.network.specs.Record.{gateAt};
@@ -28,10 +28,10 @@ ghost use Rattle.blif_text.specs.Lines.{maxText};
 ghost use Rattle.blif_writing.specs.Names.{nameBytes};
 ghost use Rattle.blif_writing.specs.WrittenModel.{inputNames, named, tooWide, wide};
 ghost use Rattle.blif_writing.specs.Text.{spaced, textOf};
-ghost use Rattle.blif_write_names.specs.Text.{Wrote, Appended};
+ghost use Rattle.blif_write_names.specs.between.Text.{Wrote, Appended};
 ghost use Rattle.blif_write.specs.Into.{writeOutcome, refusedText, writeInto};
-ghost use Rattle.blif_write.specs.Parts.{latchText, coverText, latchesText, coversText, headText, HeldAt, Readable, invertersText, Writable};
-ghost use Rattle.blif_write_inverters.specs.Marks.{SignalsMarked, namedIn};
+ghost use Rattle.blif_write.specs.between.Parts.{latchText, coverText, latchesText, coversText, headText, HeldAt, Readable, invertersText, Writable};
+ghost use Rattle.blif_write_inverters.specs.between.Marks.{SignalsMarked, namedIn};
 
 // How many inputs an Xor or Xnor of the Nary form may have to be written.
 const MAX_EXCLUSIVE: usize = 12;

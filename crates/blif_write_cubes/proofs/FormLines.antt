@@ -23,8 +23,8 @@ use Rattle.gates.specs.declared.NaryType.{NaryType}
 use Rattle.blif_meaning.specs.Model.{Col, Line}
 use Rattle.blif_writing.specs.WrittenModel.{coverRow, doubled, masks, colOf, minterms, even, linesOf, exclusive, maxExclusive}
 use Rattle.blif_writing.specs.Text.{colByte, outByte, spaced, line}
-use Rattle.blif_write_names.specs.Text.{Appended}
-use Rattle.blif_write_cubes.specs.Lines.{cubeText, linesText, outputText, maskBits, maskColumns, cubeOf, sameCube, mintermAt, mintermsFrom, maskLines, Narrow}
+use Rattle.blif_write_names.specs.between.Text.{Appended}
+use Rattle.blif_write_cubes.specs.between.Lines.{cubeText, linesText, outputText, maskBits, maskColumns, cubeOf, sameCube, mintermAt, mintermsFrom, maskLines, Narrow}
 use Rattle.blif_write_names.proofs.Laws.{append-past, as-text}
 use Rattle.blif_write_names.proofs.Parts.{going-kept, Parts, Before, before-start, before-next, before-done}
 

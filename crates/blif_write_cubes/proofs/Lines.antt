@@ -13,8 +13,8 @@ use Rattle.lists.specs.Lists.{Bytes}
 use Rattle.lists.proofs.Tests.{by-order}
 use Rattle.blif_writing.specs.WrittenModel.{colOf}
 use Rattle.blif_writing.specs.Text.{colByte}
-use Rattle.blif_write_names.specs.Text.{Wrote, Appended}
-use Rattle.blif_write_cubes.specs.Lines.{maskColumns, cubeOf, mintermAt, mintermsFrom, maskLines}
+use Rattle.blif_write_names.specs.between.Text.{Wrote, Appended}
+use Rattle.blif_write_cubes.specs.between.Lines.{maskColumns, cubeOf, mintermAt, mintermsFrom, maskLines}
 use Rattle.blif_write_names.proofs.Laws.{from-start, as-text}
 use Rattle.blif_write_names.proofs.Parts.{Parts}
 

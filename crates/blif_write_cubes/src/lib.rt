@@ -10,8 +10,8 @@ ghost use Prim.Native.Nat.{_≤_, _<_};
 ghost use lib.ListN.{length, getD, replicate};
 ghost use Rattle.gates.specs.Forms.{binaryForm, ternaryForm, naryForm};
 ghost use Rattle.blif_writing.specs.WrittenModel.{linesOf, maxExclusive};
-ghost use Rattle.blif_write_names.specs.Text.{Wrote, Appended};
-ghost use Rattle.blif_write_cubes.specs.Lines.{outputText, maskColumns, cubeOf, sameCube, mintermAt, maskLines, linesText, rowsOf, Narrow};
+ghost use Rattle.blif_write_names.specs.between.Text.{Wrote, Appended};
+ghost use Rattle.blif_write_cubes.specs.between.Lines.{outputText, maskColumns, cubeOf, sameCube, mintermAt, maskLines, linesText, rowsOf, Narrow};
 
 // Writes a blank, the output and the line's end.
 fn append_output(out: &mut [u8], at: usize, val: bool) -> usize

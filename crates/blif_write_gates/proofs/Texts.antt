@@ -10,7 +10,8 @@ use lib.Seq.{drop-cons}
 use Rattle.lists.specs.Lists.{Bytes, bytes}
 use Rattle.lists.proofs.Places.{flatMap-append}
 use Rattle.signal.specs.Signal.{Var, Input, Signal, plain, constNode}
-use Rattle.signal.specs.Cell.{sigCell, nodeOf, sigOf, gateCell, inputCell}
+use Rattle.signal.specs.Cell.{sigCell, nodeOf, sigOf}
+use Rattle.signal.specs.between.Cell.{gateCell, inputCell}
 use Rattle.signal.proofs.Cells.{signal-again, small-node, gate-cell, input-cell}
 use Rattle.gates.specs.declared.NaryType.{NaryType}
 use Rattle.gates.specs.Forms.{naryForm}
@@ -18,9 +19,9 @@ use Rattle.blif_meaning.specs.Model.{Line, LatchDef, Cover, plainLatch}
 use Rattle.blif_writing.specs.Names.{nameBytes}
 use Rattle.blif_writing.specs.WrittenModel.{coverRow, colOf, linesOf, formBlock, isConst, unless, gateName, bare, bufBlock}
 use Rattle.blif_writing.specs.Text.{spaced, line, cubeLine, field, latchLine, flopLine, given}
-use Rattle.blif_write_cubes.specs.Lines.{linesText}
+use Rattle.blif_write_cubes.specs.between.Lines.{linesText}
 use Rattle.blif_write_names.proofs.Parts.{Parts}
-use Rattle.blif_write_gates.specs.Blocks.{blockText, fieldText, storedLatch, flopText, storedText}
+use Rattle.blif_write_gates.specs.between.Blocks.{blockText, fieldText, storedLatch, flopText, storedText}
 
 -- ---- signals that the code makes
 

@@ -22,9 +22,9 @@ ghost use Rattle.blif_meaning.specs.Model.{plainLatch};
 ghost use Rattle.blif_writing.specs.Names.{nameBytes};
 ghost use Rattle.blif_writing.specs.WrittenModel.{isConst, gateName, formBlock, bufBlock};
 ghost use Rattle.blif_writing.specs.Text.{spaced, line, latchLine};
-ghost use Rattle.blif_write_names.specs.Text.{Wrote, Appended};
-ghost use Rattle.blif_write_cubes.specs.Lines.{Narrow};
-ghost use Rattle.blif_write_gates.specs.Blocks.{blockText, fieldText, flopText, storedText};
+ghost use Rattle.blif_write_names.specs.between.Text.{Wrote, Appended};
+ghost use Rattle.blif_write_cubes.specs.between.Lines.{Narrow};
+ghost use Rattle.blif_write_gates.specs.between.Blocks.{blockText, fieldText, flopText, storedText};
 
 // Writes what stands before a gate's name, and the name.
 fn append_gate(out: &mut [u8], at: usize, before: &[u8], g: usize) -> usize

@@ -13,11 +13,11 @@ use Rattle.signal.proofs.Cells.{signal-again, small-node}
 use Rattle.blif_writing.specs.Names.{nameBytes}
 use Rattle.blif_writing.specs.WrittenModel.{inverterBlock}
 use Rattle.blif_writing.specs.Text.{spaced, line}
-use Rattle.blif_write_names.specs.Text.{Wrote, Appended}
+use Rattle.blif_write_names.specs.between.Text.{Wrote, Appended}
 use Rattle.blif_write_names.proofs.Laws.{as-wrote}
 use Rattle.blif_write_names.proofs.Parts.{NamingSoFar, going-start, going-part, going-done, Parts}
-use Rattle.blif_write_gates.specs.Blocks.{blockText}
-use Rattle.blif_write_inverters.specs.Marks.{inverterAt, gateInverters, inputInverters}
+use Rattle.blif_write_gates.specs.between.Blocks.{blockText}
+use Rattle.blif_write_inverters.specs.between.Marks.{inverterAt, gateInverters, inputInverters}
 use Rattle.blif_write_gates.proofs.Texts.{two-names}
 
 -- ---- one inverter

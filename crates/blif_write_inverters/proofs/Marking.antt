@@ -6,10 +6,12 @@ use mathlib.Core.Option.{Option, none, some}
 use Prim.Native.Nat.{ℕ}
 use lib.ListN.{length, set, length-set}
 use Rattle.lists.proofs.Laying.{Front, front-start, front-more}
-use Rattle.signal.specs.Signal.{Node, Const, Input, Var, Signal, inputNode, constNode}
-use Rattle.signal.specs.Cell.{nodeOf, sigOf, inputNumber, gateNumber}
+use Rattle.signal.specs.Signal.{Node, Const, Input, Var, Signal, constNode}
+use Rattle.signal.specs.between.Signal.{inputNode}
+use Rattle.signal.specs.Cell.{nodeOf, sigOf}
+use Rattle.signal.specs.between.Cell.{inputNumber, gateNumber}
 use Rattle.signal.proofs.Cells.{input-number, gate-number}
-use Rattle.blif_write_inverters.specs.Marks.{gateOf, inputOf, marked, markAll, SignalsMarked}
+use Rattle.blif_write_inverters.specs.between.Marks.{gateOf, inputOf, marked, markAll, SignalsMarked}
 use Rattle.blif_write_names.proofs.Numbers.{const-is, gate-left}
 
 -- ---- one signal

@@ -9,8 +9,8 @@ ghost use Prim.Native.Nat.{_≤_};
 ghost use lib.ListN.{length, set};
 ghost use Rattle.signal.specs.Cell.{sigOf};
 ghost use Rattle.network.specs.Sizes.{maxGates, maxInputs};
-ghost use Rattle.blif_write_names.specs.Text.{Wrote, Appended};
-ghost use Rattle.blif_write_inverters.specs.Marks.{SignalsMarked, inverterAt, gateInverters, inputInverters};
+ghost use Rattle.blif_write_names.specs.between.Text.{Wrote, Appended};
+ghost use Rattle.blif_write_inverters.specs.between.Marks.{SignalsMarked, inverterAt, gateInverters, inputInverters};
 
 // Sets mark n, if there is one.
 fn set_mark(marks: &mut [u8], n: u32)

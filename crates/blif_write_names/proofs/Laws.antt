@@ -5,11 +5,12 @@ use Prim.Native.Nat.{ℕ, _+_, _-_, _≤_, _<_}
 use native.Mathlib.Omega.{arith}
 use lib.ListN.{length, take, drop, set, take-append-drop, length-append, length-drop}
 use lib.Seq.{length-take-le}
-use Rattle.lists.specs.Lists.{Bytes, overwrite, overwriteAt}
+use Rattle.lists.specs.Lists.{Bytes, overwrite}
+use Rattle.lists.specs.between.Lists.{overwriteAt}
 use Rattle.lists.proofs.OverAt.{length-overwriteAt, overwriteAt-nil, overwrite-append, part-is, part-laid}
 use Rattle.lists.proofs.Laying.{one-store, overwrite-end}
 use Rattle.lists.proofs.Tests.{by-order}
-use Rattle.blif_write_names.specs.Text.{Wrote, Appended}
+use Rattle.blif_write_names.specs.between.Text.{Wrote, Appended}
 
 -- what is behind a text that reaches the end is not laid
 laid-past : (a : ℕ) (t s o : Bytes) → length o ≤ a + length t → overwriteAt a (t ++ s) o ≡ overwriteAt a t o

@@ -7,11 +7,13 @@ use native.Mathlib.Omega.{arith}
 use borrow.Author.Tests.{lt-ltb, le-ltb}
 use Rattle.lists.specs.Lists.{Bytes, bytes}
 use Rattle.lists.proofs.Tests.{by-order}
-use Rattle.signal.specs.Signal.{Node, Const, Input, Var, inputNode, constNode, gateNode}
-use Rattle.signal.specs.Cell.{nodeOf, sigOf, inputNumber, gateNumber}
+use Rattle.signal.specs.Signal.{Node, Const, Input, Var, constNode}
+use Rattle.signal.specs.between.Signal.{inputNode, gateNode}
+use Rattle.signal.specs.Cell.{nodeOf, sigOf}
+use Rattle.signal.specs.between.Cell.{inputNumber, gateNumber}
 use Rattle.signal.proofs.Cells.{input-number, gate-number}
 use Rattle.blif_writing.specs.Names.{decimalBefore, decimal, suffix, nodeBytes, nameBytes}
-use Rattle.blif_write_names.specs.Text.{lastDigit, fourOf, leading, Appended}
+use Rattle.blif_write_names.specs.between.Text.{lastDigit, fourOf, leading, Appended}
 use Rattle.blif_write_names.proofs.Laws.{and-append, as-text}
 
 -- the two cases of `decimalBefore`

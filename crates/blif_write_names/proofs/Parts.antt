@@ -8,7 +8,7 @@ use native.Mathlib.Omega.{arith}
 use lib.ListN.{length, take, drop, set, length-take, length-drop}
 use Rattle.lists.specs.Lists.{Bytes}
 use Rattle.lists.proofs.Laying.{overwrite-end, Laying, laying-start, laying-next, laying-done, laying-full, Front, front-start, front-more, front-all}
-use Rattle.blif_write_names.specs.Text.{Wrote, Appended}
+use Rattle.blif_write_names.specs.between.Text.{Wrote, Appended}
 use Rattle.blif_write_names.proofs.Laws.{append-none, append-room, append-kept, and-append, as-text}
 
 -- ---- byte after byte

@@ -9,7 +9,7 @@ ghost use Rattle.lists.specs.Lists.{overwrite};
 ghost use Rattle.signal.specs.Signal.{Const};
 ghost use Rattle.signal.specs.Cell.{sigOf};
 ghost use Rattle.blif_writing.specs.Names.{decimal, suffix, nodeBytes, nameBytes};
-ghost use Rattle.blif_write_names.specs.Text.{Wrote, lastDigit, fourOf, leading, Appended};
+ghost use Rattle.blif_write_names.specs.between.Text.{Wrote, lastDigit, fourOf, leading, Appended};
 
 // Copies s to the front of out, which is as long or longer.
 fn copy(out: &mut [u8], s: &[u8])

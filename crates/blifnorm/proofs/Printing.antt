@@ -16,7 +16,7 @@ use Rattle.refusals.specs.Numbers.{numberOf}
 use Rattle.blif_writing.specs.Names.{decimal}
 use Rattle.blif_writing.specs.WrittenModel.{wide}
 use Rattle.blif_writing.specs.Text.{textOf}
-use Rattle.blif_write_names.specs.Text.{Wrote}
+use Rattle.blif_write_names.specs.between.Text.{Wrote}
 use Rattle.blif_write_names.proofs.Numbers.{decimal-then}
 use Rattle.blif_read.specs.Into.{Lengths, readInto, ReadOutcome, readOutcome}
 use Rattle.blif_read.specs.declared.ReadAnswer.{ReadAnswer}

@@ -12,7 +12,7 @@ use refusals::Refusal;
 ghost use mathlib.Core.Path.{_≡_};
 ghost use lib.ListN.{length};
 ghost use Rattle.lists.specs.Lists.{zeros};
-ghost use Rattle.blif_write_names.specs.Text.{Wrote};
+ghost use Rattle.blif_write_names.specs.between.Text.{Wrote};
 ghost use Rattle.blif_read.specs.Into.{lengths};
 ghost use Rattle.blif_write.specs.Into.{writeOutcome};
 ghost use Rattle.blifnorm.specs.Norm.{refusedLine, normInto, printed};

@@ -8,7 +8,8 @@ use lib.Dec.{eqb, leb, leb·suc-suc}
 use borrow.Author.Tests.{eq-eqb, ne-eqb, le-leb, lt-leb, eqb-true, eqb-false}
 use Rattle.lists.proofs.Tests.{by-test}
 use Rattle.signal.specs.Signal.{invertIf}
-use Rattle.gates.specs.Gate.{Form, And2, Xor2, And3, Xor3, Maj3, Mux3, AndN, OrN, NandN, NorN, XorN, XnorN, Buf, allOf, anyOf, ones, odd, atLeastTwo, mux, formBit}
+use Rattle.gates.specs.Gate.{Form, And2, Xor2, And3, Xor3, Maj3, Mux3, AndN, OrN, NandN, NorN, XorN, XnorN, Buf, allOf, anyOf, odd, atLeastTwo, mux, formBit}
+use Rattle.gates.specs.between.Gate.{ones}
 
 any-is : (bs : List Bool) → anyOf bs ≡ leb 1 (ones bs)
 any-is [] = refl

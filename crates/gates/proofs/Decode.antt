@@ -15,8 +15,9 @@ use Rattle.signal.specs.Signal.{Signal}
 use Rattle.signal.specs.Cell.{sigOf}
 use Rattle.gates.specs.Gate as data-gate
 use Rattle.gates.specs.Gate.{Comb, Dff, Buf, isComb}
-use Rattle.gates.specs.Forms.{canHave, formCell, binaryForm, ternaryForm, naryForm, kindOf, kindNumber, kindTakes, combFrom, flopFrom, gateOfKind, gateFrom}
-use Rattle.gates.specs.Decode.{runWithin, gateIn, decodedIn, kindOfGate, kindComb, cellSignal, kindGate, withPins}
+use Rattle.gates.specs.Forms.{canHave, formCell, binaryForm, ternaryForm, naryForm, kindOf, kindTakes, combFrom, flopFrom, gateOfKind, gateFrom}
+use Rattle.gates.specs.between.Forms.{kindNumber}
+use Rattle.gates.specs.between.Decode.{runWithin, gateIn, decodedIn, kindOfGate, kindComb, cellSignal, kindGate, withPins}
 use Rattle.gates.specs.declared.Gate.{Gate}
 use Rattle.gates.specs.declared.Gate.the-variants as G
 use Rattle.gates.specs.declared.Kind.{Kind}

@@ -12,8 +12,9 @@ use Rattle.lists.proofs.Range.{range-all}
 use Rattle.lists.proofs.Tests.{by-test, by-order}
 use Rattle.signal.specs.Signal.{Signal}
 use Rattle.gates.specs.Gate.{Form, And2, Xor2, And3, Xor3, Maj3, Mux3, AndN, OrN, NandN, NorN, XorN, XnorN, Buf, Gate, Comb, Dff, pins, isComb}
-use Rattle.gates.specs.Forms.{formNumber, formCell, canHave, formed, binaryForm, ternaryForm, naryForm, kinds, kindOf, kindNumber, kindTakes, combFrom, flopFrom, gateOfKind, gateFrom}
-use Rattle.gates.specs.Decode.{kindComb}
+use Rattle.gates.specs.Forms.{formNumber, formCell, canHave, formed, binaryForm, ternaryForm, naryForm, kinds, kindOf, kindTakes, combFrom, flopFrom, gateOfKind, gateFrom}
+use Rattle.gates.specs.between.Forms.{kindNumber}
+use Rattle.gates.specs.between.Decode.{kindComb}
 use Rattle.gates.specs.declared.Kind.{Kind}
 use Rattle.gates.specs.declared.Kind.the-variants as K
 use Rattle.gates.specs.declared.BinaryType.{BinaryType}

@@ -7,7 +7,7 @@ use Prim.Native.Nat.{ℕ}
 use lib.Dec.{eqb}
 use lib.ListN.{length, getD}
 use Rattle.signal.specs.Signal.{Signal}
-use Rattle.gates.specs.Gate.{Form, And2, Xor2, And3, Xor3, Maj3, Mux3, AndN, OrN, NandN, NorN, XorN, XnorN, Buf, FlipFlop, Gate, Comb, Dff}
+use Rattle.gates.specs.Gate.{Form, And2, Xor2, And3, Xor3, Maj3, Mux3, AndN, OrN, NandN, NorN, XorN, XnorN, Buf, Gate, Comb, Dff}
 use Rattle.gates.specs.declared.Kind.{Kind}
 use Rattle.gates.specs.declared.Kind.the-variants as K
 use Rattle.gates.specs.declared.BinaryType.{BinaryType}
@@ -95,15 +95,6 @@ kinds =
 -- the kind of a form number; 0 and all above 14 are unknown
 abbrev pub kindOf : ℕ → Kind
 kindOf n = getD kinds n K.Unknown
-
--- the form number of a kind; 0 for an unknown one
-abbrev pub kindNumber : Kind → ℕ
-kindNumber (K.Binary t) = formNumber (binaryForm t)
-kindNumber (K.Ternary t) = formNumber (ternaryForm t)
-kindNumber (K.Nary t) = formNumber (naryForm t)
-kindNumber K.Buf = formNumber Buf
-kindNumber K.Dff = flopNumber
-kindNumber K.Unknown = 0
 
 -- whether a kind can have n pins
 abbrev pub kindTakes : Kind → ℕ → Bool

@@ -2,7 +2,6 @@
 use mathlib.Core.Path.{_≡_}
 use mathlib.Core.Bool.{Bool, true, false, not, _&&_, _||_, cond}
 use mathlib.Core.List.{List, [], _∷_}
-use Prim.Native.Nat.{ℕ, suc}
 use lib.ListN.{getD}
 use Rattle.signal.specs.Signal.{Signal, zeroS, oneS, invertIf}
 
@@ -43,12 +42,6 @@ isComb (Comb f ps) = true
 isComb (Dff s) = false
 
 -- ---- what a form makes of its inputs' bits
-
--- the number of ones, by which document 01 tells Maj, Xor and Xnor
-abbrev pub ones : List Bool → ℕ
-ones [] = 0
-ones (true ∷ bs) = suc (ones bs)
-ones (false ∷ bs) = ones bs
 
 -- all ones; of nothing it is one
 abbrev pub allOf : List Bool → Bool

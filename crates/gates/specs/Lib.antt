@@ -1,3 +1,3 @@
 pub mod Gate
 pub mod Forms
-pub mod Decode
+pub mod between

@@ -1,8 +1,9 @@
 // Gates: their forms, types, form numbers and pin counts (Quaigh's src/network/gates.rs).
 use signal::Signal;
 ghost use mathlib.Core.Path.{_≡_};
-ghost use Rattle.gates.specs.Forms.{kindOf, kindNumber, kindTakes};
-ghost use Rattle.gates.specs.Decode.{pinCount, kindOfGate, kindComb, cellSignal, kindGate, withPins};
+ghost use Rattle.gates.specs.Forms.{kindOf, kindTakes};
+ghost use Rattle.gates.specs.between.Forms.{kindNumber};
+ghost use Rattle.gates.specs.between.Decode.{pinCount, kindOfGate, kindComb, cellSignal, kindGate, withPins};
 
 // Form numbers, for those who write a gate's record or look at its form alone.
 pub const NARY_AND: u32 = 7;

@@ -6,7 +6,8 @@ use native.Mathlib.Omega.{arith}
 use native.Mathlib.Nat.{suc-add, add-zero, zero-add}
 use lib.ListN.{length, getD, take, drop, set, length-drop, drop-of-length-le}
 use lib.Seq.{take-all, getD-take, getD-drop}
-use Rattle.lists.specs.Lists.{overwrite, overwriteAt}
+use Rattle.lists.specs.Lists.{overwrite}
+use Rattle.lists.specs.between.Lists.{overwriteAt}
 use Rattle.lists.proofs.Over.{length-overwrite, take-overwrite}
 
 pub length-overwriteAt : (k : ℕ) (t o : List ℕ) → length (overwriteAt k t o) ≡ length o

@@ -7,7 +7,7 @@ use Prim.Native.Nat.{ℕ, zero, suc, _+_}
 use Prim.Native.Char.{code}
 use Prim.Native.String.{String}
 use lib.Dec.{eqb}
-use lib.ListN.{length, replicate}
+use lib.ListN.{replicate}
 
 infixr 10 if_then_else_
 -- the first where the test holds, else the second; both are computed, so at most one of them may call the function being defined
@@ -92,12 +92,6 @@ abbrev pub overwrite : List ℕ → List ℕ → List ℕ
 overwrite [] o = o
 overwrite (x ∷ t) [] = []
 overwrite (x ∷ t) (y ∷ o) = x ∷ overwrite t o
-
--- the list t laid over o from cell k on, cut where o ends
-abbrev pub overwriteAt : ℕ → List ℕ → List ℕ → List ℕ
-overwriteAt zero t o = overwrite t o
-overwriteAt (suc k) t [] = []
-overwriteAt (suc k) t (y ∷ o) = y ∷ overwriteAt k t o
 
 -- an element stands again further on: "a name is defined twice"
 pub data Dup {A : Type 0} : List A → Type 0 where

@@ -2,7 +2,8 @@
 ghost use mathlib.Core.Path.{_≡_};
 ghost use Prim.Native.Nat.{_+_, _≤_};
 ghost use lib.ListN.{length, getD};
-ghost use Rattle.lists.specs.Lists.{same, zeros, overwriteAt};
+ghost use Rattle.lists.specs.Lists.{same, zeros};
+ghost use Rattle.lists.specs.between.Lists.{overwriteAt};
 
 // Whether two byte slices hold the same bytes.
 pub fn equal(a: &[u8], b: &[u8]) -> bool

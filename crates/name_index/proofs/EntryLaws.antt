@@ -6,7 +6,7 @@ use Prim.Native.Nat.{ℕ, zero, suc, _+_, _≤_, _<_}
 use native.Mathlib.Omega.{arith}
 use native.Mathlib.Nat.{add-zero}
 use Rattle.lists.specs.Lists.{Bytes, range, same, known}
-use Rattle.name_index.specs.Search.{Entry, signalIn}
+use Rattle.name_index.specs.between.Search.{Entry, signalIn}
 
 -- one number more
 pub map-range-last : {A : Type 0} (f : ℕ → A) (n k : ℕ) → map f (range n (suc k)) ≡ map f (range n k) ++ (f (n + k) ∷ [])

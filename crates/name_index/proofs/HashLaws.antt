@@ -6,7 +6,7 @@ use native.Mathlib.Numerals.{add-one}
 use lib.ListN.{length, getD, drop, drop-of-length-le}
 use lib.Seq.{drop-cons}
 use Rattle.lists.specs.Lists.{Bytes}
-use Rattle.name_index.specs.Index.{hashes, hashFrom, hashOf}
+use Rattle.name_index.specs.between.Index.{hashes, hashFrom, hashOf}
 
 -- the first i bytes are hashed: going on with the others gives the name's hash
 pub record Hashing (name : Bytes) (h i : ℕ) : Type 0 where

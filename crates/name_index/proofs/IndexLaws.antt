@@ -11,10 +11,10 @@ use lib.Seq.{getD-set-same, getD-set-other}
 use Rattle.lists.specs.Lists.{Bytes, same, known, zeros}
 use Rattle.lists.proofs.Same.{same-is}
 use Rattle.lists.proofs.Tests.{by-order}
-use Rattle.blif_text.specs.Places.{InText, tokenOf}
-use Rattle.name_index.specs.Search.{Entry, entry, signalIn}
-use Rattle.name_index.specs.Index.{trees, maxNames, entryWidth, indexCells, nameAt, signalAt, branch, entryAt, entriesOf, hashAt, rootOf, wayOf, Leads, Index, Entered}
-use Rattle.name_index.specs.Steps.{Sought}
+use Rattle.blif_text.specs.between.Places.{InText, tokenOf}
+use Rattle.name_index.specs.between.Search.{Entry, entry, signalIn}
+use Rattle.name_index.specs.between.Index.{trees, maxNames, entryWidth, indexCells, nameAt, signalAt, branch, entryAt, entriesOf, hashAt, rootOf, wayOf, Leads, Index, Entered}
+use Rattle.name_index.specs.between.Steps.{Sought}
 use Rattle.name_index.proofs.TreeLaws.{TreeCell, root, cell-before, cell-apart, sought-cell, leads-kept, passes-lead}
 use Rattle.name_index.proofs.EntryLaws.{map-range-last, map-range-same, signal-none, signal-at, known-none, known-at}
 

@@ -8,9 +8,9 @@ use lib.ListN.{length, getD}
 use Rattle.lists.specs.Lists.{Bytes, same}
 use Rattle.lists.proofs.Same.{same-is}
 use Rattle.lists.proofs.Tests.{by-test}
-use Rattle.blif_text.specs.Places.{InText, tokenOf}
-use Rattle.name_index.specs.Index.{trees, entryWidth, nameAt, branch, hashOf, rootOf, wayOf, Passes, stay, past, Leads, Index}
-use Rattle.name_index.specs.Steps.{Sought}
+use Rattle.blif_text.specs.between.Places.{InText, tokenOf}
+use Rattle.name_index.specs.between.Index.{trees, entryWidth, nameAt, branch, hashOf, rootOf, wayOf, Passes, stay, past, Leads, Index}
+use Rattle.name_index.specs.between.Steps.{Sought}
 
 -- ---- the cells of the trees
 

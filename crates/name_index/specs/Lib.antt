@@ -1,3 +1,1 @@
-pub mod Search
-pub mod Index
-pub mod Steps
+pub mod between

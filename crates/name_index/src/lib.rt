@@ -4,10 +4,10 @@ use lists::equal;
 ghost use mathlib.Core.Path.{_≡_};
 ghost use Prim.Native.Nat.{_+_, _≤_, _<_};
 ghost use lib.ListN.{length};
-ghost use Rattle.blif_text.specs.Places.{InText};
-ghost use Rattle.name_index.specs.Search.{signalIn};
-ghost use Rattle.name_index.specs.Index.{maxNames, entriesOf, hashOf, Index, Entered};
-ghost use Rattle.name_index.specs.Steps.{Sought};
+ghost use Rattle.blif_text.specs.between.Places.{InText};
+ghost use Rattle.name_index.specs.between.Search.{signalIn};
+ghost use Rattle.name_index.specs.between.Index.{maxNames, entriesOf, hashOf, Index, Entered};
+ghost use Rattle.name_index.specs.between.Steps.{Sought};
 
 pub const INDEX_CELLS: usize = 6144;
 

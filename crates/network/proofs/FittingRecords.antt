@@ -18,7 +18,8 @@ use Rattle.gates.specs.Gate.{Gate, pins}
 use Rattle.gates.specs.Forms.{formCell, formed, kindOf, kindTakes}
 use Rattle.gates.proofs.Forms.{From, gate-from, gate-made}
 use Rattle.network.specs.Cells.{startAt, recordFits, orBuf}
-use Rattle.network.specs.Record.{gateWidth, recordOf, recordAt, formAt, firstAt, countAt, runAt, gateAt, gateCells, pinCells}
+use Rattle.network.specs.Record.{gateWidth, recordOf, formAt, firstAt, countAt, runAt, gateAt, gateCells, pinCells}
+use Rattle.network.specs.between.Record.{recordAt}
 use Rattle.network.proofs.RecordCells.{record-in, records-split, start-mono, gate-there}
 use Rattle.network.proofs.GateRead.{gate-record}
 

@@ -17,14 +17,15 @@ use Rattle.lists.proofs.Range.{length-range, map-range}
 use Rattle.signal.specs.Cell.{sigOf}
 use Rattle.gates.specs.Gate.{Gate, pins}
 use Rattle.gates.specs.Forms.{kindOf}
-use Rattle.gates.specs.Decode.{runWithin, decodedIn}
+use Rattle.gates.specs.between.Decode.{runWithin, decodedIn}
 use Rattle.gates.specs.declared.Gate as code
 use Rattle.gates.specs.declared.Decoded.{Decoded}
 use Rattle.gates.specs.declared.Decoded.the-variants.{Good, Bad}
 use Rattle.gates.proofs.Forms.{From, gate-from}
 use Rattle.gates.proofs.Decode.{RunAt, decode-is, run-decoded}
 use Rattle.network.specs.Cells.{orBuf, cellGates}
-use Rattle.network.specs.Record.{gateWidth, recordOf, recordAt, formAt, firstAt, countAt, runAt, hasRun, gateAt, decodedAt, HasRun}
+use Rattle.network.specs.Record.{gateWidth, recordOf, formAt, firstAt, countAt, runAt, hasRun, gateAt}
+use Rattle.network.specs.between.Record.{recordAt, decodedAt, HasRun}
 use Rattle.network.proofs.RecordCells.{record-parts, gate-some, decoded-some, gate-none, decoded-none}
 
 -- what the test for a record and its run gives

@@ -19,7 +19,8 @@ use Rattle.gates.specs.Gate.{Gate, pins}
 use Rattle.gates.specs.Forms.{formCell, formed, kindOf, kindTakes, gateFrom}
 use Rattle.gates.proofs.Forms.{gate-again, takes-formed}
 use Rattle.network.specs.Cells.{startAt, recordFits, orBuf}
-use Rattle.network.specs.Record.{gateWidth, recordOf, recordAt, formAt, firstAt, countAt, runAt, gateAt, gateCells, pinCells, RecordIn}
+use Rattle.network.specs.Record.{gateWidth, recordOf, formAt, firstAt, countAt, runAt, gateAt, gateCells, pinCells}
+use Rattle.network.specs.between.Record.{recordAt, RecordIn}
 use Rattle.network.proofs.RecordCells.{length-recordOf, length-recordAt, record-is, record-runs, records-split, gate-there}
 use Rattle.network.proofs.FittingRecords.{heldAt}
 use Rattle.network.proofs.PinCells.{pins-next}

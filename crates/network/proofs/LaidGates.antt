@@ -4,16 +4,17 @@ use mathlib.Core.List.{List, [], _∷_}
 use Prim.Native.Nat.{ℕ, _+_, _-_, _*_, _≤_}
 use native.Mathlib.Omega.{arith}
 use lib.ListN.{take, drop, set}
-use Rattle.lists.specs.Lists.{overwriteAt}
+use Rattle.lists.specs.between.Lists.{overwriteAt}
 use Rattle.lists.proofs.OverAt.{overwriteAt-same, overwrite-inner, overwrite-two, overwrite-three}
 use Rattle.lists.proofs.Laying.{one-store}
 use Rattle.lists.proofs.Places.{part-run}
-use Rattle.gates.specs.Decode.{pinsIn, pinCount}
+use Rattle.gates.specs.between.Decode.{pinsIn, pinCount}
 use Rattle.gates.specs.declared.NaryType.{NaryType}
 use Rattle.gates.specs.declared.PinRun.{PinRun}
 use Rattle.gates.specs.declared.Gate as code
 use Rattle.gates.specs.declared.Gate.the-variants as G
-use Rattle.network.specs.Record.{gateWidth, recordAt, withFirst, RecordIn, handRecord, RunFrom, LayRoom, GateLaid}
+use Rattle.network.specs.Record.{gateWidth}
+use Rattle.network.specs.between.Record.{recordAt, withFirst, RecordIn, handRecord, RunFrom, LayRoom, GateLaid}
 use Rattle.network.proofs.RecordCells.{length-recordAt}
 
 -- ---- cells that were worked out, stored

@@ -9,7 +9,8 @@ use Rattle.lists.proofs.Over.{take-overwrite}
 use Rattle.signal.specs.Cell.{sigCell}
 use Rattle.gates.specs.Gate.{Gate, pins}
 use Rattle.network.specs.Net.{Net}
-use Rattle.network.specs.Cells.{lent, countsOf, Laid}
+use Rattle.network.specs.Cells.{lent, countsOf}
+use Rattle.network.specs.between.Cells.{Laid}
 use Rattle.network.specs.Record.{recordOf, gateWidth, gateCells, pinCells}
 use Rattle.network.proofs.RecordCells.{length-recordOf}
 

@@ -20,7 +20,8 @@ use Rattle.signal.proofs.Cells.{Small, signal-again, cells-again, signals-again
 use Rattle.gates.specs.Gate.{Gate, pins}
 use Rattle.gates.specs.Forms.{formed}
 use Rattle.network.specs.Net.{Net, GateIs, ValidNode, Valid, Formed}
-use Rattle.network.specs.Cells.{Lent, sizesFit, startAt, recordFits, recordsFit, validNode, allValid, isNetwork, netOf, countsOf, Laid, Words}
+use Rattle.network.specs.Cells.{Lent, sizesFit, startAt, recordFits, recordsFit, validNode, allValid, isNetwork, netOf, countsOf, Words}
+use Rattle.network.specs.between.Cells.{Laid}
 use Rattle.network.specs.Record.{gateWidth, runAt, gateAt, pinCells}
 use Rattle.network.specs.declared.Counts.{Counts}
 use Rattle.network.proofs.Records.{Sizes, sizes-give, sizes-from}

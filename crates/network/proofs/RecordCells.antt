@@ -8,14 +8,14 @@ use native.Mathlib.Omega.{arith}
 use native.Mathlib.Nat.{add-suc}
 use lib.ListN.{length, take, drop, length-map}
 use lib.Seq.{drop-cons, take-add, drop-drop}
-use Rattle.lists.specs.Lists.{overwriteAt}
+use Rattle.lists.specs.between.Lists.{overwriteAt}
 use Rattle.lists.proofs.Tests.{by-order}
 use Rattle.lists.proofs.OverAt.{length-overwriteAt, run-before, drop-behind, run-overwriteAt}
 use Rattle.lists.proofs.Places.{length-run}
 use borrow.Author.Tests.{le-leb}
 use Rattle.signal.specs.Cell.{sigOf}
 use Rattle.gates.specs.Forms.{kindOf, gateFrom}
-use Rattle.gates.specs.Decode.{withPins}
+use Rattle.gates.specs.between.Decode.{withPins}
 use Rattle.gates.specs.Forms.{formNumber, formCell, naryForm}
 use Rattle.gates.specs.Gate.{FlipFlop, Gate, Comb, Dff, Buf, pins}
 use Rattle.gates.specs.declared.NaryType.{NaryType}
@@ -28,7 +28,8 @@ use Rattle.signal.specs.Signal.{Signal, remap}
 use Rattle.network.specs.Renumber.{remapGate}
 use Rattle.gates.specs.declared.Decoded.the-variants.{Bad}
 use Rattle.network.specs.Cells.{startAt}
-use Rattle.network.specs.Record.{gateWidth, recordOf, recordAt, formAt, firstAt, countAt, withFirst, runAt, hasRun, gateAt, decodedAt, RecordIn, HasRun, handRecord}
+use Rattle.network.specs.Record.{gateWidth, recordOf, formAt, firstAt, countAt, runAt, hasRun, gateAt}
+use Rattle.network.specs.between.Record.{recordAt, withFirst, decodedAt, RecordIn, HasRun, handRecord}
 
 -- ---- records
 

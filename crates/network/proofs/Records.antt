@@ -12,17 +12,21 @@ use borrow.Author.Tests.{le-leb, lt-leb, le-ltb, leb-true}
 use Rattle.lists.proofs.Tests.{and-false, and-left, and-right}
 use Rattle.lists.proofs.Places.{part-run}
 use Rattle.lists.proofs.Range.{TestedTo, to-start, to-next, to-fails, to-done}
-use Rattle.signal.specs.Signal.{Node, Const, Input, Var, inputNode, gateNode}
-use Rattle.signal.specs.Cell.{nodeOf, inputNumber, gateNumber}
+use Rattle.signal.specs.Signal.{Node, Const, Input, Var}
+use Rattle.signal.specs.between.Signal.{inputNode, gateNode}
+use Rattle.signal.specs.Cell.{nodeOf}
+use Rattle.signal.specs.between.Cell.{inputNumber, gateNumber}
 use Rattle.signal.proofs.Cells.{input-number, gate-number}
 use Rattle.gates.specs.Forms.{kindOf, kindTakes}
-use Rattle.gates.specs.Decode.{withPins}
+use Rattle.gates.specs.between.Decode.{withPins}
 use Rattle.gates.specs.declared.Kind.{Kind}
 use Rattle.gates.specs.declared.Decoded.{Decoded}
 use Rattle.gates.specs.declared.Decoded.the-variants.{Bad}
 use Rattle.network.specs.Cells.{sizesFit, startAt, recordFits, recordsFit, validNode, allValid, lent, isNetwork}
-use Rattle.network.specs.Sizes.{maxInputs, maxOutputs, maxGates, maxPins, WithinSizes}
-use Rattle.network.specs.Record.{gateWidth, formAt, firstAt, countAt, runAt, CellIs, hasRun, gateAt, decodedAt}
+use Rattle.network.specs.Sizes.{maxInputs, maxOutputs, maxGates, maxPins}
+use Rattle.network.specs.between.Sizes.{WithinSizes}
+use Rattle.network.specs.Record.{gateWidth, formAt, firstAt, countAt, runAt, hasRun, gateAt}
+use Rattle.network.specs.between.Record.{CellIs, decodedAt}
 use Rattle.network.specs.declared.Counts.{Counts}
 use Rattle.network.proofs.RecordCells.{record-below, gate-none, decoded-none, decoded-there}
 

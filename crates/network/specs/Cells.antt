@@ -1,6 +1,5 @@
 -- A network in lent cells, and what refusal 20 asks of them (document 01, "Sizes, and the reading and writing operations").
 -- Assumes nothing: these are definitions.
-use mathlib.Core.Path.{_≡_}
 use mathlib.Core.Bool.{Bool, true, _&&_}
 use mathlib.Core.List.{List, [], map}
 use mathlib.Core.Option.{Option, none, some}
@@ -9,12 +8,12 @@ use lib.Dec.{eqb, leb, ltb}
 use lib.ListN.{length, getD, take}
 use Rattle.lists.specs.Lists.{all, range, sumTo}
 use Rattle.signal.specs.Signal.{Node, Const, Input, Var}
-use Rattle.signal.specs.Cell.{sigCell, nodeOf, sigOf}
+use Rattle.signal.specs.Cell.{nodeOf, sigOf}
 use Rattle.gates.specs.Gate.{Buf, Gate, Comb, pins}
 use Rattle.gates.specs.Forms.{kindOf, kindTakes}
 use Rattle.network.specs.Net.{Net, netFrom}
 use Rattle.network.specs.declared.Counts.{Counts}
-use Rattle.network.specs.Record.{gateWidth, formAt, firstAt, countAt, gateAt, gateCells, pinCells}
+use Rattle.network.specs.Record.{gateWidth, formAt, firstAt, countAt, gateAt, pinCells}
 use Rattle.network.specs.Sizes.{maxInputs, maxOutputs, maxGates, maxPins}
 
 -- ---- a lent network
@@ -91,17 +90,6 @@ netOf l = cellNet (l .counts .inputs) (l .cells) (l .pinsLent) (l .counts .gates
 abbrev pub countsOf : Net → Counts
 countsOf net =
     record { inputs = net .inputs; gates = length (net .gates); pins = length (pinCells (net .gates)); outputs = length (net .outputs) }
-
--- the cells in use are those of the network
-pub record Laid (net : Net) (l : Lent) : Type 0 where
-  -- the counts are the network's
-  pub counted : l .counts ≡ countsOf net
-  -- the records in use
-  pub gatesLaid : take (length (net .gates) * gateWidth) (l .cells) ≡ gateCells 0 (net .gates)
-  -- the pins in use
-  pub pinsLaid : take (length (pinCells (net .gates))) (l .pinsLent) ≡ pinCells (net .gates)
-  -- the outputs in use
-  pub outsLaid : take (length (net .outputs)) (l .outsLent) ≡ map sigCell (net .outputs)
 
 -- the lent cells are 32-bit numbers, as the slices hold them
 pub record Words (l : Lent) : Type 0 where

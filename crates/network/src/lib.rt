@@ -8,12 +8,13 @@ ghost use mathlib.Core.Path.{_≡_};
 ghost use mathlib.Core.List.{[], _∷_};
 ghost use Prim.Native.Nat.{_+_, _*_, _≤_, _<_};
 ghost use lib.ListN.{length};
-ghost use Rattle.lists.specs.Lists.{overwriteAt};
+ghost use Rattle.lists.specs.between.Lists.{overwriteAt};
 ghost use Rattle.signal.specs.Cell.{nodeOf};
 ghost use Rattle.network.specs.Cells.{lent, sizesFit, startAt, recordFits, recordsFit, validNode, allValid, isNetwork};
 ghost use Rattle.network.specs.Sizes.{maxGates, maxPins};
-ghost use Rattle.gates.specs.Decode.{pinCount, pinsIn};
-ghost use Rattle.network.specs.Record.{RecordIn, RunFrom, LayRoom, GateLaid, handRecord, withFirst, recordAt, gateWidth, formAt, firstAt, countAt, decodedAt, CellIs};
+ghost use Rattle.gates.specs.between.Decode.{pinCount, pinsIn};
+ghost use Rattle.network.specs.Record.{gateWidth, formAt, firstAt, countAt};
+ghost use Rattle.network.specs.between.Record.{RecordIn, RunFrom, LayRoom, GateLaid, handRecord, withFirst, recordAt, decodedAt, CellIs};
 
 pub const MAX_INPUTS: usize = 256;
 

@@ -1,3 +1,4 @@
 pub mod Conditions
 pub mod Trip
 pub mod Witness
+pub mod between

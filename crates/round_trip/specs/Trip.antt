@@ -116,10 +116,3 @@ pub record ReadsBack (net : Net) (o : TripOutcome) : Type 0 where
   -- and so is that of the network read back
   pub one-back : (rows outs : List (List Bool)) → NetRuns (netOf (lent counts (o .gates) (o .pins) (o .outputs))) rows outs
       ↔ (outs ≡ run (netOf (lent counts (o .gates) (o .pins) (o .outputs))) rows)
-
--- the contract of `write_then_read`
-pub record WritesThenReads (l : Lent) (n : ℕ) (m : Lengths) (o : TripOutcome) : Type 0 where
-  -- the answer and every cell and byte are determined, whatever is lent
-  pub determined : o ≡ tripInto l n m
-  -- demand 3
-  pub demand : RoundTripConditions l n m → ReadsBack (netOf l) o

@@ -9,7 +9,8 @@ ghost use mathlib.Core.Path.{_≡_};
 ghost use lib.ListN.{length};
 ghost use Rattle.network.specs.Cells.{lent};
 ghost use Rattle.blif_read.specs.Into.{lengths};
-ghost use Rattle.round_trip.specs.Trip.{writtenLength, readAnswer, answerOf, tripOutcome, WritesThenReads};
+ghost use Rattle.round_trip.specs.Trip.{writtenLength, readAnswer, answerOf, tripOutcome};
+ghost use Rattle.round_trip.specs.between.Trip.{WritesThenReads};
 
 // The writer's refusal; the reader's; or the text's length and the counts of the network read back.
 pub enum TripAnswer {

@@ -9,8 +9,10 @@ use lib.Bits.{bitXor, xor-zero-r}
 use borrow.Author.Tests.{eq-eqb, ne-eqb, lt-ltb, le-ltb}
 use mir.Val.{boolByte}
 use Rattle.lists.proofs.Tests.{by-order}
-use Rattle.signal.specs.Signal.{Node, Const, Input, Var, Signal, plain, xorS, invert, inputNode, constNode, gateNode}
-use Rattle.signal.specs.Cell.{bitOf, nodeCell, sigCell, nodeOf, sigOf, gateCell, inputCell, gateNumber, inputNumber}
+use Rattle.signal.specs.Signal.{Node, Const, Input, Var, Signal, plain, xorS, invert, constNode}
+use Rattle.signal.specs.between.Signal.{inputNode, gateNode}
+use Rattle.signal.specs.Cell.{bitOf, nodeCell, sigCell, nodeOf, sigOf}
+use Rattle.signal.specs.between.Cell.{gateCell, inputCell, gateNumber, inputNumber}
 use Rattle.signal.proofs.Bits.{xor-one}
 
 -- the numbers that a cell has room for: 2^30 − 1 gates and 2^30 inputs

@@ -7,8 +7,10 @@ use lib.Dec.{ltb}
 use lib.ListN.{length, getD}
 use borrow.Author.Tests.{lt-ltb, le-ltb}
 use Rattle.lists.proofs.Tests.{and-both, and-false}
-use Rattle.signal.specs.Signal.{Node, Const, Input, Var, Signal, plain, invertIf, xorS, gateNode, remapNode, remap}
-use Rattle.signal.specs.Cell.{nodeCell, sigCell, nodeOf, sigOf, gateNumber, remapCell}
+use Rattle.signal.specs.Signal.{Node, Const, Input, Var, Signal, plain, invertIf, xorS, remapNode, remap}
+use Rattle.signal.specs.between.Signal.{gateNode}
+use Rattle.signal.specs.Cell.{nodeCell, sigCell, nodeOf, sigOf}
+use Rattle.signal.specs.between.Cell.{gateNumber, remapCell}
 use Rattle.signal.proofs.Cells.{Small}
 use Rattle.signal.proofs.Cells.{gate-number, signal-again, cell-again}
 

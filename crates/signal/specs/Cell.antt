@@ -1,11 +1,9 @@
 -- A signal as a 32-bit cell (document 01, src/network/signal.rs): "bit 0 is the inversion and bit 31 marks an input".
 -- Assumes nothing: these are definitions.
-use mathlib.Core.Bool.{Bool, true, false, _&&_, cond}
-use mathlib.Core.List.{List}
-use Prim.Native.Nat.{ℕ, _+_, _-_, _*_, _/_, _%_, _^_, _<_}
+use mathlib.Core.Bool.{Bool, true, false, cond}
+use Prim.Native.Nat.{ℕ, _+_, _-_, _*_, _/_, _%_, _^_}
 use lib.Dec.{eqb, ltb}
-use lib.ListN.{length, getD}
-use Rattle.signal.specs.Signal.{Node, Const, Input, Var, Signal, plain, xorS, gateNode}
+use Rattle.signal.specs.Signal.{Node, Const, Input, Var, Signal}
 
 -- a bit as a number
 abbrev pub bitOf : Bool → ℕ
@@ -29,25 +27,3 @@ nodeOf c = cond (ltb c 2) Const (cond (ltb c (2 ^ 31)) (Var (c / 2 - 1)) (Input 
 -- the signal of a cell
 abbrev pub sigOf : ℕ → Signal
 sigOf c = record { node = nodeOf c; inv = eqb (c % 2) 1 }
-
--- "Gate v is 2 × (v + 1)" in 32 bits, for every 32-bit v
-abbrev pub gateCell : ℕ → ℕ
-gateCell v = 2 * (v + 1) % 2 ^ 32
-
--- "Input v is 2^32 − 2 × (v + 1)" in 32 bits, for every 32-bit v
-abbrev pub inputCell : ℕ → ℕ
-inputCell v = (2 ^ 33 - 2 * (v + 1)) % 2 ^ 32
-
--- the number of a gate's cell: one less than its half, in 32 bits
-abbrev pub gateNumber : ℕ → ℕ
-gateNumber c = (c / 2 + (2 ^ 32 - 1)) % 2 ^ 32
-
--- the number of an input's cell
-abbrev pub inputNumber : ℕ → ℕ
-inputNumber c = 2 ^ 31 - 1 - c / 2
-
--- the cell with its gate renumbered: t holds the new signal of each gate, and the inversion is added to it.
--- What is no gate, or no gate of t, stays
-unfoldable pub remapCell : List ℕ → ℕ → ℕ
-remapCell t c =
-    cond (gateNode (nodeOf c) && ltb (gateNumber c) (length t)) (sigCell (xorS (sigOf (getD t (gateNumber c) 0)) (sigOf c .inv))) c

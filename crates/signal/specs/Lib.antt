@@ -1,2 +1,3 @@
 pub mod Signal
 pub mod Cell
+pub mod between

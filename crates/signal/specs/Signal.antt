@@ -40,23 +40,11 @@ xorS s b = record { node = s .node; inv = invertIf b (s .inv) }
 abbrev pub invert : Signal → Signal
 invert s = xorS s true
 
--- whether the node is an input: "bit 31 marks an input"
-abbrev pub inputNode : Node → Bool
-inputNode Const = false
-inputNode (Input i) = true
-inputNode (Var g) = false
-
 -- whether the node is a constant
 abbrev pub constNode : Node → Bool
 constNode Const = true
 constNode (Input i) = false
 constNode (Var g) = false
-
--- whether the node is a gate
-abbrev pub gateNode : Node → Bool
-gateNode Const = false
-gateNode (Input i) = false
-gateNode (Var g) = true
 
 -- the node with gate g renumbered π g
 abbrev pub remapNode : (ℕ → ℕ) → Node → Node

@@ -1,8 +1,10 @@
 // Signals: 32-bit numbers built, inverted and split by shifts and masks (Quaigh's src/network/signal.rs).
 ghost use mathlib.Core.Path.{_≡_};
 ghost use Prim.Native.Nat.{_*_, _/_, _%_, _^_};
-ghost use Rattle.signal.specs.Signal.{zeroS, oneS, plain, invert, xorS, inputNode, constNode, gateNode};
-ghost use Rattle.signal.specs.Cell.{sigCell, nodeOf, sigOf, gateCell, inputCell, gateNumber, inputNumber, remapCell};
+ghost use Rattle.signal.specs.Signal.{zeroS, oneS, plain, invert, xorS, constNode};
+ghost use Rattle.signal.specs.between.Signal.{inputNode, gateNode};
+ghost use Rattle.signal.specs.Cell.{sigCell, nodeOf, sigOf};
+ghost use Rattle.signal.specs.between.Cell.{gateCell, inputCell, gateNumber, inputNumber, remapCell};
 
 // A constant, an input or a gate, or its complement: bit 0 is the inversion, bit 31 marks an input.
 pub struct Signal {

@@ -10,13 +10,16 @@ use lib.ListN.{length, getD, drop, length-map, drop-of-length-le, List·getD-eq-
 use borrow.Author.Tests.{eq-eqb, ne-eqb, eqb-true, eqb-false}
 use Rattle.lists.proofs.Tests.{by-test}
 use Rattle.lists.proofs.Places.{drop-next}
-use Rattle.signal.specs.Signal.{Node, Const, Input, Var, invertIf, inputNode, gateNode}
-use Rattle.signal.specs.Cell.{nodeOf, sigOf, inputNumber, gateNumber}
+use Rattle.signal.specs.Signal.{Node, Const, Input, Var, invertIf}
+use Rattle.signal.specs.between.Signal.{inputNode, gateNode}
+use Rattle.signal.specs.Cell.{nodeOf, sigOf}
+use Rattle.signal.specs.between.Cell.{inputNumber, gateNumber}
 use Rattle.signal.proofs.Cells.{input-number, gate-number}
-use Rattle.gates.specs.Gate.{allOf, anyOf, ones, odd, atLeastTwo}
+use Rattle.gates.specs.Gate.{allOf, anyOf, odd, atLeastTwo}
+use Rattle.gates.specs.between.Gate.{ones}
 use Rattle.gates.proofs.Bits.{maj-is, xor-is}
 use Rattle.network.specs.Clock.{nodeBit}
-use Rattle.simulate.specs.Bits.{signalBit, pinBits}
+use Rattle.simulate.specs.between.Bits.{signalBit, pinBits}
 
 -- ---- a signal's bit
 

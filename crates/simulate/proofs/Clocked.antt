@@ -21,8 +21,8 @@ use Rattle.network.specs.Record.{gateAt}
 use Rattle.network.specs.declared.Counts.{Counts}
 use Rattle.network.proofs.GateRead.{cell-at, cell-count}
 use Rattle.network.proofs.OneChoice.{Ranked, ranked, settle-fits}
-use Rattle.simulate.specs.Bits.{bitsOf, signalBit, bitDigit}
-use Rattle.simulate.specs.Sweep.{SettleOutcome, settleOutcome, settleIn, putTo, steppedTo, shownTo, ClockOutcome, clockOutcome, clockInto}
+use Rattle.simulate.specs.between.Bits.{bitsOf, signalBit, bitDigit}
+use Rattle.simulate.specs.between.Sweep.{SettleOutcome, settleOutcome, settleIn, putTo, steppedTo, shownTo, ClockOutcome, clockOutcome, clockInto}
 use Rattle.simulate.proofs.Putting.{length-putTo, putTo-at}
 use Rattle.simulate.proofs.Sweeping.{Target, settle-fit, settle-ends}
 

@@ -10,7 +10,8 @@ use lib.ListN.{length, getD, take, drop, length-map}
 use borrow.Author.Tests.{eqb-true}
 use Rattle.signal.specs.Signal.{Signal}
 use Rattle.signal.specs.Cell.{sigOf}
-use Rattle.gates.specs.Gate.{Form, Buf, Gate, Comb, Dff, ones, mux, formBit}
+use Rattle.gates.specs.Gate.{Form, Buf, Gate, Comb, Dff, mux, formBit}
+use Rattle.gates.specs.between.Gate.{ones}
 use Rattle.gates.specs.Forms.{canHave, binaryForm, ternaryForm, naryForm, kindOf, kindTakes, combFrom, flopFrom, gateOfKind, gateFrom}
 use Rattle.gates.specs.declared.BinaryType.{BinaryType}
 use Rattle.gates.specs.declared.BinaryType.the-variants as B
@@ -20,7 +21,7 @@ use Rattle.gates.specs.declared.NaryType.{NaryType}
 use Rattle.gates.specs.declared.NaryType.the-variants as N
 use Rattle.gates.specs.declared.Kind.{Kind}
 use Rattle.gates.specs.declared.Kind.the-variants as K
-use Rattle.gates.specs.Decode.{gateIn, decodedIn}
+use Rattle.gates.specs.between.Decode.{gateIn, decodedIn}
 use Rattle.gates.specs.declared.PinRun.{PinRun}
 use Rattle.gates.specs.declared.Gate as declared
 use Rattle.gates.specs.declared.Gate.the-variants as G
@@ -31,10 +32,11 @@ use Rattle.gates.proofs.Decode.{none-kind}
 use Rattle.gates.proofs.Forms.{binary-count, ternary-count}
 use Rattle.network.specs.Clock.{gateBit, nextBit}
 use Rattle.network.specs.Cells.{orBuf}
-use Rattle.network.specs.Record.{gateWidth, formAt, firstAt, countAt, CellIs, gateAt}
+use Rattle.network.specs.Record.{gateWidth, formAt, firstAt, countAt, gateAt}
+use Rattle.network.specs.between.Record.{CellIs}
 use Rattle.network.proofs.RecordCells.{record-below, gate-there}
 use Rattle.network.proofs.Records.{no-record, no-run, end-is, cut-run}
-use Rattle.simulate.specs.Bits.{signalBit, pinBits, Makes, MakesOfThree, NextOf}
+use Rattle.simulate.specs.between.Bits.{signalBit, pinBits, Makes, MakesOfThree, NextOf}
 use Rattle.simulate.proofs.Bits.{all-by, any-by, none-by, odd-by, even-by, maj-by, one-bit, length-pins}
 
 -- ---- the bit of a gate of a kind

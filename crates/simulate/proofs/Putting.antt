@@ -7,7 +7,7 @@ use native.Mathlib.Numerals.{add-one}
 use lib.ListN.{length, getD, set, length-set}
 use lib.Seq.{getD-set-same, getD-set-other}
 use Rattle.lists.proofs.Tests.{below-next}
-use Rattle.simulate.specs.Sweep.{putTo}
+use Rattle.simulate.specs.between.Sweep.{putTo}
 
 module _ {A : Type 0} (f : ℕ → A) (l : List A) where
   pub length-putTo : (n : ℕ) → length (putTo n f l) ≡ length l

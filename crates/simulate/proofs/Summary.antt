@@ -12,8 +12,8 @@ use Rattle.network.specs.Clock.{Clock}
 use Rattle.network.specs.Cells.{lent, netOf}
 use Rattle.network.specs.Sizes.{maxGates}
 use Rattle.network.specs.declared.Counts.{Counts}
-use Rattle.simulate.specs.Bits.{bitsOf}
-use Rattle.simulate.specs.Sweep.{clockInto}
+use Rattle.simulate.specs.between.Bits.{bitsOf}
+use Rattle.simulate.specs.between.Sweep.{clockInto}
 use Rattle.simulate.proofs.Clocked as clocked
 
 module _ (counts : Counts) (most : ℕ) (cells pins outs : List ℕ) (row held : List Bool) (line : List ℕ) where

@@ -17,8 +17,8 @@ use Rattle.network.specs.Clock.{sigBit, gateBit}
 use Rattle.network.specs.Cells.{orBuf}
 use Rattle.network.specs.Record.{gateAt}
 use Rattle.network.proofs.OneChoice.{gate-agrees}
-use Rattle.simulate.specs.Bits.{bitsOf, signalBit}
-use Rattle.simulate.specs.Sweep.{SweepOutcome, sweepOutcome, SettleOutcome, settleOutcome, bitOfGate, workOut, sweepTo, settleIn}
+use Rattle.simulate.specs.between.Bits.{bitsOf, signalBit}
+use Rattle.simulate.specs.between.Sweep.{SweepOutcome, sweepOutcome, SettleOutcome, settleOutcome, bitOfGate, workOut, sweepTo, settleIn}
 
 beq-same : (b x : Bool) → not (Bool·beq b x) ≡ false → b ≡ x
 beq-same true true e = refl

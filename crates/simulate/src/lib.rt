@@ -19,13 +19,14 @@ ghost use mathlib.Core.Bool.{false, cond};
 ghost use mathlib.Core.List.{map};
 ghost use lib.ListN.{getD, set};
 ghost use Rattle.signal.specs.Cell.{sigOf};
-ghost use Rattle.gates.specs.Gate.{ones, mux};
+ghost use Rattle.gates.specs.Gate.{mux};
+ghost use Rattle.gates.specs.between.Gate.{ones};
 ghost use Rattle.gates.specs.Forms.{gateOfKind, binaryForm, ternaryForm, naryForm};
 ghost use Rattle.network.specs.Clock.{gateBit, nextBit};
 ghost use Rattle.network.specs.Cells.{orBuf};
 ghost use Rattle.network.specs.Record.{gateAt};
-ghost use Rattle.simulate.specs.Bits.{signalBit, pinBits, Makes, MakesOfThree, NextOf, bitDigit};
-ghost use Rattle.simulate.specs.Sweep.{sweepOutcome, sweepTo, settleOutcome, settleIn, steppedTo, shownTo, clockOutcome, clockInto};
+ghost use Rattle.simulate.specs.between.Bits.{signalBit, pinBits, Makes, MakesOfThree, NextOf, bitDigit};
+ghost use Rattle.simulate.specs.between.Sweep.{sweepOutcome, sweepTo, settleOutcome, settleIn, steppedTo, shownTo, clockOutcome, clockInto};
 
 // Bit i, zero past the end.
 fn bit_at(bits: &[bool], i: usize) -> bool

@@ -11,7 +11,8 @@ use Rattle.lists.proofs.Counting.{getD-occ, mem-occ}
 use Rattle.lists.proofs.FirstPlace.{place, place-at}
 use Rattle.lists.proofs.Places.{place-lt, getD-place, map-on, map-map, run-getD}
 use Rattle.signal.specs.Signal.{Node, Const, Input, Var, Signal, plain, remap}
-use Rattle.signal.specs.Cell.{sigCell, nodeOf, sigOf, gateCell, remapCell}
+use Rattle.signal.specs.Cell.{sigCell, nodeOf, sigOf}
+use Rattle.signal.specs.between.Cell.{gateCell, remapCell}
 use Rattle.signal.proofs.Cells.{signal-again, gate-cell}
 use Rattle.signal.proofs.Remap.{Renames, remap-cell}
 use Rattle.gates.specs.Gate.{Buf, Gate, Comb, Dff, pins}
@@ -19,7 +20,8 @@ use Rattle.gates.specs.Forms.{formCell}
 use Rattle.network.specs.declared.Counts.{Counts}
 use Rattle.network.specs.Net.{Net, GateIs, ValidNode}
 use Rattle.network.specs.Cells.{lent, netOf}
-use Rattle.network.specs.Record.{gateWidth, recordOf, recordAt, withFirst, firstAt, countAt, runAt, gateCells, pinCells}
+use Rattle.network.specs.Record.{gateWidth, recordOf, firstAt, countAt, runAt, gateCells, pinCells}
+use Rattle.network.specs.between.Record.{recordAt, withFirst}
 use Rattle.network.proofs.RecordCells.{withFirst-recordOf, recordOf-remap}
 use Rattle.network.specs.Renumber.{remapGate, placeOf, gateOr, permuted}
 use Rattle.network.proofs.PinCells.{pins-next}
@@ -28,9 +30,9 @@ use Rattle.network.proofs.Renumbering.{pins-remap}
 use Rattle.sort.specs.declared.Sorted.the-variants.{Order, Loop}
 use Rattle.sort_order.specs.Order.{sortOrder}
 use Rattle.sort_order.specs.Sorted.{graph, sorted}
-use Rattle.sort.specs.Into.{sortOutcome, sortInto}
-use Rattle.sort_order.specs.Sortable.{Sortable}
-use Rattle.sort.specs.Steps.{ordered, cellGraph, Numbers, PlacesTable, movedGates, movedPins, pinsIn, Movable, RenumberedCells}
+use Rattle.sort.specs.between.Into.{sortOutcome, sortInto}
+use Rattle.sort_order.specs.between.Sortable.{Sortable}
+use Rattle.sort.specs.between.Steps.{ordered, cellGraph, Numbers, PlacesTable, movedGates, movedPins, pinsIn, Movable, RenumberedCells}
 use Rattle.sort_order.proofs.Ordering.{sort-length}
 use Rattle.sort_order.proofs.Sorting.{graph-valid, order-sorted, none-sorted, order-has, order-orders}
 use Rattle.sort_order.proofs.Keeps.{once, kept-pins}

@@ -10,8 +10,8 @@ use lib.ListN.{length, getD, take, drop, length-append}
 use lib.Seq.{take-at}
 use borrow.Author.Tests.{eq-eqb, ne-eqb}
 use Rattle.sort_order.specs.Order.{Graph, recorded, order, flopsTo, startTo, useCount, sortOrder}
-use Rattle.sort_order.specs.Walk.{ValidGraph}
-use Rattle.sort.specs.Steps.{fromTop, FlopsPlaced, Started, Counted, unmarked, Recorded, ordered}
+use Rattle.sort_order.specs.between.Walk.{ValidGraph}
+use Rattle.sort.specs.between.Steps.{fromTop, FlopsPlaced, Started, Counted, unmarked, Recorded, ordered}
 use Rattle.sort_order.proofs.Ordering.{order-short, sort-full, sort-short}
 use Rattle.sort.proofs.Starting.{start-same, flopped-unmarked}
 

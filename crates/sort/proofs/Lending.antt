@@ -15,8 +15,8 @@ use Rattle.network.proofs.Lent.{network-laid, network-readable, network-sizes}
 use Rattle.sort.specs.declared.Sorted.{Sorted}
 use Rattle.sort.specs.declared.Attempt.the-variants.{Refused, Done}
 use Rattle.sort_order.specs.Sorted.{sorted}
-use Rattle.sort.specs.Into.{SortOutcome, sortOutcome, sortInto, canSort, sortLent}
-use Rattle.sort_order.specs.Sortable.{Sortable}
+use Rattle.sort.specs.between.Into.{SortOutcome, sortOutcome, sortInto, canSort, sortLent}
+use Rattle.sort_order.specs.between.Sortable.{Sortable}
 
 -- a network that is lent can be sorted into cells that have room
 pub network-sortable : (l : Lent) (newGates newPins : ℕ) → Words l → isNetwork l ≡ true

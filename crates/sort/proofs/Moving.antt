@@ -6,14 +6,16 @@ use native.Mathlib.Omega.{arith}
 use native.Mathlib.Nat.{zero-add}
 use lib.ListN.{length, getD, take, drop, set, length-set, length-map, drop-of-length-le}
 use lib.Seq.{getD-set-same, getD-set-other, getD-take, length-take-le}
-use Rattle.lists.specs.Lists.{overwrite, overwriteAt}
+use Rattle.lists.specs.Lists.{overwrite}
+use Rattle.lists.specs.between.Lists.{overwriteAt}
 use Rattle.lists.proofs.Places.{drop-next}
 use Rattle.lists.proofs.Tests.{below-next}
-use Rattle.signal.specs.Cell.{gateCell, remapCell}
+use Rattle.signal.specs.between.Cell.{gateCell, remapCell}
 use Rattle.network.specs.Sizes.{maxGates}
-use Rattle.network.specs.Record.{gateWidth, recordAt, withFirst, runAt}
+use Rattle.network.specs.Record.{gateWidth, runAt}
+use Rattle.network.specs.between.Record.{recordAt, withFirst}
 use Rattle.network.proofs.RecordCells.{record-in, length-recordAt}
-use Rattle.sort.specs.Steps.{Numbers, PlacesTable, movedGates, movedPins, pinsIn, RoomFor, GateMoved, Movable, Moved}
+use Rattle.sort.specs.between.Steps.{Numbers, PlacesTable, movedGates, movedPins, pinsIn, RoomFor, GateMoved, Movable, Moved}
 use Rattle.lists.proofs.OverAt.{length-overwriteAt, overwriteAt-nil, overwrite-first, overwrite-append}
 
 -- ---- the translation table

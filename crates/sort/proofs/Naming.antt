@@ -9,12 +9,14 @@ use lib.ListN.{length, getD, drop, set, drop-of-length-le}
 use Rattle.lists.specs.Lists.{hit, occ}
 use Rattle.lists.proofs.Counting.{hit-same, set-hit, occ-append}
 use Rattle.lists.proofs.Places.{drop-next}
-use Rattle.signal.specs.Signal.{Node, Const, Input, Var, gateNode}
-use Rattle.signal.specs.Cell.{nodeOf, sigOf, gateNumber}
+use Rattle.signal.specs.Signal.{Node, Const, Input, Var}
+use Rattle.signal.specs.between.Signal.{gateNode}
+use Rattle.signal.specs.Cell.{nodeOf, sigOf}
+use Rattle.signal.specs.between.Cell.{gateNumber}
 use Rattle.signal.proofs.Cells.{gate-number}
 use Rattle.network.specs.Sizes.{maxPins}
 use Rattle.sort_order.specs.Sorted.{nodeGate, gateNums}
-use Rattle.sort.specs.Steps.{gateNamed, gateIns, Raised, Countable}
+use Rattle.sort.specs.between.Steps.{gateNamed, gateIns, Raised, Countable}
 
 -- ---- one cell
 

@@ -12,17 +12,18 @@ use Rattle.lists.proofs.Tests.{by-test, and-left, and-right}
 use Rattle.signal.specs.Cell.{sigOf}
 use Rattle.gates.specs.Gate.{Gate, pins, isComb}
 use Rattle.gates.specs.Forms.{formCell, kindOf, gateFrom}
-use Rattle.gates.specs.Decode.{kindComb}
+use Rattle.gates.specs.between.Decode.{kindComb}
 use Rattle.gates.proofs.Forms.{comb-number}
 use Rattle.network.proofs.GateRead.{has-run, gate-is, cell-gate, cell-count}
 use Rattle.network.specs.declared.Counts.{Counts}
 use Rattle.network.specs.Cells.{cellGates, lent, netOf}
-use Rattle.network.specs.Record.{gateWidth, formAt, firstAt, countAt, runAt, gateAt, pinCells, HasRun}
+use Rattle.network.specs.Record.{gateWidth, formAt, firstAt, countAt, runAt, gateAt, pinCells}
+use Rattle.network.specs.between.Record.{HasRun}
 use Rattle.sort_order.specs.Order.{Graph, useCount}
 use Rattle.sort_order.specs.Sorted.{gateNums, combAt, insAt, graph}
-use Rattle.sort_order.specs.Sortable.{Sortable}
-use Rattle.sort_order.specs.Walk.{ValidGraph}
-use Rattle.sort.specs.Steps.{gateIns, formComb, cellComb, cellIns, cellGraph, Cells}
+use Rattle.sort_order.specs.between.Sortable.{Sortable}
+use Rattle.sort_order.specs.between.Walk.{ValidGraph}
+use Rattle.sort.specs.between.Steps.{gateIns, formComb, cellComb, cellIns, cellGraph, Cells}
 use Rattle.sort.proofs.Naming.{ins-nums}
 use Rattle.sort_order.proofs.Sorting.{graph-valid}
 use Rattle.sort_order.proofs.Keeps.{uses-within}

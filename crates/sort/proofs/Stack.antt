@@ -11,12 +11,13 @@ use lib.Seq.{getD-set-same, getD-set-other}
 use Rattle.lists.specs.Lists.{occ}
 use Rattle.lists.proofs.Counting.{hit-or, once-short}
 use Rattle.lists.proofs.Places.{drop-next}
-use Rattle.signal.specs.Signal.{gateNode}
-use Rattle.signal.specs.Cell.{nodeOf, gateNumber}
+use Rattle.signal.specs.between.Signal.{gateNode}
+use Rattle.signal.specs.Cell.{nodeOf}
+use Rattle.signal.specs.between.Cell.{gateNumber}
 use Rattle.network.specs.Sizes.{maxGates}
 use Rattle.sort_order.specs.Order.{Graph, lowered, pushed, countsAfter, stackAfter}
-use Rattle.sort_order.specs.Walk.{WalkState}
-use Rattle.sort.specs.Steps.{gateNamed, gateIns, fromTop, Walks, Lowers, Lowered}
+use Rattle.sort_order.specs.between.Walk.{WalkState}
+use Rattle.sort.specs.between.Steps.{gateNamed, gateIns, fromTop, Walks, Lowers, Lowered}
 use Rattle.sort_order.proofs.Walk.{good-lower, next-below, next-count, next-fresh}
 use Rattle.sort.proofs.Naming.{named-gate, named-none, named-own}
 

@@ -15,7 +15,7 @@ use Rattle.lists.proofs.Places.{drop-next}
 use Rattle.lists.proofs.Tests.{by-order}
 use Rattle.network.specs.Sizes.{maxGates}
 use Rattle.sort_order.specs.Order.{Graph, pushed, flopsTo, startTo}
-use Rattle.sort.specs.Steps.{flopMark, FlopsPlaced, unmarked, Started, GatesMarked}
+use Rattle.sort.specs.between.Steps.{flopMark, FlopsPlaced, unmarked, Started, GatesMarked}
 use Rattle.sort.proofs.Stack.{fromTop-push, pushed-more}
 use Rattle.sort.proofs.Uses.{getD-zeros}
 

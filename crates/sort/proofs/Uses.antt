@@ -11,7 +11,7 @@ use Rattle.lists.proofs.Counting.{front-le}
 use Rattle.network.specs.Sizes.{maxGates}
 use Rattle.network.specs.Record.{runAt}
 use Rattle.sort_order.specs.Order.{Graph, uses, useCount}
-use Rattle.sort.specs.Steps.{gateIns, formComb, cellGraph, Cells, Raised, Countable, Counted}
+use Rattle.sort.specs.between.Steps.{gateIns, formComb, cellGraph, Cells, Raised, Countable, Counted}
 use Rattle.sort_order.proofs.Walk.{uses-comb, uses-flop, uses-ins}
 
 pub getD-zeros : (k v : ℕ) → getD {A = ℕ} (replicate k 0) v 0 ≡ 0

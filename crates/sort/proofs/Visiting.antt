@@ -11,8 +11,8 @@ use Rattle.lists.specs.Lists.{occ, listTo}
 use Rattle.lists.proofs.Counting.{hit-or, once-short, length-listTo, getD-listTo}
 use Rattle.network.specs.Sizes.{maxGates}
 use Rattle.sort_order.specs.Order.{Graph, uses, pushed, lowered, kept, countsAfter, stackAfter, walk, recorded, useCount}
-use Rattle.sort_order.specs.Walk.{ValidGraph, WalkState}
-use Rattle.sort.specs.Steps.{gateIns, fromTop, Lowered, Walks, GatesMarked, Ready, Visited, Begins, Recorded}
+use Rattle.sort_order.specs.between.Walk.{ValidGraph, WalkState}
+use Rattle.sort.specs.between.Steps.{gateIns, fromTop, Lowered, Walks, GatesMarked, Ready, Visited, Begins, Recorded}
 use Rattle.sort_order.proofs.Walk.{budget, good-lower, next-below, good-pop, good-all, budget-all, top-low, top-fresh, uses-comb, uses-flop}
 use Rattle.sort_order.proofs.WalkEnds.{good-start, budget-start}
 use Rattle.sort.proofs.Stack.{length-fromTop}

@@ -1,2 +1,1 @@
-pub mod Into
-pub mod Steps
+pub mod between

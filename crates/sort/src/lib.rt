@@ -7,18 +7,20 @@ ghost use mathlib.Core.Path.{_≡_};
 ghost use mathlib.Core.List.{List, map};
 ghost use Prim.Native.Nat.{ℕ, _+_, _-_, _*_, _≤_, _<_};
 ghost use lib.ListN.{length, getD, take, replicate};
-ghost use Rattle.lists.specs.Lists.{overwrite, overwriteAt};
-ghost use Rattle.signal.specs.Cell.{remapCell};
+ghost use Rattle.lists.specs.Lists.{overwrite};
+ghost use Rattle.lists.specs.between.Lists.{overwriteAt};
+ghost use Rattle.signal.specs.between.Cell.{remapCell};
 ghost use Rattle.network.specs.Cells.{lent, netOf};
 ghost use Rattle.network.specs.Sizes.{maxGates};
-ghost use Rattle.network.specs.Record.{gateWidth, RecordIn, runAt, HasRun};
+ghost use Rattle.network.specs.Record.{gateWidth, runAt};
+ghost use Rattle.network.specs.between.Record.{RecordIn, HasRun};
 ghost use Rattle.sort_order.specs.Order.{uses, sortOrder};
 ghost use Rattle.sort_order.specs.Sorted.{sorted};
-ghost use Rattle.sort.specs.Into.{sortOutcome, sortInto, sortLent};
-ghost use Rattle.sort_order.specs.Sortable.{Sortable};
-ghost use Rattle.sort.specs.Steps.{gateNamed, gateIns, formComb, cellGraph, Cells, Raised, Countable, Counted};
-ghost use Rattle.sort.specs.Steps.{fromTop, Lowered, Lowers, Walks, FlopsPlaced, Started, Ready, Visited, Begins, Recorded, ordered};
-ghost use Rattle.sort.specs.Steps.{Numbers, PlacesTable, RoomFor, GateMoved, Movable, Moved, RenumberedCells};
+ghost use Rattle.sort.specs.between.Into.{sortOutcome, sortInto, sortLent};
+ghost use Rattle.sort_order.specs.between.Sortable.{Sortable};
+ghost use Rattle.sort.specs.between.Steps.{gateNamed, gateIns, formComb, cellGraph, Cells, Raised, Countable, Counted};
+ghost use Rattle.sort.specs.between.Steps.{fromTop, Lowered, Lowers, Walks, FlopsPlaced, Started, Ready, Visited, Begins, Recorded, ordered};
+ghost use Rattle.sort.specs.between.Steps.{Numbers, PlacesTable, RoomFor, GateMoved, Movable, Moved, RenumberedCells};
 
 // Sorted, with the pins in use; or a combinational loop.
 pub enum Sorted {

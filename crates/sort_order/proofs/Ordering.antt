@@ -14,7 +14,7 @@ use Rattle.lists.proofs.Tests.{by-test}
 use Rattle.lists.proofs.Counting.{hit-or, zero-or, is-zero, sum-occ, once-short, all-one, occ-append}
 use Rattle.lists.proofs.FirstPlace.{place, place-here, place-there, place-below, place-left, place-right}
 use Rattle.sort_order.specs.Order.{Graph, uses, flopsTo, recorded, order, sortOrder}
-use Rattle.sort_order.specs.Walk.{ValidGraph, Before, WalkState}
+use Rattle.sort_order.specs.between.Walk.{ValidGraph, Before, WalkState}
 use Rattle.sort_order.proofs.Walk.{Ended, uses-comb}
 use Rattle.sort_order.proofs.WalkEnds.{flop-only, flop-has, recorded-ended}
 

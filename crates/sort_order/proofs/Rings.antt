@@ -12,7 +12,7 @@ use Rattle.lists.proofs.Tests.{by-test}
 use Rattle.lists.proofs.Counting.{hit-or, zero-or, is-over, once-short, some-zero, part-of}
 use Rattle.lists.proofs.FirstPlace.{place}
 use Rattle.sort_order.specs.Order.{Graph, uses, recorded, order, sortOrder}
-use Rattle.sort_order.specs.Walk.{ValidGraph, usesLeft, left}
+use Rattle.sort_order.specs.between.Walk.{ValidGraph, usesLeft, left}
 use Rattle.sort_order.proofs.Walk.{uses-ins}
 use Rattle.sort_order.proofs.WalkEnds.{flop-has, recorded-ended}
 use Rattle.sort_order.proofs.Ordering.{order-occ, order-sum, inputs-first, full-or, sort-full, sort-short}

@@ -18,7 +18,7 @@ use Rattle.network.proofs.OneChoice.{path-snoc}
 use Rattle.network.proofs.Permuting.{Orders, permuted-renumbers}
 use Rattle.sort_order.specs.Order.{sortOrder}
 use Rattle.sort_order.specs.Sorted.{nodeGate, gateNums, combAt, insAt, graph, sortedBy, sorted}
-use Rattle.sort_order.specs.Walk.{ValidGraph}
+use Rattle.sort_order.specs.between.Walk.{ValidGraph}
 use Rattle.sort_order.proofs.Ordering.{some-full, order-below, sort-permutes}
 use Rattle.sort_order.proofs.Rings as rings
 use Rattle.sort_order.proofs.Rings.{one, more, sort-none}

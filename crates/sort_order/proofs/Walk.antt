@@ -10,7 +10,7 @@ use lib.Seq.{getD-set-other}
 use Rattle.lists.specs.Lists.{sumTo, hit, occ}
 use Rattle.lists.proofs.Counting.{hit-ne, hit-or, hit-same, set-hit, sum-point, part-le, is-zero, is-over}
 use Rattle.sort_order.specs.Order.{Graph, uses, lowered, pushed, countsAfter, stackAfter, kept, walk}
-use Rattle.sort_order.specs.Walk.{ValidGraph, left, usesLeft, WalkState}
+use Rattle.sort_order.specs.between.Walk.{ValidGraph, left, usesLeft, WalkState}
 
 -- 1 of a number that is not 0
 abbrev pub pos : ℕ → ℕ

@@ -9,7 +9,7 @@ use lib.ListN.{length, getD}
 use Rattle.lists.specs.Lists.{hit, occ, sumTo, listTo}
 use Rattle.lists.proofs.Counting.{hit-eq, hit-or, sum-cong, last-or, is-zero, occ-append, length-listTo, getD-listTo}
 use Rattle.sort_order.specs.Order.{Graph, uses, useCount, pushed, flopsTo, startTo, recorded, walk, countsAfter, stackAfter, kept}
-use Rattle.sort_order.specs.Walk.{ValidGraph, WalkState}
+use Rattle.sort_order.specs.between.Walk.{ValidGraph, WalkState}
 use Rattle.sort_order.proofs.Walk.{pos, budget, Ended, good-pop, good-all, budget-all, walk-ends}
 
 -- v stands in l at most once, and only if it is below k and has the property

@@ -1,4 +1,3 @@
 pub mod Order
 pub mod Sorted
-pub mod Walk
-pub mod Sortable
+pub mod between

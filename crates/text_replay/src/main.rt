@@ -13,7 +13,7 @@ use refusals::Checked;
 use replay::read_word;
 ghost use Prim.Native.Nat.{_≤_};
 ghost use lib.ListN.{length};
-ghost use Rattle.blif_text.specs.Places.{maxTokens, TokensMarked};
+ghost use Rattle.blif_text.specs.between.Places.{maxTokens, TokensMarked};
 ghost use Rattle.blif_text.specs.Lines.{maxText};
 
 // A blank and the token of a cell.

@@ -8,7 +8,7 @@ use lib.ListN.{length}
 use Rattle.lists.specs.Lists.{if_then_else_, Bytes}
 use Rattle.refusals.specs.declared.Refusal.the-variants as refusal
 use Rattle.network.specs.Cells.{Lent, countsOf}
-use Rattle.network.specs.Sizes.{WithinSizes}
+use Rattle.network.specs.between.Sizes.{WithinSizes}
 use Rattle.network.specs.declared.Counts.{Counts}
 use Rattle.blif_text.specs.Lines.{maxText}
 use Rattle.blif_reading.specs.Read.{Result, read, refused, readText}
@@ -20,7 +20,8 @@ use Rattle.blif_write.specs.Into.{writeInto, WriteOutcome, writeOutcome}
 use Rattle.blif_write.specs.declared.WriteAnswer.{WriteAnswer}
 use Rattle.blif_write.specs.declared.WriteAnswer.the-variants as written
 use Rattle.blif_write.proofs.Answers.{Ways, refuses, writes, writer-ways}
-use Rattle.vumneath.specs.Handed.{networkOf, textFor, ReadHanded, WriteHanded, CountsFit, LengthFits}
+use Rattle.vumneath.specs.Handed.{networkOf, textFor, ReadHanded, WriteHanded}
+use Rattle.vumneath.specs.between.Handed.{CountsFit, LengthFits}
 use Rattle.vumneath.specs.declared.VumneathNetwork.{VumneathNetwork}
 use Rattle.vumneath.specs.declared.VumneathText.{VumneathText}
 

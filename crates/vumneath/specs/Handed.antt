@@ -12,7 +12,6 @@ use Rattle.network.specs.Net.{Net, Loop}
 use Rattle.network.specs.Clock.{NetRuns}
 use Rattle.network.specs.Settle.{run}
 use Rattle.network.specs.Cells.{Lent, lent, netOf, isNetwork, Words}
-use Rattle.network.specs.Sizes.{WithinSizes}
 use Rattle.network.specs.declared.Counts.{Counts}
 use Rattle.blif_text.specs.Lines.{maxText}
 use Rattle.blif_writing.specs.WrittenModel.{wide}
@@ -58,16 +57,6 @@ pub record WriteHanded (o : WriteOutcome) (r : VumneathText) (out : Bytes) : Typ
   pub answer : r ≡ textFor (o .answer)
   -- the bytes
   pub bytes : out ≡ o .out
-
--- an answer of reading whose counts are within document 01's sizes, so that 32 bits hold each
-pub record CountsFit (a : ReadAnswer) : Type 0 where
-  -- whatever was read is within the sizes
-  pub fits : (c : Counts) → a ≡ read.Read c → WithinSizes (c .inputs) (c .outputs) (c .gates) (c .pins)
-
--- an answer of writing whose length is within document 01's sizes, so that 32 bits hold it
-pub record LengthFits (a : WriteAnswer) : Type 0 where
-  -- whatever was written is within the sizes
-  pub fits : (n : ℕ) → a ≡ write.Written n → n ≤ maxText
 
 -- ---- what was handed over, as a network
 

@@ -9,7 +9,8 @@ ghost use lib.ListN.{length};
 ghost use Rattle.network.specs.Cells.{lent};
 ghost use Rattle.blif_read.specs.Into.{lengths, readInto};
 ghost use Rattle.blif_write.specs.Into.{writeInto};
-ghost use Rattle.vumneath.specs.Handed.{networkOf, textFor, ReadHanded, WriteHanded, CountsFit, LengthFits};
+ghost use Rattle.vumneath.specs.Handed.{networkOf, textFor, ReadHanded, WriteHanded};
+ghost use Rattle.vumneath.specs.between.Handed.{CountsFit, LengthFits};
 
 // What reading answers: refused is zero and the counts are those of the network, or refused is the refusal's number and the counts are
 // zero.

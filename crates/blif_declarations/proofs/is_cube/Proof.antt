@@ -11,7 +11,7 @@ use types.Run.{OneOf}
 use Rattle.blif_text.specs.declared.Statement.{Statement}
 use Rattle.blif_text.specs.declared.Statement.the-variants as place
 use Rattle.blif_text.proofs.Statement.{the-type}
-use Rattle.blif_declarations.specs.Rows.{isCube}
+use Rattle.blif_declarations.specs.between.Rows.{isCube}
 use Rattle.blif_declarations.proofs.is_cube.Statement.{statement}
 use Rattle.blif_declarations.proofs.is_cube.Tie as tie
 

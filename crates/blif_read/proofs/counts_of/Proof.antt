@@ -2,7 +2,7 @@
 use mathlib.Core.Path.{_≡_, refl}
 use native.Mathlib.Omega.{arith}
 use denote.Enum.Declared.{tagOf}
-use Rattle.blif_read.specs.Stages.{countsIn}
+use Rattle.blif_read.specs.between.Stages.{countsIn}
 use Rattle.blif_read.specs.declared.ReadAnswer.{ReadAnswer}
 use Rattle.blif_read.specs.declared.ReadAnswer.the-variants.{Read, Refused}
 use Rattle.blif_read.proofs.ReadAnswer.{the-type}

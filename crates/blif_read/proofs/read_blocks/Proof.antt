@@ -1,7 +1,7 @@
 -- `read_blocks` places the gates. Assumes nothing.
 use mathlib.Core.Path.{refl, subst}
 use borrow.Author.Needs.{needs}
-use Rattle.blif_read_signals.specs.Resolve.{PlacedBy}
+use Rattle.blif_read_signals.specs.between.Resolve.{PlacedBy}
 use Rattle.blif_read.proofs.Refusing.{holds-refused}
 use Rattle.blif_read.proofs.Lending.{enough-same}
 use Rattle.blif_read.proofs.Naming.{few-gates, few-placed, use-refused, gates-placed}

@@ -4,7 +4,7 @@ use native.Mathlib.Omega.{arith}
 use borrow.Author.Needs.{needs}
 use Rattle.blif_declarations.proofs.FrontLaws.{walk-count, walk-few, walk-decls, walk-front}
 use Rattle.blif_reading.specs.Read.{tooLarge}
-use Rattle.blif_read_names.specs.Tables.{DefinedBy}
+use Rattle.blif_read_names.specs.between.Tables.{DefinedBy}
 use Rattle.blif_read_names.proofs.FrontTables.{naming-back, tables-back}
 use Rattle.blif_read.proofs.Refusing.{holds-refused}
 use Rattle.blif_read.proofs.Lending.{enough-same}

@@ -6,7 +6,7 @@ use native.Mathlib.Omega.{arith}
 use lib.ListN.{length}
 use borrow.Author.Needs.{needs}
 use Rattle.network.specs.Sizes.{maxPins}
-use Rattle.blif_text.specs.Places.{TokensMarked}
+use Rattle.blif_text.specs.between.Places.{TokensMarked}
 use Rattle.blif_text.proofs.RefusalLaws.{stmts-start}
 use Rattle.blif_declarations.proofs.FrontLaws.{walk-count, walk-few, walk-decls, walk-front}
 use Rattle.blif_reading.specs.Read.{tooLarge}

@@ -2,7 +2,7 @@
 use mathlib.Core.Path.{_≡_, refl}
 use Prim.Native.Nat.{ℕ, zero, suc}
 use borrow.Author.Needs.{needs}
-use Rattle.blif_read_covers.specs.Pass.{linesIn}
+use Rattle.blif_read_covers.specs.between.Pass.{linesIn}
 use Rattle.blif_read_covers.proofs.line_count.Statement.{statement}
 use Rattle.blif_read_covers.proofs.line_count.Tie as tie
 

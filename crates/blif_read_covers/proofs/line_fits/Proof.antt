@@ -9,7 +9,7 @@ use borrow.Author.Tests.{lt-ltb, le-ltb, eq-eqb, ne-eqb}
 use borrow.Author.Needs.{needs}
 use denote.Enum.Declared.{tagOf}
 use types.Run.{OneOf}
-use Rattle.blif_read_covers.specs.Pass.{right, fits}
+use Rattle.blif_read_covers.specs.between.Pass.{right, fits}
 use Rattle.blif_read_covers.specs.declared.Output.{Output}
 use Rattle.blif_read_covers.specs.declared.Output.the-variants.{Zero, One, Wrong}
 use Rattle.blif_read_covers.proofs.Output.{the-type}

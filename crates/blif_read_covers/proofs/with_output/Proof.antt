@@ -1,7 +1,7 @@
 -- `with_output` goes by the output. Assumes nothing.
 use mathlib.Core.Path.{ap, sym}
 use borrow.Author.Needs.{needs}
-use Rattle.blif_read_covers.specs.Pass.{withOutput}
+use Rattle.blif_read_covers.specs.between.Pass.{withOutput}
 use Rattle.blif_read_covers.proofs.with_output.Statement.{statement}
 use Rattle.blif_read_covers.proofs.with_output.Tie as tie
 

@@ -1,7 +1,7 @@
 -- `build_covers` builds block after block. Assumes nothing.
 use Prim.Native.Nat.{_-_}
 use native.Mathlib.Omega.{arith}
-use Rattle.blif_text.specs.Blocks.{defsAt}
+use Rattle.blif_text.specs.between.Blocks.{defsAt}
 use Rattle.blif_read_gates.proofs.Building.{Building, building-start, building-room, building-next, building-done}
 use Rattle.blif_read_gates.proofs.Counting.{defs-long, def-place}
 use Rattle.blif_read_gates.proofs.build_covers.Statement.{statement}

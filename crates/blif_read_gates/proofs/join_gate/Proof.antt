@@ -2,7 +2,7 @@
 use mathlib.Core.Path.{sym, ap}
 use mathlib.Core.Bool.{Bool}
 use borrow.Author.Needs.{needs}
-use Rattle.blif_read_gates.specs.Steps.{joinInHand}
+use Rattle.blif_read_gates.specs.between.Steps.{joinInHand}
 use Rattle.blif_read_gates.proofs.join_gate.Statement.{statement}
 use Rattle.blif_read_gates.proofs.join_gate.Tie as tie
 

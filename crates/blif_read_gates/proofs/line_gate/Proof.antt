@@ -4,7 +4,7 @@ use mathlib.Core.Bool.{Bool, true, false}
 use native.Mathlib.Omega.{arith}
 use lib.ListN.{take, drop}
 use borrow.Author.Needs.{needs}
-use Rattle.blif_read_gates.specs.Steps.{lineInHand}
+use Rattle.blif_read_gates.specs.between.Steps.{lineInHand}
 use Rattle.blif_read_gates.proofs.CellLaws.{hand-many, hand-single}
 use Rattle.blif_read_gates.proofs.line_gate.Statement.{statement}
 use Rattle.blif_read_gates.proofs.line_gate.Tie as tie

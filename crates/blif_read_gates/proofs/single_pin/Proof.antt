@@ -4,7 +4,7 @@ use mathlib.Core.Bool.{Bool, cond}
 use native.Mathlib.Omega.{arith}
 use borrow.Author.Needs.{needs}
 use lib.ListN.{getD}
-use Rattle.blif_read_gates.specs.Steps.{turnCell}
+use Rattle.blif_read_gates.specs.between.Steps.{turnCell}
 use Rattle.blif_read_gates.proofs.CellLaws.{turn-is}
 use Rattle.blif_read_gates.proofs.LiteralLaws.{single-none, single-some}
 use Rattle.blif_read_gates.proofs.single_pin.Statement.{statement}

@@ -4,7 +4,7 @@ use Prim.Native.Nat.{_-_}
 use native.Mathlib.Omega.{arith}
 use borrow.Author.Needs.{needs}
 use lib.ListN.{length}
-use Rattle.blif_read_names.specs.Naming.{NamingSoFar, Steps}
+use Rattle.blif_read_names.specs.between.Naming.{NamingSoFar, Steps}
 use Rattle.blif_read_names.proofs.Walking.{going-start, going-done, going-next, going-stop}
 use Rattle.blif_read_names.proofs.build_name_to_sig.Statement.{statement}
 use Rattle.blif_read_names.proofs.build_name_to_sig.Tie as tie

@@ -3,7 +3,7 @@ use mathlib.Core.Path.{sym, subst}
 use native.Mathlib.Omega.{arith}
 use borrow.Author.Needs.{needs}
 use Rattle.blif_declarations.proofs.NextLaws.{next-as}
-use Rattle.blif_read_names.specs.Naming.{Steps}
+use Rattle.blif_read_names.specs.between.Naming.{Steps}
 use Rattle.blif_read_names.proofs.Defining.{go-none, go-model, go-end, go-inputs, go-outputs, step-is}
 use Rattle.blif_read_names.proofs.DefiningGates.{go-latch, go-cover}
 use Rattle.blif_read_names.proofs.Walking.{inputs-fit, outputs-fit, outputs-small, latch-fit, cover-fit}

@@ -2,7 +2,7 @@
 use mathlib.Core.Path.{sym, ap}
 use borrow.Author.Needs.{needs}
 use Rattle.refusals.specs.declared.Checked.{Checked}
-use Rattle.blif_read_names.specs.Naming.{stepOf}
+use Rattle.blif_read_names.specs.between.Naming.{stepOf}
 use Rattle.blif_read_names.proofs.step_of.Statement.{statement}
 use Rattle.blif_read_names.proofs.step_of.Tie as tie
 

@@ -3,9 +3,9 @@ use mathlib.Core.Path.{_∙_}
 use Prim.Native.Nat.{_-_}
 use native.Mathlib.Omega.{arith}
 use borrow.Author.Needs.{needs}
-use Rattle.blif_text.specs.Blocks.{defAt}
-use Rattle.name_index.specs.Search.{signalIn}
-use Rattle.name_index.specs.Index.{entriesOf}
+use Rattle.blif_text.specs.between.Blocks.{defAt}
+use Rattle.name_index.specs.between.Search.{signalIn}
+use Rattle.name_index.specs.between.Index.{entriesOf}
 use Rattle.blif_read_signals.proofs.Placing.{Placing, placing-start, placing-room, placing-stops, placing-next, placing-done, blocks-to}
 use Rattle.blif_read_signals.proofs.place_gates.Statement.{statement}
 use Rattle.blif_read_signals.proofs.place_gates.Tie as tie

@@ -4,9 +4,9 @@ use Prim.Native.Nat.{ℕ, _+_}
 use native.Mathlib.Omega.{arith}
 use lib.ListN.{getD}
 use borrow.Author.Needs.{needs}
-use Rattle.blif_text.specs.Places.{InText, tokenOf}
-use Rattle.name_index.specs.Search.{signalIn}
-use Rattle.name_index.specs.Index.{entriesOf}
+use Rattle.blif_text.specs.between.Places.{InText, tokenOf}
+use Rattle.name_index.specs.between.Search.{signalIn}
+use Rattle.name_index.specs.between.Index.{entriesOf}
 use Rattle.blif_read_signals.proofs.OneGate.{latch-missing, latch-fits, latch-placed}
 use Rattle.blif_read_signals.proofs.place_latch.Statement.{statement}
 use Rattle.blif_read_signals.proofs.place_latch.Tie as tie

@@ -2,8 +2,8 @@
 use Prim.Native.Nat.{_-_}
 use native.Mathlib.Omega.{arith}
 use lib.ListN.{length}
-use Rattle.name_index.specs.Search.{signalIn}
-use Rattle.name_index.specs.Index.{entriesOf}
+use Rattle.name_index.specs.between.Search.{signalIn}
+use Rattle.name_index.specs.between.Index.{entriesOf}
 use Rattle.blif_read_signals.proofs.Resolving.{Resolving, resolving-start, resolving-next, resolving-stops, resolving-done}
 use Rattle.blif_read_signals.proofs.resolve_names.Statement.{statement}
 use Rattle.blif_read_signals.proofs.resolve_names.Tie as tie

@@ -2,7 +2,7 @@
 use mathlib.Core.Path.{ap}
 use native.Mathlib.Omega.{arith}
 use borrow.Author.Needs.{needs}
-use Rattle.blif_read_sizes.specs.Sizes.{sizesOf}
+use Rattle.blif_read_sizes.specs.between.Sizes.{sizesOf}
 use Rattle.blif_read_sizes.proofs.SizeLaws.{add-none, add-inputs, add-outputs, add-latch, add-cover, few-as, added-few, pins-few}
 use Rattle.blif_read_sizes.proofs.count_declaration.Statement.{statement}
 use Rattle.blif_read_sizes.proofs.count_declaration.Tie as tie

@@ -3,7 +3,7 @@ use mathlib.Core.Path.{sym, ap, _∙_}
 use Prim.Native.Nat.{_-_}
 use native.Mathlib.Omega.{arith}
 use borrow.Author.Needs.{needs}
-use Rattle.blif_text.specs.PlacedStatements.{refusalIn}
+use Rattle.blif_text.specs.between.PlacedStatements.{refusalIn}
 use Rattle.blif_text.proofs.RefusalLaws.{Passing, passing-start, passing-done, passing-stop, passing-next}
 use Rattle.blif_text.proofs.first_bad.Statement.{statement}
 use Rattle.blif_text.proofs.first_bad.Tie as tie

@@ -5,7 +5,7 @@ use native.Mathlib.Omega.{arith}
 use lib.Dec.{eqb}
 use lib.ListN.{length}
 use borrow.Author.Tests.{eq-eqb, ne-eqb}
-use Rattle.blif_text.specs.Scan.{NoneTo}
+use Rattle.blif_text.specs.between.Scan.{NoneTo}
 use Rattle.blif_text.proofs.Loops.{none-next}
 use Rattle.blif_text.proofs.line_end.Statement.{statement}
 use Rattle.blif_text.proofs.line_end.Tie as tie

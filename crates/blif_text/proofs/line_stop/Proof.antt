@@ -2,7 +2,7 @@
 use mathlib.Core.Path.{refl}
 use native.Mathlib.Omega.{arith}
 use borrow.Author.Needs.{needs}
-use Rattle.blif_text.specs.Scan.{at-end, at-lf, at-cr}
+use Rattle.blif_text.specs.between.Scan.{at-end, at-lf, at-cr}
 use Rattle.blif_text.proofs.ScanBytes.{none-stops, one-stops}
 use Rattle.blif_text.proofs.line_stop.Statement.{statement}
 use Rattle.blif_text.proofs.line_stop.Tie as tie

@@ -4,7 +4,7 @@ use mathlib.Core.Bool.{true}
 use Prim.Native.Nat.{_-_}
 use native.Mathlib.Omega.{arith}
 use lib.ListN.{length}
-use Rattle.blif_text.specs.Scan.{Scanned}
+use Rattle.blif_text.specs.between.Scan.{Scanned}
 use Rattle.blif_text.proofs.ScanSteps.{scan-start, scan-then, scan-cells, scan-done}
 use Rattle.blif_text.proofs.mark_tokens.Statement.{statement}
 use Rattle.blif_text.proofs.mark_tokens.Tie as tie

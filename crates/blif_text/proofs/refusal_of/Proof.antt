@@ -8,7 +8,7 @@ use borrow.Author.Needs.{needs}
 use denote.Enum.Declared.{tagOf}
 use types.Run.{OneOf}
 use Rattle.refusals.specs.declared.Checked.the-variants.{Fine}
-use Rattle.blif_text.specs.PlacedStatements.{refusalIn}
+use Rattle.blif_text.specs.between.PlacedStatements.{refusalIn}
 use Rattle.blif_text.specs.declared.Statement.{Statement}
 use Rattle.blif_text.specs.declared.Statement.the-variants as place
 use Rattle.blif_text.proofs.Statement.{the-type}

@@ -3,8 +3,8 @@ use mathlib.Core.Path.{sym, _∙_}
 use Prim.Native.Nat.{_+_, _-_, _≤_}
 use native.Mathlib.Omega.{arith}
 use borrow.Author.Needs.{needs}
-use Rattle.blif_text.specs.Places.{isFirst}
-use Rattle.blif_text.specs.Scan.{NoneTo}
+use Rattle.blif_text.specs.between.Places.{isFirst}
+use Rattle.blif_text.specs.between.Scan.{NoneTo}
 use Rattle.blif_text.proofs.Loops.{none-start, none-next, row-stop}
 use Rattle.blif_text.proofs.row_end.Statement.{statement}
 use Rattle.blif_text.proofs.row_end.Tie as tie

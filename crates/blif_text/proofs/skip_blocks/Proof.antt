@@ -5,7 +5,7 @@ use native.Mathlib.Omega.{arith}
 use lib.Dec.{eqb}
 use lib.ListN.{length}
 use borrow.Author.Needs.{needs}
-use Rattle.blif_text.specs.Scan.{NoneTo}
+use Rattle.blif_text.specs.between.Scan.{NoneTo}
 use Rattle.blif_text.proofs.Loops.{none-start, none-block}
 use Rattle.blif_text.proofs.skip_blocks.Statement.{statement}
 use Rattle.blif_text.proofs.skip_blocks.Tie as tie

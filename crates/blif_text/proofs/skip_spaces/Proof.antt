@@ -2,7 +2,7 @@
 use Prim.Native.Nat.{_-_}
 use native.Mathlib.Omega.{arith}
 use lib.ListN.{length}
-use Rattle.blif_text.specs.Scan.{SpacesTo}
+use Rattle.blif_text.specs.between.Scan.{SpacesTo}
 use Rattle.blif_text.proofs.Loops.{spaces-start, spaces-next}
 use Rattle.blif_text.proofs.skip_spaces.Statement.{statement}
 use Rattle.blif_text.proofs.skip_spaces.Tie as tie

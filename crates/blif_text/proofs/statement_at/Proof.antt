@@ -2,7 +2,7 @@
 use mathlib.Core.Path.{ap, _∙_}
 use borrow.Author.Needs.{needs}
 use Rattle.blif_text.specs.Keywords.{keywordOf}
-use Rattle.blif_text.specs.PlacedStatements.{statementOf}
+use Rattle.blif_text.specs.between.PlacedStatements.{statementOf}
 use Rattle.blif_text.specs.declared.Keyword.{Keyword}
 use Rattle.blif_text.proofs.statement_at.Statement.{statement}
 use Rattle.blif_text.proofs.statement_at.Tie as tie

@@ -5,7 +5,7 @@ use Prim.Native.Nat.{ℕ, _+_, _-_}
 use native.Mathlib.Omega.{arith}
 use lib.ListN.{take, drop}
 use borrow.Author.Needs.{needs}
-use Rattle.blif_text.specs.Places.{tokenStart, tokenLength, tokenOf}
+use Rattle.blif_text.specs.between.Places.{tokenStart, tokenLength, tokenOf}
 use Rattle.blif_text.proofs.token.Statement.{statement}
 use Rattle.blif_text.proofs.token.Tie as tie
 

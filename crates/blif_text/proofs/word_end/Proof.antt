@@ -4,8 +4,8 @@ use Prim.Native.Nat.{_-_}
 use native.Mathlib.Omega.{arith}
 use lib.ListN.{length}
 use borrow.Author.Needs.{needs}
-use Rattle.blif_text.specs.Scan.{endsWord}
-use Rattle.blif_text.specs.Scan.{NoneTo}
+use Rattle.blif_text.specs.between.Scan.{endsWord}
+use Rattle.blif_text.specs.between.Scan.{NoneTo}
 use Rattle.blif_text.proofs.Loops.{none-start, none-next}
 use Rattle.blif_text.proofs.word_end.Statement.{statement}
 use Rattle.blif_text.proofs.word_end.Tie as tie

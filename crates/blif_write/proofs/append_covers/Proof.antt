@@ -5,7 +5,7 @@ use borrow.Author.Needs.{needs}
 use Rattle.network.specs.Cells.{cellGates}
 use Rattle.blif_write_names.proofs.Laws.{append-past}
 use Rattle.blif_write_names.proofs.Parts.{going-kept, going-high, going-full, Before, before-start, before-part, before-done}
-use Rattle.blif_write.specs.Parts.{coversText}
+use Rattle.blif_write.specs.between.Parts.{coversText}
 use Rattle.blif_write.proofs.Walks.{cover-parts, not-wide}
 use Rattle.blif_write.proofs.append_covers.Statement.{statement}
 use Rattle.blif_write.proofs.append_covers.Tie as tie

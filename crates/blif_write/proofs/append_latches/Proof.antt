@@ -5,7 +5,7 @@ use borrow.Author.Needs.{needs}
 use Rattle.network.specs.Cells.{cellGates}
 use Rattle.blif_write_names.proofs.Laws.{append-past}
 use Rattle.blif_write_names.proofs.Parts.{going-kept, going-high, going-full, Before, before-start, before-part, before-done}
-use Rattle.blif_write.specs.Parts.{latchesText}
+use Rattle.blif_write.specs.between.Parts.{latchesText}
 use Rattle.blif_write.proofs.Walks.{latch-parts}
 use Rattle.blif_write.proofs.append_latches.Statement.{statement}
 use Rattle.blif_write.proofs.append_latches.Tie as tie

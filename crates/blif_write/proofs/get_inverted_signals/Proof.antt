@@ -6,7 +6,7 @@ use Prim.Native.Nat.{_-_}
 use native.Mathlib.Nat.{sub-zero}
 use Rattle.lists.proofs.Laying.{front-all}
 use Rattle.network.specs.Cells.{cellGates}
-use Rattle.blif_write_inverters.specs.Marks.{namedIn}
+use Rattle.blif_write_inverters.specs.between.Marks.{namedIn}
 use Rattle.blif_write_inverters.proofs.Marking.{marked-both, gates-kept, inputs-kept, Marking, marking-start, marking-next}
 use Rattle.blif_write.proofs.Walks.{cells-next, cells-end}
 use Rattle.blif_write.proofs.get_inverted_signals.Statement.{statement}

@@ -3,7 +3,7 @@ use mathlib.Core.Path.{_∙_, ap}
 use Rattle.network.proofs.GateRead.{decoded-within}
 use Rattle.blif_write_names.proofs.Laws.{as-wrote, wrote-nothing}
 use Rattle.blif_writing.specs.WrittenModel.{wide}
-use Rattle.blif_write.specs.Parts.{coverText}
+use Rattle.blif_write.specs.between.Parts.{coverText}
 use Rattle.blif_write.proofs.Walks.{read-bad, read-good}
 use Rattle.blif_write.proofs.Told.{held-run, cover-none}
 use borrow.Author.Needs.{needs}

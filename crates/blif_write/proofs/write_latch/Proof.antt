@@ -2,7 +2,7 @@
 use borrow.Author.Needs.{needs}
 use mathlib.Core.Path.{refl}
 use mathlib.Core.List.{flatMap}
-use Rattle.blif_write.specs.Parts.{latchText}
+use Rattle.blif_write.specs.between.Parts.{latchText}
 use Rattle.blif_write_names.proofs.Laws.{as-wrote, wrote-nothing}
 use Rattle.blif_write.proofs.Covers.{latch-at, latch-of}
 use Rattle.blif_write.proofs.write_latch.Statement.{statement}

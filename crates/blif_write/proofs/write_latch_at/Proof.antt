@@ -1,7 +1,7 @@
 -- `write_latch_at` reads the gate where its form is the flip-flop's. Assumes nothing.
 use mathlib.Core.Path.{_∙_, ap}
 use Rattle.blif_write_names.proofs.Laws.{as-wrote, wrote-nothing}
-use Rattle.blif_write.specs.Parts.{latchText}
+use Rattle.blif_write.specs.between.Parts.{latchText}
 use Rattle.blif_write.proofs.Walks.{read-bad, read-good, latch-any}
 use Rattle.blif_write.proofs.Told.{held-run, latch-none}
 use borrow.Author.Needs.{needs}

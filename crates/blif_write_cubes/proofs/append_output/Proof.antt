@@ -1,7 +1,7 @@
 -- `append_output` copies one of two endings. Assumes nothing.
 use borrow.Author.Needs.{needs}
 use mathlib.Core.Path.{ap, sym}
-use Rattle.blif_write_cubes.specs.Lines.{outputText}
+use Rattle.blif_write_cubes.specs.between.Lines.{outputText}
 use Rattle.blif_write_names.proofs.Laws.{as-text}
 use Rattle.blif_write_cubes.proofs.append_output.Statement.{statement}
 use Rattle.blif_write_cubes.proofs.append_output.Tie as tie

@@ -3,7 +3,7 @@ use native.Mathlib.Omega.{arith}
 use Prim.Native.Nat.{_-_}
 use native.Mathlib.Nat.{sub-zero}
 use Rattle.blif_write_names.proofs.Parts.{Putting, putting-start, putting-kept, putting-next, putting-full, putting-done}
-use Rattle.blif_write_cubes.specs.Lines.{maskColumns}
+use Rattle.blif_write_cubes.specs.between.Lines.{maskColumns}
 use Rattle.blif_write_cubes.proofs.Lines.{columns-next, columns-end}
 use Rattle.blif_write_cubes.proofs.put_columns.Statement.{statement}
 use Rattle.blif_write_cubes.proofs.put_columns.Tie as tie

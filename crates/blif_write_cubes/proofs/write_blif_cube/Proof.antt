@@ -1,6 +1,6 @@
 -- `write_blif_cube` writes the columns and the output. Assumes nothing.
 use borrow.Author.Needs.{needs}
-use Rattle.blif_write_cubes.specs.Lines.{cubeOf}
+use Rattle.blif_write_cubes.specs.between.Lines.{cubeOf}
 use Rattle.blif_write_names.proofs.Laws.{and-append, from-start, to-start}
 use Rattle.blif_write_cubes.proofs.write_blif_cube.Statement.{statement}
 use Rattle.blif_write_cubes.proofs.write_blif_cube.Tie as tie

@@ -3,7 +3,7 @@ use native.Mathlib.Omega.{arith}
 use borrow.Author.Needs.{needs}
 use Prim.Native.Nat.{_-_}
 use Rattle.blif_write_names.proofs.Parts.{going-kept, going-high, going-full, Before, before-start, before-part, before-done}
-use Rattle.blif_write_cubes.specs.Lines.{mintermsFrom}
+use Rattle.blif_write_cubes.specs.between.Lines.{mintermsFrom}
 use Rattle.blif_write_cubes.proofs.Lines.{mask-parts, all-masks}
 use Rattle.blif_write_cubes.proofs.write_masks.Statement.{statement}
 use Rattle.blif_write_cubes.proofs.write_masks.Tie as tie

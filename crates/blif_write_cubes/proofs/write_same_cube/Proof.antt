@@ -1,6 +1,6 @@
 -- `write_same_cube` writes the columns and the output. Assumes nothing.
 use borrow.Author.Needs.{needs}
-use Rattle.blif_write_cubes.specs.Lines.{sameCube}
+use Rattle.blif_write_cubes.specs.between.Lines.{sameCube}
 use Rattle.blif_write_names.proofs.Laws.{and-append, from-start, to-start}
 use Rattle.blif_write_cubes.proofs.write_same_cube.Statement.{statement}
 use Rattle.blif_write_cubes.proofs.write_same_cube.Tie as tie

@@ -5,7 +5,7 @@ use Prim.Native.Nat.{_-_}
 use Rattle.blif_write_names.proofs.Laws.{append-past}
 use Rattle.blif_write_names.proofs.Parts.{going-kept, going-high, going-full, Before, before-start, before-part, before-done}
 use Rattle.blif_write_gates.proofs.Texts.{gate-signal}
-use Rattle.blif_write_inverters.specs.Marks.{gateInverters}
+use Rattle.blif_write_inverters.specs.between.Marks.{gateInverters}
 use Rattle.blif_write_inverters.proofs.Inverters.{gate-parts, made-plain, made-inverter}
 use Rattle.blif_write_inverters.proofs.append_gate_inverters.Statement.{statement}
 use Rattle.blif_write_inverters.proofs.append_gate_inverters.Tie as tie

@@ -5,7 +5,7 @@ use native.Mathlib.Omega.{arith}
 use lib.ListN.{length-set}
 use borrow.Author.Needs.{needs}
 use Rattle.network.proofs.LaidGates.{stored-three}
-use Rattle.gates.specs.Forms.{kindNumber}
+use Rattle.gates.specs.between.Forms.{kindNumber}
 use Rattle.network.specs.Record.{gateWidth}
 use Rattle.network.proofs.put_record.Statement.{statement}
 use Rattle.network.proofs.put_record.Tie as tie

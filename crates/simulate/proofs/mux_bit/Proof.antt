@@ -1,5 +1,5 @@
 -- `mux_bit` selects by the first pin. Assumes nothing.
-use Rattle.simulate.specs.Bits.{pinBits}
+use Rattle.simulate.specs.between.Bits.{pinBits}
 use Rattle.simulate.proofs.GateBits.{mux-second, mux-third}
 use borrow.Author.Needs.{needs}
 use Rattle.simulate.proofs.mux_bit.Statement.{statement}

@@ -2,7 +2,7 @@
 use Prim.Native.Nat.{_-_}
 use lib.ListN.{getD}
 use Rattle.signal.specs.Cell.{sigOf}
-use Rattle.simulate.specs.Bits.{signalBit, bitDigit}
+use Rattle.simulate.specs.between.Bits.{signalBit, bitDigit}
 use Rattle.simulate.proofs.Putting.{Putting, putting-start, putting-length, putting-next, putting-done}
 use borrow.Author.Needs.{needs}
 use native.Mathlib.Omega.{arith}

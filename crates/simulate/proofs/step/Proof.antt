@@ -5,7 +5,7 @@ use Prim.Native.Nat.{_-_}
 use Rattle.network.specs.Clock.{nextBit}
 use Rattle.network.specs.Cells.{orBuf}
 use Rattle.network.specs.Record.{gateAt}
-use Rattle.simulate.specs.Bits.{bitsOf, signalBit}
+use Rattle.simulate.specs.between.Bits.{bitsOf, signalBit}
 use Rattle.simulate.proofs.Putting.{Putting, putting-start, putting-length, putting-here, putting-next, putting-done}
 use borrow.Author.Needs.{needs}
 use native.Mathlib.Omega.{arith}

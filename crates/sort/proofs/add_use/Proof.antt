@@ -6,7 +6,7 @@ use native.Mathlib.Omega.{arith}
 use lib.ListN.{length, getD}
 use borrow.Author.Needs.{needs}
 use Rattle.signal.specs.Cell.{nodeOf}
-use Rattle.signal.specs.Signal.{gateNode}
+use Rattle.signal.specs.between.Signal.{gateNode}
 use Rattle.network.specs.Sizes.{maxPins}
 use Rattle.sort.proofs.Naming.{occ-own, named-none, raised-gate, raised-none}
 use Rattle.sort.proofs.add_use.Statement.{statement}

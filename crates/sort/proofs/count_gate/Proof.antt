@@ -2,7 +2,7 @@
 use mathlib.Core.Path.{sym, ap, _∙_}
 use borrow.Author.Tests.{not-true, not-false}
 use borrow.Author.Needs.{needs}
-use Rattle.sort.specs.Steps.{gateIns}
+use Rattle.sort.specs.between.Steps.{gateIns}
 use Rattle.sort.proofs.Uses.{flop-uses, comb-uses}
 use Rattle.sort.proofs.Naming.{raised-none, raised-as, countable-as}
 use Rattle.sort.proofs.count_gate.Statement.{statement}

@@ -4,7 +4,7 @@ use Prim.Native.Nat.{ℕ, _-_}
 use native.Mathlib.Omega.{arith}
 use lib.ListN.{length, length-replicate}
 use Rattle.network.specs.Sizes.{maxGates}
-use Rattle.sort.specs.Steps.{cellGraph}
+use Rattle.sort.specs.between.Steps.{cellGraph}
 use Rattle.sort.proofs.Uses.{CountedTo, counted-start, counted-asks, counted-next, counted-done}
 use Rattle.sort.proofs.count_uses.Statement.{statement}
 use Rattle.sort.proofs.count_uses.Tie as tie

@@ -5,7 +5,7 @@ use native.Mathlib.Omega.{arith}
 use lib.ListN.{length-replicate}
 use borrow.Author.Needs.{needs}
 use Rattle.network.specs.Sizes.{maxGates}
-use Rattle.sort.specs.Steps.{cellGraph}
+use Rattle.sort.specs.between.Steps.{cellGraph}
 use Rattle.sort.proofs.Finding.{started-graph, found-is}
 use Rattle.sort.proofs.Starting.{flopped-same, flopped-marked}
 use Rattle.sort.proofs.find_order.Statement.{statement}

@@ -2,8 +2,8 @@
 use mathlib.Core.Path.{ap, _∙_}
 use borrow.Author.Needs.{needs}
 use Rattle.gates.specs.Forms.{kindOf}
-use Rattle.gates.specs.Decode.{kindComb}
-use Rattle.sort.specs.Steps.{formComb}
+use Rattle.gates.specs.between.Decode.{kindComb}
+use Rattle.sort.specs.between.Steps.{formComb}
 use Rattle.sort.proofs.is_comb.Statement.{statement}
 use Rattle.sort.proofs.is_comb.Tie as tie
 

@@ -7,7 +7,7 @@ use lib.ListN.{getD, length-set}
 use borrow.Author.Tests.{not-true, not-false}
 use borrow.Author.Needs.{needs}
 use Rattle.signal.specs.Cell.{nodeOf}
-use Rattle.signal.specs.Signal.{gateNode}
+use Rattle.signal.specs.between.Signal.{gateNode}
 use Rattle.network.specs.Sizes.{maxGates}
 use Rattle.sort.proofs.Stack.{lowered-none, lowered-stay, lowered-push, fromTop-push}
 use Rattle.sort.proofs.lower_use.Statement.{statement}

@@ -5,7 +5,7 @@ use Prim.Native.Nat.{ℕ, _-_, _≤_}
 use native.Mathlib.Omega.{arith}
 use lib.ListN.{length, length-replicate}
 use Rattle.network.specs.Sizes.{maxGates}
-use Rattle.sort.specs.Steps.{formComb, FlopsPlaced}
+use Rattle.sort.specs.between.Steps.{formComb, FlopsPlaced}
 use Rattle.sort.proofs.Starting.{flopped-none}
 use Rattle.sort.proofs.mark_flops.Statement.{statement}
 use Rattle.sort.proofs.mark_flops.Tie as tie

@@ -3,7 +3,7 @@ use mathlib.Core.Path.{_∙_}
 use Prim.Native.Nat.{_-_}
 use native.Mathlib.Omega.{arith}
 use borrow.Author.Needs.{needs}
-use Rattle.signal.specs.Cell.{remapCell}
+use Rattle.signal.specs.between.Cell.{remapCell}
 use Rattle.sort.proofs.Moving.{Renaming, renaming-start, renaming-next, renaming-done}
 use Rattle.sort.proofs.move_outputs.Statement.{statement}
 use Rattle.sort.proofs.move_outputs.Tie as tie

@@ -4,7 +4,7 @@ use Prim.Native.Nat.{_-_}
 use native.Mathlib.Omega.{arith}
 use lib.ListN.{length}
 use borrow.Author.Needs.{needs}
-use Rattle.signal.specs.Cell.{remapCell}
+use Rattle.signal.specs.between.Cell.{remapCell}
 use Rattle.sort.proofs.Moving.{Copying, copying-start, copying-next, copying-done}
 use Rattle.sort.proofs.move_pins.Statement.{statement}
 use Rattle.sort.proofs.move_pins.Tie as tie

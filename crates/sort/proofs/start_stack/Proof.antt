@@ -5,7 +5,7 @@ use Prim.Native.Nat.{ℕ, _-_, _≤_}
 use native.Mathlib.Omega.{arith}
 use lib.ListN.{length}
 use Rattle.network.specs.Sizes.{maxGates}
-use Rattle.sort.specs.Steps.{Started}
+use Rattle.sort.specs.between.Steps.{Started}
 use Rattle.sort.proofs.Starting.{started-none}
 use Rattle.sort.proofs.start_stack.Statement.{statement}
 use Rattle.sort.proofs.start_stack.Tie as tie

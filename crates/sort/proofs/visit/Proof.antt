@@ -6,7 +6,7 @@ use lib.ListN.{getD}
 use borrow.Author.Needs.{needs}
 use denote.Ref.{now}
 use Rattle.network.specs.Sizes.{maxGates}
-use Rattle.sort.specs.Steps.{cellGraph, gateIns}
+use Rattle.sort.specs.between.Steps.{cellGraph, gateIns}
 use Rattle.sort.proofs.Visiting.{top-few, v-below, at-pos, visited-skip, visit-walks, visited-comb}
 use Rattle.sort.proofs.visit.Statement.{statement}
 use Rattle.sort.proofs.visit.Tie as tie

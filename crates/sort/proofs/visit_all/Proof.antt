@@ -2,7 +2,7 @@
 use mathlib.Core.Path.{sym, _∙_}
 use native.Mathlib.Omega.{arith}
 use Rattle.sort_order.proofs.Walk.{budget}
-use Rattle.sort.specs.Steps.{cellGraph, fromTop}
+use Rattle.sort.specs.between.Steps.{cellGraph, fromTop}
 use Rattle.sort.proofs.Visiting.{Walking, walking-start, walking-next, walking-end, next-budget}
 use Rattle.sort.proofs.visit_all.Statement.{statement}
 use Rattle.sort.proofs.visit_all.Tie as tie

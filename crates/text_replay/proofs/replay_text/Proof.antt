@@ -5,7 +5,7 @@ use native.Mathlib.Omega.{arith}
 use lib.ListN.{length, take, replicate, length-replicate}
 use lib.Seq.{length-take-le}
 use borrow.Author.Needs.{needs}
-use Rattle.blif_text.specs.Places.{maxTokens}
+use Rattle.blif_text.specs.between.Places.{maxTokens}
 use Rattle.blif_text.specs.Lines.{maxText}
 use Rattle.text_replay.proofs.replay_text.Statement.{statement}
 use Rattle.text_replay.proofs.replay_text.Tie as tie

@@ -1,5 +1,5 @@
 use mathlib.Core.Path.{sym, ap}
-use Rattle.gates.specs.Decode.{kindOfGate}
+use Rattle.gates.specs.between.Decode.{kindOfGate}
 use borrow.Author.Needs.{needs}
 use Rattle.gates.proofs.Gate.kind.Statement.{statement}
 use Rattle.gates.proofs.Gate.kind.Tie as tie

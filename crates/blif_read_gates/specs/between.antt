@@ -1,0 +1,4 @@
+-- Definitions that contracts between the crates and proofs use, and no promise reaches.
+pub mod Pins
+pub mod Covers
+pub mod Steps
