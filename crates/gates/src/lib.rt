@@ -5,7 +5,7 @@ ghost use Rattle.gates.specs.Forms.{kindOf, kindTakes};
 ghost use Rattle.gates.specs.between.Forms.{kindNumber};
 ghost use Rattle.gates.specs.between.Decode.{pinCount, kindOfGate, kindComb, cellSignal, kindGate, withPins};
 
-// Form numbers, for those who write a gate's record or look at its form alone.
+// Form numbers, for those who look at a record's form alone.
 pub const NARY_AND: u32 = 7;
 
 pub const NARY_OR: u32 = 8;

@@ -1,10 +1,8 @@
--- A gate's record in lent cells, "each form number, first pin, pin count", and its run of pins. Nothing outside this file knows how a
--- record is laid out. Assumes nothing: these are definitions.
---   gateWidth        the cells of a record
---   recordOf at x    the record of the gate x whose pins start at cell `at`
---   recordAt c g     gate g's record in the cells c; formAt, firstAt, countAt: its parts
---   RecordIn c g     it is within the cells
---   withFirst at r   the record r of a gate whose pins are moved to cell `at`
+-- A gate's record in lent cells and its run of pins. How a record is laid out is said here, and beside it in between/Record where the
+-- first pin is changed; no other crate's definitions say it. Assumes nothing: these are definitions.
+--   gateWidth, recordCells        the cells of a record, how many and which
+--   recordOf at x                 the record of the gate x whose pins start at cell `at`
+--   formAt, firstAt, countAt      the parts of gate g's record
 --   gateAt, gateCells, pinCells   from cells to gates, and back
 use mathlib.Core.Bool.{Bool, _&&_, cond}
 use mathlib.Core.List.{List, [], _∷_, _++_, map}
@@ -20,9 +18,13 @@ use Rattle.gates.specs.Forms.{formCell, gateFrom}
 abbrev pub gateWidth : ℕ
 gateWidth = 3
 
--- a gate's record, its pins starting at cell `at`: "form number, first pin, pin count"
+-- the cells of a record: "form number, first pin, pin count"
+abbrev pub recordCells : ℕ → ℕ → ℕ → List ℕ
+recordCells form first count = form ∷ first ∷ count ∷ []
+
+-- a gate's record, its pins starting at cell `at`
 unfoldable pub recordOf : ℕ → Gate → List ℕ
-recordOf at x = formCell x ∷ at ∷ length (pins x) ∷ []
+recordOf at x = recordCells (formCell x) at (length (pins x))
 
 -- gate g's form number
 abbrev pub formAt : List ℕ → ℕ → ℕ

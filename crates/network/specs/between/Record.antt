@@ -15,7 +15,7 @@ use Rattle.gates.specs.declared.Gate.the-variants as G
 use Rattle.gates.specs.declared.Decoded.{Decoded}
 use Rattle.gates.specs.declared.Decoded.the-variants.{Bad}
 use Rattle.network.specs.Sizes.{maxPins}
-use Rattle.network.specs.Record.{gateWidth, formAt, firstAt, countAt, runAt, hasRun, pinCells}
+use Rattle.network.specs.Record.{gateWidth, recordCells, formAt, firstAt, countAt, runAt, hasRun, pinCells}
 
 -- gate g's record
 abbrev pub recordAt : List ℕ → ℕ → List ℕ
@@ -52,7 +52,7 @@ pub record HasRun (gates pins : List ℕ) (g : ℕ) : Type 0 where
 
 -- the record of a gate in hand, its pins starting at cell `at`
 abbrev pub handRecord : ℕ → code.Gate → List ℕ
-handRecord at x = kindNumber (kindOfGate x) ∷ at ∷ pinCount x ∷ []
+handRecord at x = recordCells (kindNumber (kindOfGate x)) at (pinCount x)
 
 -- a Nary gate's run starts at cell `at`
 abbrev pub RunFrom : ℕ → code.Gate → Type 0
