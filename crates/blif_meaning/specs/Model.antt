@@ -6,6 +6,7 @@ use mathlib.Core.List.{List, [], _∷_, map, List·Memᴰ}
 use mathlib.Core.Option.{Option, none, some}
 use Prim.Native.Nat.{ℕ}
 use lib.ListN.{getD, getElem?}
+use Rattle.lists.specs.Lists.{optional}
 use Rattle.network.specs.Clock.{Runs}
 
 -- a column of a row: "{0, 1, –} is used in the n-bit wide input plane"
@@ -82,15 +83,10 @@ module _ {Name : Type 0} where
   blockBit env h (Latch l) = h
   blockBit env h (Cover xs y ls) = coverBit ls (map env xs)
 
-  -- the bit of a name that may be left out
-  abbrev pub optBit : (Name → Bool) → Bool → Option Name → Bool
-  optBit env v none = v
-  optBit env v (some x) = env x
-
   -- what a latch holds next: its input's value; of a `.flop`, a reset of one gives zero, else an enable of one takes the input, else
   -- the value is held
   abbrev pub nextHeld : (Name → Bool) → Bool → LatchDef Name → Bool
-  nextHeld env h l = cond (optBit env false (l .reset)) false (cond (optBit env true (l .enable)) (env (l .input)) h)
+  nextHeld env h l = cond (optional env false (l .reset)) false (cond (optional env true (l .enable)) (env (l .input)) h)
 
   -- the names' values at one clock fit the input row and the latches' held values
   pub record BlifFits (m : Model Name) (row : List Bool) (held env : Name → Bool) : Type 0 where

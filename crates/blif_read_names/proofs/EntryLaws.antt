@@ -20,7 +20,6 @@ use Rattle.signal.specs.Signal.{Signal, Input, Var, plain}
 use Rattle.signal.specs.Cell.{sigCell}
 use Rattle.blif_text.specs.Decls.{Def, Decl, model, end, inputs, outputs, gate, insOf, defsOf, ins, defs, defines}
 use Rattle.name_index.specs.between.Search.{Entry, signalIn}
-use Rattle.blif_reading.specs.Lookup.{byte-names}
 use Rattle.blif_reading.specs.TextModel.{blockOf, modelOf}
 use Rattle.blif_reading.specs.Read.{tooLarge, naming, signalOf}
 use Rattle.blif_reading.proofs.Lookups.{looks}
@@ -81,13 +80,13 @@ entries-known x (gate d ∷ ds) i g =
 module _ (all : List Decl) (named : naming false [] all ≡ Fine) where
   -- input i is input signal i
   input-at : (i : ℕ) (x : Bytes) → getElem? (ins all) i ≡ some x → signalOf all x ≡ plain (Input i)
-  input-at i x e = looks byte-names (modelOf all) (once-of all named) .inputAt i x e
+  input-at i x e = looks (modelOf all) (once-of all named) .inputAt i x e
 
   -- block j is gate j
   gate-at : (j : ℕ) (d : Def) → getElem? (defs all) j ≡ some d → signalOf all (defines d) ≡ plain (Var j)
   gate-at j d e =
       ap (signalOf all) (sym (target-of d))
-      ∙ looks byte-names (modelOf all) (once-of all named) .blockAt j (blockOf d) (map-place blockOf (defs all) j d e)
+      ∙ looks (modelOf all) (once-of all named) .blockAt j (blockOf d) (map-place blockOf (defs all) j d e)
 
   -- inputs behind others
   right-inputs : (ns rest before : List Bytes) (i : ℕ) → ins all ≡ before ++ (ns ++ rest) → i ≡ length before

@@ -8,7 +8,7 @@ use native.Mathlib.Omega.{arith}
 use native.Mathlib.Nat.{sub-zero}
 use native.Mathlib.Decide.{ℕ-discrete}
 use lib.ListN.{length, getElem?, length-take, length-map}
-use Rattle.lists.specs.Lists.{Bytes, all, range, sumOf}
+use Rattle.lists.specs.Lists.{Bytes, all, range, sumOf, optional}
 use Rattle.lists.specs.between.Lists.{overwriteAt}
 use Rattle.lists.proofs.Tests.{and-left, and-right}
 use Rattle.lists.proofs.OverAt.{length-overwriteAt}
@@ -25,7 +25,6 @@ use Rattle.network.proofs.RecordCells.{record-in, hand-dff, hand-nary, length-h
 use Rattle.blif_text.specs.Decls.{Def, latch, cover, coverIns, usedNames}
 use Rattle.blif_text.specs.between.Blocks.{Blocks}
 use Rattle.blif_meaning.specs.WellFormed.{optName}
-use Rattle.blif_reading.specs.Build.{optSig}
 use Rattle.blif_reading.specs.between.Working.{GateIn, placed, placedCount, WorkRoom}
 use Rattle.blif_reading.proofs.WorkingLaws.{record-kept, run-kept, used-more, gate-written}
 use Rattle.blif_read_signals.specs.between.Resolve.{isFound, allFound, placedTo, Signals, PlacedBy}
@@ -47,7 +46,7 @@ found-cells sig signalOf s (x ∷ ns) f =
 
 -- and so is one that may be left out
 found-cell : (sig : Bytes → ℕ) (signalOf : Bytes → Signal) → Signals sig signalOf → (t : Signal) (o : Option Bytes) → all isFound (map sig (optName o)) ≡ true
-    → optCell sig (sigCell t) o ≡ sigCell (optSig signalOf t o)
+    → optCell sig (sigCell t) o ≡ sigCell (optional signalOf t o)
 found-cell sig signalOf s t none f = refl
 found-cell sig signalOf s t (some x) f = s x (and-left (isFound (sig x)) true f)
 
@@ -69,7 +68,7 @@ run-is sig signalOf s (cover ns ls) f = found-cells sig signalOf s (coverIns ns)
 record-is : (sig : Bytes → ℕ) (signalOf : Bytes → Signal) (at : ℕ) (d : Def) → handRecord at (placedInHand sig at d) ≡ recordOf at (placed signalOf d)
 record-is sig signalOf at (latch l) =
     hand-dff at (record { a = sig (l .input) }) (record { a = optCell sig 1 (l .enable) }) (record { a = optCell sig 0 (l .reset) })
-    (record { dataIn = signalOf (l .input); enable = optSig signalOf oneS (l .enable); reset = optSig signalOf zeroS (l .reset) })
+    (record { dataIn = signalOf (l .input); enable = optional signalOf oneS (l .enable); reset = optional signalOf zeroS (l .reset) })
 record-is sig signalOf at (cover ns ls) =
     hand-nary at N.And (record { first = at; count = length (coverIns ns) }) (map signalOf (coverIns ns)) (sym (length-map (coverIns ns) signalOf))
 

@@ -22,7 +22,6 @@ use Rattle.blif_text.specs.Statements.{parsed, firstBad, stmts}
 use Rattle.blif_text.specs.Decls.{Decl, decls, defs, declsOf}
 use Rattle.blif_meaning.specs.Model.{BlifRuns}
 use Rattle.blif_reading.specs.Build.{build}
-use Rattle.blif_reading.specs.Lookup.{byte-names}
 use Rattle.blif_reading.specs.TextModel.{blockOf, modelOf, modelOfText}
 use Rattle.blif_reading.specs.Read.{declFault, readFault, read, answer, signalOf, builtFrom, readText}
 use Rattle.blif_reading.specs.Accepts.{Accepts}
@@ -34,8 +33,8 @@ use Rattle.blif_reading.proofs.Passed.{Passed, passed, passed-valid, cl
 
 -- the text's model is accepted, and its gates are sorted
 pub record Reads (text : Bytes) (new : Net) : Type 0 where
-  pub accepted : Accepts byte-names (modelOfText text)
-  pub isSorted : sorted (builtOf byte-names (modelOfText text)) ≡ some new
+  pub accepted : Accepts (modelOfText text)
+  pub isSorted : sorted (builtOf (modelOfText text)) ≡ some new
 
 -- ---- what is read
 
@@ -74,4 +73,4 @@ reads-of s new e =
 
 -- for every list of rows the text has just one list of outputs, and it is that of the network read
 pub read-means : (s : Bytes) (new : Net) → readText s ≡ read new → (rows outs : List (List Bool)) → BlifRuns (modelOfText s) rows outs ↔ (outs ≡ run new rows)
-read-means s new e rows outs = let r : Reads s new = reads-of s new e in sorted-means byte-names (modelOfText s) (r .accepted) new (r .isSorted) rows outs
+read-means s new e rows outs = let r : Reads s new = reads-of s new e in sorted-means (modelOfText s) (r .accepted) new (r .isSorted) rows outs

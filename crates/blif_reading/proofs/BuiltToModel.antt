@@ -7,12 +7,13 @@ use Prim.Native.Nat.{ℕ, zero, suc, _+_}
 use native.Mathlib.Omega.{arith}
 use native.Mathlib.Nat.{zero-add, add-zero}
 use lib.ListN.{length, getElem?}
+use Rattle.lists.specs.Lists.{optional}
 use Rattle.signal.specs.Signal.{Node, Const, Input, Var, Signal, oneS, zeroS}
 use Rattle.gates.specs.Gate.{Gate}
 use Rattle.network.specs.Net.{GateIs}
 use Rattle.network.specs.Clock.{Clock, sigBit}
-use Rattle.blif_meaning.specs.Model.{Line, LatchDef, Block, Latch, Cover, Model, target, optBit, blockBit, coverBit, BlifClock}
-use Rattle.blif_reading.specs.Build.{optSig, lineGate, lineGates, blockGate, newGates, blockGates, allNewGates, build}
+use Rattle.blif_meaning.specs.Model.{Line, LatchDef, Block, Latch, Cover, Model, target, blockBit, coverBit, BlifClock}
+use Rattle.blif_reading.specs.Build.{lineGate, lineGates, blockGate, newGates, blockGates, allNewGates, build}
 use Rattle.blif_meaning.specs.WellFormed.{Closed, GoodBlock}
 use Rattle.blif_reading.proofs.Lookups.{Looks}
 use Rattle.lists.proofs.Places.{place-mem, mem-place, place-left, place-right, map-map}
@@ -109,7 +110,7 @@ module _ {Name : Type 0} (m : Model Name) (signalOf : Name → Signal) (ok : Loo
         ap σ (ok .blockAt j b e) ∙ c .fits j (blockGate signalOf k b) (main-is m signalOf j b p)
         ∙ cover-bit row (c .bits) (heldN j) k (map signalOf xs) ls (length xs) (g .0) (g .1) (cover-seg k (map signalOf xs) ls (line-is m signalOf j b p)) ∙ ap (coverBit ls) (env-map xs)
 
-    opt-same : (o : Option Name) (s : Signal) (v : Bool) → σ s ≡ v → σ (optSig signalOf s o) ≡ optBit env v o
+    opt-same : (o : Option Name) (s : Signal) (v : Bool) → σ s ≡ v → σ (optional signalOf s o) ≡ optional env v o
     opt-same none s v e = e
     opt-same (some x) s v e = refl
 

@@ -6,11 +6,12 @@ use mathlib.Core.Logic.{inl, inr}
 use Prim.Native.Nat.{ℕ, zero, suc, _+_, _≤_, _<_}
 use native.Mathlib.Omega.{arith}
 use lib.ListN.{length, getElem?, length-append}
+use Rattle.lists.specs.Lists.{optional}
 use Rattle.signal.specs.Signal.{Node, Const, Input, Var, Signal, oneS, zeroS}
 use Rattle.gates.specs.Gate.{Gate, pins}
 use Rattle.network.specs.Net.{Valid, ValidNode}
 use Rattle.blif_meaning.specs.Model.{Line, Block, Latch, Cover, Model}
-use Rattle.blif_reading.specs.Build.{optSig, lineGate, blockGate, newGates, blockGates, allNewGates, build}
+use Rattle.blif_reading.specs.Build.{lineGate, blockGate, newGates, blockGates, allNewGates, build}
 use Rattle.blif_meaning.specs.WellFormed.{optName, sources, Defined, Closed}
 use Rattle.blif_reading.proofs.Lookups.{Looks}
 use Rattle.lists.proofs.Places.{place-lt}
@@ -42,15 +43,15 @@ module _ {Name : Type 0} (signalOf : Name → Signal) (ins total : ℕ) where
   all-append [] ys a b = b
   all-append (x ∷ xs) ys a b = (a .0, all-append xs ys (a .1) b)
 
-  opt-in : (e : Option Name) (s : Signal) → In (s .node) → ((x : Name) → List·Memᴰ x (optName e) → In (signalOf x .node)) → In (optSig signalOf s e .node)
+  opt-in : (e : Option Name) (s : Signal) → In (s .node) → ((x : Name) → List·Memᴰ x (optName e) → In (signalOf x .node)) → In (optional signalOf s e .node)
   opt-in none s p h = p
   opt-in (some x) s p h = h x (List·Memᴰ·head refl)
 
   main-in : (k : ℕ) (b : Block Name) → NamesIn b → ((i : ℕ) → i < length (newGates signalOf b) → k + i < total) → GateIn (blockGate signalOf k b)
   main-in k (Latch l) h r =
-      all-cons In tt (signalOf (l .input)) (optSig signalOf oneS (l .enable) ∷ optSig signalOf zeroS (l .reset) ∷ []) (h (l .input) (List·Memᴰ·head refl))
-      (all-cons In tt (optSig signalOf oneS (l .enable)) (optSig signalOf zeroS (l .reset) ∷ []) (opt-in (l .enable) oneS tt (λ x m. h x (List·Memᴰ·tail (Memᴰ·append-left (optName (l .reset)) m))))
-      (all-cons In tt (optSig signalOf zeroS (l .reset)) [] (opt-in (l .reset) zeroS tt (λ x m. h x (List·Memᴰ·tail (Memᴰ·append-right (optName (l .enable)) m)))) (all-nil In tt)))
+      all-cons In tt (signalOf (l .input)) (optional signalOf oneS (l .enable) ∷ optional signalOf zeroS (l .reset) ∷ []) (h (l .input) (List·Memᴰ·head refl))
+      (all-cons In tt (optional signalOf oneS (l .enable)) (optional signalOf zeroS (l .reset) ∷ []) (opt-in (l .enable) oneS tt (λ x m. h x (List·Memᴰ·tail (Memᴰ·append-left (optName (l .reset)) m))))
+      (all-cons In tt (optional signalOf zeroS (l .reset)) [] (opt-in (l .reset) zeroS tt (λ x m. h x (List·Memᴰ·tail (Memᴰ·append-right (optName (l .enable)) m)))) (all-nil In tt)))
   main-in k (Cover xs y ls) h r = cover-all In tt k (map signalOf xs) ls (λ l w. literals-all In tt signalOf (l .cols) xs (λ x m. h x (lit-source (l .cols) xs x m))) r
 
   blockGates-in : (k : ℕ) (bs : List (Block Name)) → AllNames bs → k + length (allNewGates signalOf bs) ≤ total → AllIn (blockGates signalOf k bs)

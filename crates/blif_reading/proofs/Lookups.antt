@@ -1,12 +1,12 @@
 -- The search gives each name its signal, where no name is defined twice. Assumes nothing.
 use mathlib.Core.Path.{_≡_, ap, ap₂}
-use mathlib.Core.List.{map}
+use mathlib.Core.List.{List, map}
 use mathlib.Core.Option.{Option, some}
 use Prim.Native.Nat.{ℕ}
 use lib.ListN.{getElem?}
-use Rattle.lists.specs.Lists.{Dup, find}
+use Rattle.lists.specs.Lists.{Bytes, same, Dup, find}
 use Rattle.lists.proofs.Places.{place-mem, map-place}
-use Rattle.lists.proofs.Find.{find-at, find-out}
+use Rattle.lists.proofs.Find.{find-name, find-no-name}
 use Rattle.lists.proofs.Once.{dup-left, dup-right, dup-both}
 use Rattle.signal.specs.Signal.{Input, Var, Signal, plain}
 use Rattle.blif_meaning.specs.Model.{Block, Model, target}
@@ -19,13 +19,17 @@ module _ {Name : Type 0} where
     pub inputAt : (i : ℕ) (x : Name) → getElem? (m .inputs) i ≡ some x → signalOf x ≡ plain (Input i)
     pub blockAt : (j : ℕ) (b : Block Name) → getElem? (m .blocks) j ≡ some b → signalOf (target b) ≡ plain (Var j)
 
-module _ {Name : Type 0} (dec : (x y : Name) → Dec (x ≡ y)) where
-  module _ (m : Model Name) (once : Dup (defined m) → ⊥) where
-    -- no name is defined twice: the search gives each its signal
-    pub looks : Looks m (lookup dec m)
-    looks = record {
-      inputAt = λ i x e. ap (λ (r : Option ℕ). placeSignal r (find dec (map target (m .blocks)) x)) (find-at dec (m .inputs) x i (λ d. once (dup-left (m .inputs) (map target (m .blocks)) d)) e);
-      blockAt = λ j b e.
-          let w : getElem? (map target (m .blocks)) j ≡ some (target b) = map-place target (m .blocks) j b e in
-          ap₂ (λ (r q : Option ℕ). placeSignal r q) (find-out dec (m .inputs) (target b) (λ v. once (dup-both (m .inputs) (map target (m .blocks)) (target b) v (place-mem (map target (m .blocks)) j (target b) w)))) (find-at dec (map target (m .blocks)) (target b) j (λ d. once (dup-right (m .inputs) (map target (m .blocks)) d)) w);
-    }
+module _ (m : Model Bytes) (once : Dup (defined m) → ⊥) where
+  abbrev targets : List Bytes
+  targets = map target (m .blocks)
+
+  -- no name is defined twice: the search gives each its signal
+  pub looks : Looks m (lookup m)
+  looks = record {
+    inputAt = λ i x e. ap (λ (r : Option ℕ). placeSignal r (find (same x) targets)) (find-name (m .inputs) x i (λ d. once (dup-left (m .inputs) targets d)) e);
+    blockAt = λ j b e.
+        let w : getElem? targets j ≡ some (target b) = map-place target (m .blocks) j b e in
+        ap₂ (λ (r q : Option ℕ). placeSignal r q)
+        (find-no-name (m .inputs) (target b) (λ v. once (dup-both (m .inputs) targets (target b) v (place-mem targets j (target b) w))))
+        (find-name targets (target b) j (λ d. once (dup-right (m .inputs) targets d)) w);
+  }

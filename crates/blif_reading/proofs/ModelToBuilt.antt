@@ -9,14 +9,15 @@ use native.Mathlib.Omega.{arith}
 use native.Mathlib.Nat.{zero-add, add-zero}
 use lib.ListN.{length, getD, getElem?, length-map}
 use lib.Seq.{getD-append-add}
+use Rattle.lists.specs.Lists.{optional}
 use Rattle.network.specs.Settle.{nextOf}
 use Rattle.network.proofs.Runs.{Simulates, nextOf-is}
 use Rattle.signal.specs.Signal.{Signal, oneS, zeroS}
 use Rattle.gates.specs.Gate.{Gate}
 use Rattle.network.specs.Net.{Net}
 use Rattle.network.specs.Clock.{Fits, Clock, sigBit, gateBit}
-use Rattle.blif_meaning.specs.Model.{Line, LatchDef, Block, Latch, Cover, Model, target, optBit, blockBit, coverBit, BlifClock}
-use Rattle.blif_reading.specs.Build.{lineGate, optSig, blockGate, newGates, blockGates, allNewGates, build}
+use Rattle.blif_meaning.specs.Model.{Line, LatchDef, Block, Latch, Cover, Model, target, blockBit, coverBit, BlifClock}
+use Rattle.blif_reading.specs.Build.{lineGate, blockGate, newGates, blockGates, allNewGates, build}
 use Rattle.blif_meaning.specs.WellFormed.{optName, sources, Defined, Closed, GoodBlock}
 use Rattle.blif_reading.proofs.Lookups.{Looks}
 use Rattle.lists.proofs.Places.{place-mem, place-left, map-on, map-map, map-place}
@@ -182,7 +183,7 @@ module _ {Name : Type 0} (m : Model Name) (signalOf : Name → Signal) (ok : Loo
     next : ℕ → Bool
     next = nextOf net (sigBit row β) heldN
 
-    opt-known : (o : Option Name) (s : Signal) (v : Bool) → sigBit row β s ≡ v → ((x : Name) → List·Memᴰ x (optName o) → Defined m x) → sigBit row β (optSig signalOf s o) ≡ optBit env v o
+    opt-known : (o : Option Name) (s : Signal) (v : Bool) → sigBit row β s ≡ v → ((x : Name) → List·Memᴰ x (optName o) → Defined m x) → sigBit row β (optional signalOf s o) ≡ optional env v o
     opt-known none s v e h = e
     opt-known (some x) s v e h = known-name x (h x (List·Memᴰ·head refl))
 

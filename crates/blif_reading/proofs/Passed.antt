@@ -22,7 +22,6 @@ use Rattle.refusals.proofs.Order.{refused-ne-fine, orElse-left, orElse-right, f
 use Rattle.network.specs.Net.{Valid}
 use Rattle.blif_text.specs.Decls.{Def, latch, cover, Decl, model, end, inputs, outputs, gate, insOf, defsOf, ins, outs, defs, coverOut, coverIns, defines, usedNames, columns, output, isOne}
 use Rattle.blif_meaning.specs.Model.{Model, target}
-use Rattle.blif_reading.specs.Lookup.{byte-names}
 use Rattle.blif_meaning.specs.WellFormed.{defined, sources, Defined, Closed, GoodLines, GoodBlock}
 use Rattle.blif_reading.specs.TextModel.{colOfByte, lineOf, blockOf, modelOf}
 use Rattle.blif_reading.specs.Read.{tooLarge, definedTwice, naming, undefined, goodLine, coverFault, coverFaults, declFault, signalOf, builtFrom}
@@ -250,4 +249,4 @@ passed ds e =
 -- the gates built for them have valid signals
 pub passed-valid : (ds : List Decl) → Passed ds → Valid (builtFrom ds)
 unfolding builtFrom
-passed-valid ds p = built-valid (modelOf ds) (signalOf ds) (looks byte-names (modelOf ds) (once-of ds (p .named))) (closed-of ds (p .used))
+passed-valid ds p = built-valid (modelOf ds) (signalOf ds) (looks (modelOf ds) (once-of ds (p .named))) (closed-of ds (p .used))

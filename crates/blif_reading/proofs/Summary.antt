@@ -25,11 +25,11 @@ use Rattle.blif_reading.proofs.Accepted as reading
 use Rattle.blif_reading.proofs.ReadNet.{read-net}
 use Rattle.blif_reading.proofs.Refusals as texts
 
--- a model that reading accepts, by whatever names, runs as the gates built for it run, and they run as it does: for every list of input
+-- a model that reading accepts, runs as the gates built for it run, and they run as it does: for every list of input
 -- rows the same lists of output rows, by the Berkeley text on one side and by document 01's "A clock" on the other
-pub built-means : {Name : Type 0} (dec : (x y : Name) → Dec (x ≡ y)) (m : Model Name) → Accepts dec m → (rows outs : List (List Bool))
-    → BlifRuns m rows outs ↔ NetRuns (build (lookup dec m) m) rows outs
-built-means dec m acc = meaning.built-means dec m acc
+pub built-means : (m : Model Bytes) → Accepts m → (rows outs : List (List Bool))
+    → BlifRuns m rows outs ↔ NetRuns (build (lookup m) m) rows outs
+built-means m acc = meaning.built-means m acc
 
 -- demand 2: where a text is read as a network, for every list of input rows the text has just one list of outputs, by the Berkeley text,
 -- and it is the network's, by the relation and by the function

@@ -2,9 +2,9 @@
 -- Assumes nothing: these are definitions.
 use mathlib.Core.Bool.{Bool, true, false, cond}
 use mathlib.Core.List.{List, [], _∷_, _++_, map}
-use mathlib.Core.Option.{Option, none, some}
 use Prim.Native.Nat.{ℕ, zero, suc, _+_}
 use lib.ListN.{length}
+use Rattle.lists.specs.Lists.{optional}
 use Rattle.signal.specs.Signal.{Var, Signal, plain, zeroS, oneS, invert}
 use Rattle.gates.specs.Gate.{OrN, AndN, NandN, Buf, Gate, Comb, Dff}
 use Rattle.network.specs.Net.{Net}
@@ -51,15 +51,10 @@ lineGates ss (l ∷ []) = []
 lineGates ss (l ∷ m ∷ ls) = map (lineGate ss) (l ∷ m ∷ ls)
 
 module _ {Name : Type 0} where
-  -- the signal of a name that may be left out
-  abbrev pub optSig : (Name → Signal) → Signal → Option Name → Signal
-  optSig signalOf s none = s
-  optSig signalOf s (some x) = signalOf x
-
   module _ (signalOf : Name → Signal) where
     -- the gate of a latch: "A latch is Dff(input, one, zero)", where enable and reset are left out
     abbrev pub latchGate : LatchDef Name → Gate
-    latchGate l = Dff (record { dataIn = signalOf (l .input); enable = optSig signalOf oneS (l .enable); reset = optSig signalOf zeroS (l .reset) })
+    latchGate l = Dff (record { dataIn = signalOf (l .input); enable = optional signalOf oneS (l .enable); reset = optional signalOf zeroS (l .reset) })
 
     -- the gate of a block; k is the number of the next gate of a line
     abbrev pub blockGate : ℕ → Block Name → Gate

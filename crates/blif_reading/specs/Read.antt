@@ -19,7 +19,7 @@ use Rattle.sort_order.specs.Sorted.{sorted}
 use Rattle.blif_text.specs.Lines.{maxText}
 use Rattle.blif_text.specs.Statements.{parsed, firstBad}
 use Rattle.blif_text.specs.Decls.{Def, latch, cover, Decl, model, end, inputs, outputs, gate, declsOf, ins, outs, defs, coverOut, defines, usedNames, columns, output, isOne}
-use Rattle.blif_reading.specs.Lookup.{lookup, byte-names}
+use Rattle.blif_reading.specs.Lookup.{lookup}
 use Rattle.blif_reading.specs.Build.{build}
 use Rattle.blif_reading.specs.TextModel.{modelOf}
 
@@ -129,7 +129,7 @@ answer (Refused r) n = refused r
 
 -- the signal of a name that these declarations define
 abbrev pub signalOf : List Decl → Bytes → Signal
-signalOf ds = lookup byte-names (modelOf ds)
+signalOf ds = lookup (modelOf ds)
 
 -- the gates as built
 unfoldable pub builtFrom : List Decl → Net

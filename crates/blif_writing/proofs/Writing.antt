@@ -14,9 +14,9 @@ use Rattle.gates.specs.Forms.{canHave}
 use Rattle.network.specs.Net.{Net, GateIs, Valid, Formed, Loop}
 use Rattle.network.specs.Clock.{Clock, nodeBit, sigBit, zeroBits}
 use Rattle.network.specs.Settle.{run}
-use Rattle.blif_meaning.specs.Model.{LatchDef, Block, Latch, target, optBit, nextHeld, cubeBit, coverBit, blockBit, BlifClock, BlifRuns}
+use Rattle.blif_meaning.specs.Model.{LatchDef, Block, Latch, target, nextHeld, cubeBit, coverBit, blockBit, BlifClock, BlifRuns}
 use Rattle.blif_writing.specs.WrittenModel.{isConst, unless, latchOf, colOf, linesOf, bare, gateName, bufBlock, formBlock, combBlock, inverterBlock, written}
-use Rattle.lists.specs.Lists.{range}
+use Rattle.lists.specs.Lists.{range, optional}
 use Rattle.lists.proofs.Places.{map-on, map-map, map-at}
 use Rattle.blif_writing.proofs.Blocks.{range-at, comb-cases, no-latch, Source, ofDff, ofComb, ofInverter, ofOne, ofZero, source}
 use Rattle.blif_writing.proofs.FormLines.{lines-mean}
@@ -120,10 +120,10 @@ module _ {Name : Type 0} (name : Signal → Name) where
             go (Input j) e i f u p = absurd (mathlib.Core.Bool.false≢true p)
             go (Var j) e i f u p = absurd (mathlib.Core.Bool.false≢true p)
 
-        unless-bit : (v : Bool) (s : Signal) → optBit ε v (unless name v s) ≡ sigBit row (c .bits) s
+        unless-bit : (v : Bool) (s : Signal) → optional ε v (unless name v s) ≡ sigBit row (c .bits) s
         unless-bit v s = go (isConst v s) refl
           where
-            go : (t : Bool) → isConst v s ≡ t → optBit ε v (cond t none (some (name s))) ≡ sigBit row (c .bits) s
+            go : (t : Bool) → isConst v s ≡ t → optional ε v (cond t none (some (name s))) ≡ sigBit row (c .bits) s
             go true p = sym (const-value v s p)
             go false p = env-name unname back row (c .bits) s
 

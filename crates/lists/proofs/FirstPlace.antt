@@ -2,14 +2,16 @@
 use mathlib.Core.Path.{_≡_, sym, ap, _∙_}
 use mathlib.Core.List.{List, [], _∷_, _++_}
 use mathlib.Core.Logic.{⊎-elim}
-use mathlib.Core.Option.{some}
+use mathlib.Core.Option.{some, Option·map}
 use Prim.Native.Nat.{ℕ, zero, suc, _+_, _≤_, _<_}
 use native.Mathlib.Omega.{arith}
 use native.Mathlib.Nat.{le-of-lt}
 use native.Mathlib.Decide.{ℕ-discrete}
+use lib.Dec.{eqb}
 use lib.ListN.{length, getD, take, drop}
 use lib.Seq.{split-at, length-take-le}
-use Rattle.lists.specs.Lists.{hit, occ, found, find}
+use borrow.Author.Tests.{eq-eqb, ne-eqb}
+use Rattle.lists.specs.Lists.{hit, occ, find}
 use Rattle.lists.proofs.Counting.{hit-same, hit-eq, hit-ne, hit-or, occ-append}
 
 abbrev at-hit : ℕ → ℕ → ℕ
@@ -59,12 +61,12 @@ place-at l i h once =
     ∙ (rw (place-here x x (drop (suc i) l) (hit-same x), length-take-le i l (le-of-lt h)) (omega arith))
 
 -- the search finds that place
-pub find-place : (v : ℕ) (l : List ℕ) → 0 < occ v l → find ℕ-discrete l v ≡ some (place v l)
+pub find-place : (v : ℕ) (l : List ℕ) → 0 < occ v l → find (eqb v) l ≡ some (place v l)
 find-place v [] p = absurd (omega arith)
-find-place v (x ∷ l) p = go (ℕ-discrete x v) (find-place v l)
+find-place v (x ∷ l) p = go (ℕ-discrete v x) (find-place v l)
   where
-    go : (d : Dec (x ≡ v)) → (0 < occ v l → find ℕ-discrete l v ≡ some (place v l)) → found d (find ℕ-discrete l v) ≡ some (place v (x ∷ l))
-    go (yes e) ih = ap some (sym (place-here v x l (hit-eq (sym e))))
+    go : Dec (v ≡ x) → (0 < occ v l → find (eqb v) l ≡ some (place v l)) → find (eqb v) (x ∷ l) ≡ some (place v (x ∷ l))
+    go (yes e) ih = rw (eq-eqb v x e) (ap some (sym (place-here v x l (hit-eq e))))
     go (no e) ih =
-        let z : hit v x ≡ 0 = hit-ne (λ q. e (sym q)) in
-        ap (found (no e)) (ih (omega (arith, z))) ∙ ap some (sym (place-there v x l z))
+        let z : hit v x ≡ 0 = hit-ne e in
+        rw (ne-eqb v x e) (ap (Option·map suc) (ih (omega (arith, z))) ∙ ap some (sym (place-there v x l z)))

@@ -1,8 +1,7 @@
 -- Lists, as every layer above uses them. Assumes nothing: these are definitions.
-use mathlib.Core.Path.{_≡_}
 use mathlib.Core.Bool.{Bool, true, false, _&&_, _||_, cond}
 use mathlib.Core.List.{List, [], _∷_, _++_, List·Memᴰ}
-use mathlib.Core.Option.{Option, none, some}
+use mathlib.Core.Option.{Option, none, some, Option·map}
 use Prim.Native.Nat.{ℕ, zero, suc, _+_}
 use Prim.Native.Char.{code}
 use Prim.Native.String.{String}
@@ -30,6 +29,11 @@ same [] [] = true
 same [] (y ∷ t) = false
 same (x ∷ s) [] = false
 same (x ∷ s) (y ∷ t) = eqb x y && same s t
+
+-- what a function makes of a value that may be left out; else the other
+abbrev pub optional : {A B : Type 0} → (A → B) → B → Option A → B
+optional f d none = d
+optional f d (some x) = f x
 
 -- n zeros: what a refusal leaves in a slice of length n, and a success beyond what it fills
 abbrev pub zeros : ℕ → List ℕ
@@ -98,14 +102,7 @@ pub data Dup {A : Type 0} : List A → Type 0 where
   here : {x : A} {l : List A} → List·Memᴰ x l → Dup (x ∷ l)
   there : {x : A} {l : List A} → Dup l → Dup (x ∷ l)
 
-module _ {A : Type 0} where
-  -- one step of a search: the place here, or one more than the place further on
-  abbrev pub found : {x y : A} → Dec (y ≡ x) → Option ℕ → Option ℕ
-  found (yes e) r = some 0
-  found (no e) none = none
-  found (no e) (some i) = some (suc i)
-
-  -- the first place of an element: "a search through earlier definitions"
-  abbrev pub find : ((x y : A) → Dec (x ≡ y)) → List A → A → Option ℕ
-  find dec [] x = none
-  find dec (y ∷ l) x = found (dec y x) (find dec l x)
+-- the first place of an element that passes the test: "a search through earlier definitions"
+abbrev pub find : {A : Type 0} → (A → Bool) → List A → Option ℕ
+find p [] = none
+find p (x ∷ l) = if p x then some 0 else Option·map suc (find p l)

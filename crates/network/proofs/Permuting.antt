@@ -1,15 +1,16 @@
 -- A list that holds every gate's number, and no other, renumbers a network. Assumes nothing.
 use mathlib.Core.Path.{_≡_, refl, sym, ap, _∙_, subst}
 use mathlib.Core.List.{List, [], List·Memᴰ}
-use mathlib.Core.Option.{Option, none, some}
+use mathlib.Core.Option.{Option, none, some, Option·getD}
 use Prim.Native.Nat.{ℕ, _<_}
-use native.Mathlib.Decide.{ℕ-discrete}
+use lib.Dec.{eqb}
 use lib.ListN.{length, getD, getElem?, length-map}
+use borrow.Author.Tests.{eq-eqb, eqb-true}
 use Rattle.lists.specs.Lists.{find}
 use Rattle.signal.specs.Signal.{Node, Const, Input, Var}
 use Rattle.gates.specs.Gate.{Comb, Buf}
 use Rattle.network.specs.Net.{Net, GateIs, ValidNode, Valid}
-use Rattle.network.specs.Renumber.{remapGate, NodeKept, Renumbered, orZero, placeOf, gateOr, permuted}
+use Rattle.network.specs.Renumber.{remapGate, NodeKept, Renumbered, placeOf, gateOr, permuted}
 use Rattle.lists.proofs.Places.{place-lt, place-mem, getD-place, place-getD, map-at}
 use Rattle.lists.proofs.Find.{find-some, find-none}
 
@@ -22,11 +23,13 @@ pub gate-at : (net : Net) (g : ℕ) → g < length (net .gates) → GateIs net g
 gate-at net g u = place-getD (Comb Buf []) (net .gates) g u
 
 pub place-of : (l : List ℕ) (g : ℕ) → List·Memᴰ g l → getElem? l (placeOf l g) ≡ some g
-place-of l g m = go (find ℕ-discrete l g) refl
+place-of l g m = go (find (eqb g) l) refl
   where
-    go : (r : Option ℕ) → find ℕ-discrete l g ≡ r → getElem? l (orZero (find ℕ-discrete l g)) ≡ some g
-    go none p = absurd (find-none ℕ-discrete l g p m)
-    go (some i) p = ap (λ (r : Option ℕ). getElem? l (orZero r)) p ∙ find-some ℕ-discrete l g i p
+    go : (r : Option ℕ) → find (eqb g) l ≡ r → getElem? l (Option·getD (find (eqb g) l) 0) ≡ some g
+    go none p = absurd (find-none (eqb g) l p g m (eq-eqb g g refl))
+    go (some i) p =
+        let f = find-some (eqb g) l i p in
+        ap (λ (r : Option ℕ). getElem? l (Option·getD r 0)) p ∙ f .1 ∙ ap some (sym (eqb-true g (f .0) (f .2)))
 
 module _ (net : Net) (valid : Valid net) (l : List ℕ) (o : Orders (length (net .gates)) l) where
   abbrev back : ℕ → ℕ

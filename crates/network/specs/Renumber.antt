@@ -2,9 +2,9 @@
 -- these are definitions.
 use mathlib.Core.Path.{_≡_}
 use mathlib.Core.List.{List, [], map, List·Memᴰ}
-use mathlib.Core.Option.{Option, none, some}
+use mathlib.Core.Option.{Option·getD}
 use Prim.Native.Nat.{ℕ, _<_}
-use native.Mathlib.Decide.{ℕ-discrete}
+use lib.Dec.{eqb}
 use lib.ListN.{length, getD}
 use Rattle.lists.specs.Lists.{find}
 use Rattle.signal.specs.Signal.{Node, Const, Input, Var, Signal, remap}
@@ -51,14 +51,9 @@ pub record Renumbered (old new : Net) (π order : ℕ → ℕ) : Type 0 where
 
 -- ---- a new order as the list of old numbers
 
--- the place found, or 0
-abbrev pub orZero : Option ℕ → ℕ
-orZero none = 0
-orZero (some i) = i
-
--- the new number of old gate g: its place in the order
+-- the new number of old gate g: its place in the order, or 0
 abbrev pub placeOf : List ℕ → ℕ → ℕ
-placeOf l g = orZero (find ℕ-discrete l g)
+placeOf l g = Option·getD (find (eqb g) l) 0
 
 -- gate g of the network, where there is one
 abbrev pub gateOr : Net → ℕ → Gate

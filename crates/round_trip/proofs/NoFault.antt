@@ -18,7 +18,6 @@ use Rattle.refusals.specs.declared.Checked.the-variants.{Fine}
 use Rattle.network.specs.Net.{Net}
 use Rattle.blif_text.specs.Decls.{Decl, gate, cover, defs, defines, usedNames, columns, output, isOne, declsOf}
 use Rattle.blif_meaning.specs.Model.{Col, C0, C1, Dash, Line, Block, Latch, Cover, Model, target}
-use Rattle.blif_reading.specs.Lookup.{byte-names}
 use Rattle.blif_meaning.specs.WellFormed.{defined, sources, Defined, GoodLines, GoodBlock}
 use Rattle.blif_writing.specs.WrittenModel.{written}
 use Rattle.blif_writing.specs.Names.{nameBytes}
@@ -143,7 +142,7 @@ covers-good (b ∷ bs) h = rw (cover-good b (h b (List·Memᴰ·head refl))) (co
 
 -- ---- all tests
 
-module _ (net : Net) (plainFlops : PlainFlops net) (acc : Accepts byte-names (written nameBytes net)) where
+module _ (net : Net) (plainFlops : PlainFlops net) (acc : Accepts (written nameBytes net)) where
   abbrev w : Model Bytes
   w = written nameBytes net
 

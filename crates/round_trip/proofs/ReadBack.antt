@@ -11,7 +11,6 @@ use Rattle.sort_order.proofs.Sorting.{none-loop}
 use Rattle.blif_meaning.specs.Model.{Model}
 use Rattle.blif_writing.specs.WrittenModel.{written}
 use Rattle.blif_writing.specs.Names.{nameBytes}
-use Rattle.blif_reading.specs.Lookup.{byte-names}
 use Rattle.blif_writing.specs.Text.{textOf}
 use Rattle.blif_reading.specs.TextModel.{modelOfText}
 use Rattle.blif_reading.specs.Read.{tooLarge, read, answer, builtFrom, readText}
@@ -35,27 +34,27 @@ module _ (net : Net) (good : RoundTripNet net) where
   pub round-trip-parses : modelOfText (textOf net) ≡ written nameBytes net
   round-trip-parses = parses net (good .plain)
 
-  accepts : Accepts byte-names (written nameBytes net)
-  accepts = written-accepts byte-names nameBytes unname unname-name net (good .valid) (good .free) (good .formed)
+  accepts : Accepts (written nameBytes net)
+  accepts = written-accepts nameBytes unname unname-name net (good .valid) (good .free) (good .formed)
 
   -- the gates built for what is written are sorted
-  sorts : (new : Net) × (sorted (builtOf byte-names (written nameBytes net)) ≡ some new)
+  sorts : (new : Net) × (sorted (builtOf (written nameBytes net)) ≡ some new)
   sorts = go (sorted built) refl
     where
       built : Net
-      built = builtOf byte-names (written nameBytes net)
+      built = builtOf (written nameBytes net)
 
       go : (o : Option Net) → sorted built ≡ o → (new : Net) × (sorted built ≡ some new)
-      go none e = absurd (accepts .free (none-loop built (accepted-valid byte-names (written nameBytes net) accepts) .0 e))
+      go none e = absurd (accepts .free (none-loop built (accepted-valid (written nameBytes net) accepts) .0 e))
       go (some new) e = (new, e)
 
   -- and so are those of the text, which gives equal outputs
-  pub text-sorts : (new : Net) × (sorted (builtOf byte-names (modelOfText (textOf net))) ≡ some new) × SameOutputs new net
+  pub text-sorts : (new : Net) × (sorted (builtOf (modelOfText (textOf net))) ≡ some new) × SameOutputs new net
   text-sorts =
       let s = sorts in (
         s .0,
-        ap (λ (m : Model Bytes). sorted (builtOf byte-names m)) round-trip-parses ∙ s .1,
-        same-outputs byte-names nameBytes unname unname-name net (good .valid) (good .free) (good .formed) (s .0) (s .1),
+        ap (λ (m : Model Bytes). sorted (builtOf m)) round-trip-parses ∙ s .1,
+        same-outputs nameBytes unname unname-name net (good .valid) (good .free) (good .formed) (s .0) (s .1),
       )
 
   -- within our sizes it is read
@@ -71,6 +70,6 @@ pub never-shared : (a b : Net) → RoundTripNet a → RoundTripNet b → textOf 
 never-shared a b goodA goodB e =
     let x = text-sorts a goodA in
     let y = text-sorts b goodB in
-    let p : some (x .0) ≡ some (y .0) = sym (x .1) ∙ ap (λ (t : Bytes). sorted (builtOf byte-names (modelOfText t))) e ∙ y .1 in
+    let p : some (x .0) ≡ some (y .0) = sym (x .1) ∙ ap (λ (t : Bytes). sorted (builtOf (modelOfText t))) e ∙ y .1 in
     let q : y .0 ≡ x .0 = cc in
     same-trans (same-sym (x .2)) (subst (λ (n : Net). SameOutputs n b) q (y .2))

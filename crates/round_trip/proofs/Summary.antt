@@ -23,7 +23,6 @@ use Rattle.round_trip.proofs.WrittenMeans as writing
 use Rattle.blif_writing.specs.WrittenModel.{written}
 use Rattle.blif_writing.specs.Names.{nameBytes}
 use Rattle.blif_writing.proofs.NamesDiffer.{unname, unname-name}
-use Rattle.blif_reading.specs.Lookup.{byte-names}
 use Rattle.blif_reading.specs.Accepts.{Accepts}
 use Rattle.network.specs.Net.{Valid, Formed, Loop}
 use Rattle.network.specs.Settle.{SameOutputs}
@@ -57,11 +56,11 @@ never-shared a b goodA goodB e =
 -- the model written for a network gives the network's outputs and no others, whatever enables and resets its flip-flops have
 pub written-means : (net : Net) → Valid net → (Loop net → ⊥) → Formed net → (rows outs : List (List Bool))
     → BlifRuns (written nameBytes net) rows outs ↔ (outs ≡ run net rows)
-written-means net valid free formed = writing.written-means byte-names nameBytes unname unname-name net valid free formed
+written-means net valid free formed = writing.written-means nameBytes unname unname-name net valid free formed
 
 -- and it is one that reading accepts
-pub written-accepted : (net : Net) → Valid net → (Loop net → ⊥) → Formed net → Accepts byte-names (written nameBytes net)
-written-accepted net valid free formed = writing.written-accepts byte-names nameBytes unname unname-name net valid free formed
+pub written-accepted : (net : Net) → Valid net → (Loop net → ⊥) → Formed net → Accepts (written nameBytes net)
+written-accepted net valid free formed = writing.written-accepts nameBytes unname unname-name net valid free formed
 
 -- the text written for a network of demand 3 is parsed as the model written for it
 pub written-parses : (net : Net) → RoundTripNet net → modelOfText (textOf net) ≡ written nameBytes net

@@ -6,7 +6,7 @@ use mathlib.Core.Option.{some}
 use mathlib.Core.Logic.{_↔_}
 use Prim.Native.Nat.{ℕ}
 use lib.ListN.{length-map}
-use Rattle.lists.specs.Lists.{range}
+use Rattle.lists.specs.Lists.{Bytes, range}
 use Rattle.lists.proofs.Range.{length-range}
 use Rattle.signal.specs.Signal.{Input, Signal, plain}
 use Rattle.network.specs.Net.{Net, Valid, Formed, Loop}
@@ -26,14 +26,14 @@ use Rattle.blif_writing.proofs.Writing.{written-runs}
 use Rattle.round_trip.proofs.Ranks.{written-ranked}
 use Rattle.blif_writing.proofs.WrittenFormed.{written-formed}
 
-module _ {Name : Type 0} (dec : (x y : Name) → Dec (x ≡ y)) (name : Signal → Name) (unnamed : Name → Signal) (back : (s : Signal) → unnamed (name s) ≡ s) where
+module _ (name : Signal → Bytes) (unnamed : Bytes → Signal) (back : (s : Signal) → unnamed (name s) ≡ s) where
   module _ (net : Net) (valid : Valid net) (free : Loop net → ⊥) (counts : Formed net) where
     -- what is written is accepted
-    pub written-accepts : Accepts dec (written name net)
+    pub written-accepts : Accepts (written name net)
     written-accepts =
         let formed = written-formed name net (λ x y e. sym (back x) ∙ ap unnamed e ∙ back y) valid counts in
-        let looked = looks dec (written name net) (formed .once) in
-        record { formed = formed; free = built-free (written name net) (lookup dec (written name net)) looked (formed .closed) (written-ranked name net (ranked net free) unnamed back) }
+        let looked = looks (written name net) (formed .once) in
+        record { formed = formed; free = built-free (written name net) (lookup (written name net)) looked (formed .closed) (written-ranked name net (ranked net free) unnamed back) }
 
     -- the network's outputs are the model's
     outputs-are : (rows : List (List Bool)) → BlifRuns (written name net) rows (run net rows)
@@ -42,15 +42,15 @@ module _ {Name : Type 0} (dec : (x y : Name) → Dec (x ≡ y)) (name : Signal �
     -- and no others are
     pub written-means : (rows outs : List (List Bool)) → BlifRuns (written name net) rows outs ↔ (outs ≡ run net rows)
     written-means rows outs =
-        let m = model-run dec (written name net) written-accepts rows in
+        let m = model-run (written name net) written-accepts rows in
         ((λ r. m outs .0 r ∙ sym (m (run net rows) .0 (outputs-are rows))), (λ e. subst (BlifRuns (written name net) rows) (sym e) (outputs-are rows)))
 
     -- so the network read, its gates sorted, gives the outputs of the network written
-    pub same-outputs : (new : Net) → sorted (builtOf dec (written name net)) ≡ some new → SameOutputs new net
+    pub same-outputs : (new : Net) → sorted (builtOf (written name net)) ≡ some new → SameOutputs new net
     same-outputs new e =
-        let k : Preserved (builtOf dec (written name net)) new = sorted-keeps (builtOf dec (written name net)) new (accepted-valid dec (written name net) written-accepts) e in
+        let k : Preserved (builtOf (written name net)) new = sorted-keeps (builtOf (written name net)) new (accepted-valid (written name net) written-accepts) e in
         record {
           inputs = k .inputs ∙ length-map (range 0 (net .inputs)) (λ (i : ℕ). name (plain (Input i))) ∙ length-range 0 (net .inputs);
-          outputs = k .outputs ∙ length-map (map name (net .outputs)) (lookup dec (written name net)) ∙ length-map (net .outputs) name;
-          runs = λ rows. sym (sorted-means dec (written name net) written-accepts new e rows (run net rows) .0 (outputs-are rows));
+          outputs = k .outputs ∙ length-map (map name (net .outputs)) (lookup (written name net)) ∙ length-map (net .outputs) name;
+          runs = λ rows. sym (sorted-means (written name net) written-accepts new e rows (run net rows) .0 (outputs-are rows));
         }

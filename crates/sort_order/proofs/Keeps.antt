@@ -1,7 +1,7 @@
 -- What the sort keeps, and that every gate input of a combinational gate gets a lower number. Assumes nothing.
 use mathlib.Core.Path.{_≡_, refl, sym, ap, _∙_, subst}
 use mathlib.Core.List.{List, [], _∷_, map, List·Memᴰ, Memᴰ·of-map}
-use mathlib.Core.Option.{Option, some}
+use mathlib.Core.Option.{Option, some, Option·getD}
 use mathlib.Core.Logic.{⊎-elim}
 use Prim.Native.Nat.{ℕ, suc, _≤_, _<_}
 use native.Mathlib.Omega.{arith}
@@ -15,7 +15,7 @@ use Rattle.gates.specs.Gate.{Form, Buf, Gate, Comb, Dff, pins}
 use Rattle.gates.specs.Forms.{canHave, formed}
 use Rattle.network.specs.Net.{Net, GateIs, Valid, Formed}
 use Rattle.network.specs.Record.{pinCells}
-use Rattle.network.specs.Renumber.{remapGate, orZero, placeOf, gateOr, permuted}
+use Rattle.network.specs.Renumber.{remapGate, placeOf, gateOr, permuted}
 use Rattle.network.proofs.PinCells.{pins-next}
 use Rattle.network.proofs.Renumbering.{renumbered-valid, pins-remap, node-from, comb-from}
 use Rattle.sort_order.specs.Order.{uses, useCount, sortOrder}
@@ -27,7 +27,7 @@ use Rattle.sort_order.proofs.Sorting.{point-nums, graph-valid, order-ha
 -- ---- the new number is the place in the order
 
 pub new-place : (v : ℕ) (l : List ℕ) → 0 < occ v l → placeOf l v ≡ place v l
-new-place v l p = ap orZero (find-place v l p)
+new-place v l p = ap (λ (r : Option ℕ). Option·getD r 0) (find-place v l p)
 
 -- ---- counting pins
 
