@@ -119,23 +119,13 @@ fn print_head(answer: TripAnswer, room: usize) -> Used {
     }
 }
 
-// An answer; all cells and bytes that are not in use, and all working cells, must be zero.
-fn print_answer(
-    answer: TripAnswer,
-    text: &[u8],
-    gates: &[u32],
-    pins: &[u32],
-    outputs: &[u32],
-    work_gates: &[u32],
-    work_pins: &[u32],
-) {
+// An answer; all cells and bytes that are not in use must be zero.
+fn print_answer(answer: TripAnswer, text: &[u8], gates: &[u32], pins: &[u32], outputs: &[u32]) {
     let used = print_head(answer, text.len());
     expect_zero_bytes(text, used.bytes);
     expect_zero(gates, used.gates);
     expect_zero(pins, used.pins);
     expect_zero(outputs, used.outputs);
-    expect_zero(work_gates, 0);
-    expect_zero(work_pins, 0);
 }
 
 // The first n digits of a line.
@@ -156,42 +146,23 @@ fn print_clock(settled: bool, line: &[u8], n: usize) {
 
 // ---- a trip
 
-// The next row: a clock of the network lent and one of the network read back, which is sorted, so that its second sweep changes nothing.
-fn run_row(
+// A clock of at most so many sweeps, whether its bits settled and its outputs.
+fn run_clock(
     counts: Counts,
+    most: usize,
     gates: &[u32],
     pins: &[u32],
     outputs: &[u32],
+    row: &[bool],
     held: &mut [bool],
-    back: Counts,
-    new_gates: &[u32],
-    new_pins: &[u32],
-    new_outputs: &[u32],
-    new_held: &mut [bool],
 ) {
-    let mut row = [false; 256];
     let mut line = [0u8; 256];
-    let mut new_line = [0u8; 256];
-    read_row(&mut row);
-    let most = counts.gates % WORD + 2;
-    let settled = clock(counts, most, gates, pins, outputs, &row, held, &mut line);
+    let settled = clock(counts, most, gates, pins, outputs, row, held, &mut line);
     print_clock(settled, &line, counts.outputs);
-    io::write_all(1, b" ");
-    let back_settled = clock(
-        back,
-        2,
-        new_gates,
-        new_pins,
-        new_outputs,
-        &row,
-        new_held,
-        &mut new_line,
-    );
-    print_clock(back_settled, &new_line, back.outputs);
-    io::write_all(1, b"\n");
 }
 
-// The next rows, from zero.
+// The next rows, from zero: for each a clock of the network lent and one of the network read back, which is sorted, so that its second
+// sweep changes nothing.
 fn run_rows(
     counts: Counts,
     gates: &[u32],
@@ -204,61 +175,28 @@ fn run_rows(
 ) {
     let mut held = [false; 1024];
     let mut new_held = [false; 1024];
+    let most = counts.gates % WORD + 2;
     let rows = read_word();
     for _ in 0..rows {
-        run_row(
-            counts,
-            gates,
-            pins,
-            outputs,
-            &mut held,
+        let mut row = [false; 256];
+        read_row(&mut row);
+        run_clock(counts, most, gates, pins, outputs, &row, &mut held);
+        io::write_all(1, b" ");
+        run_clock(
             back,
+            2,
             new_gates,
             new_pins,
             new_outputs,
+            &row,
             &mut new_held,
         );
+        io::write_all(1, b"\n");
     }
 }
 
-// Prints a trip's answer, and where the network is read back what both do with the next rows.
-fn answer_trip(
-    counts: Counts,
-    gates: &[u32],
-    pins: &[u32],
-    outputs: &[u32],
-    answer: TripAnswer,
-    text: &[u8],
-    new_gates: &[u32],
-    new_pins: &[u32],
-    new_outputs: &[u32],
-    work_gates: &[u32],
-    work_pins: &[u32],
-) {
-    print_answer(
-        answer,
-        text,
-        new_gates,
-        new_pins,
-        new_outputs,
-        work_gates,
-        work_pins,
-    );
-    if let TripAnswer::ReadBack(_, back) = answer {
-        run_rows(
-            counts,
-            gates,
-            pins,
-            outputs,
-            back,
-            new_gates,
-            new_pins,
-            new_outputs,
-        );
-    }
-}
-
-// Writes the network and reads it back; prints the answer, and where it is read back the outputs for the next rows.
+// Writes the network and reads it back; prints the answer, and where it is read back the outputs for the next rows. All working cells
+// must be zero then.
 fn trip(counts: Counts, gates: &[u32], pins: &[u32], outputs: &[u32], text: &mut [u8]) {
     let mut new_gates = [ONES; 3072];
     let mut new_pins = [ONES; 16384];
@@ -277,19 +215,21 @@ fn trip(counts: Counts, gates: &[u32], pins: &[u32], outputs: &[u32], text: &mut
         &mut work_gates,
         &mut work_pins,
     );
-    answer_trip(
-        counts,
-        gates,
-        pins,
-        outputs,
-        answer,
-        text,
-        &new_gates,
-        &new_pins,
-        &new_outputs,
-        &work_gates,
-        &work_pins,
-    );
+    print_answer(answer, text, &new_gates, &new_pins, &new_outputs);
+    expect_zero(&work_gates, 0);
+    expect_zero(&work_pins, 0);
+    if let TripAnswer::ReadBack(_, back) = answer {
+        run_rows(
+            counts,
+            gates,
+            pins,
+            outputs,
+            back,
+            &new_gates,
+            &new_pins,
+            &new_outputs,
+        );
+    }
 }
 
 // Reads the cells of a network and makes the trip.
@@ -347,15 +287,10 @@ fn show_kind(kind: u32) {
         pins: 0,
         outputs: 0,
     };
-    print_answer(
-        TripAnswer::ReadBack(0, counts),
-        &text,
-        &gates,
-        &pins,
-        &outputs,
-        &work_gates,
-        &work_pins,
-    );
+    let answer = TripAnswer::ReadBack(0, counts);
+    print_answer(answer, &text, &gates, &pins, &outputs);
+    expect_zero(&work_gates, 0);
+    expect_zero(&work_pins, 0);
 }
 
 // Every line that tells of something wrong, before the answers, none of which has one.
