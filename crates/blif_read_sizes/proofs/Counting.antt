@@ -14,8 +14,10 @@ use Rattle.blif_text.specs.between.Walk.{stmtsFrom, StmtsAt}
 use Rattle.blif_declarations.specs.between.Declarations.{declAt, NextIs}
 use Rattle.blif_declarations.specs.declared.Declaration.{Declaration}
 use Rattle.blif_declarations.proofs.NextLaws.{decls-end}
-use Rattle.blif_reading.specs.Read.{gateCount, pinCount, overSizes, tooLarge}
-use Rattle.blif_reading.proofs.SizeLimits.{not-over, within-over, sizes-within}
+use Rattle.network.specs.Sizes.{overSizes}
+use Rattle.blif_reading.specs.Read.{gateCount, pinCount, tooLarge}
+use Rattle.network.proofs.SizeLimits.{not-over, within-over}
+use Rattle.blif_reading.proofs.SizeLimits.{sizes-within}
 use Rattle.blif_read_sizes.specs.between.Sizes.{Few, sizes, sizesOf, Added, Totals}
 use Rattle.blif_read_sizes.specs.declared.Sizes.{Sizes}
 use Rattle.blif_read_sizes.proofs.SizeLaws.{counts-of, totals-more, few-of}

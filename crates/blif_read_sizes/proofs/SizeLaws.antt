@@ -22,7 +22,8 @@ use Rattle.blif_declarations.specs.between.Declarations.{declAt, CoverIn, Place
 use Rattle.blif_declarations.specs.declared.Declaration.{Declaration}
 use Rattle.blif_declarations.specs.declared.Declaration.the-variants as next
 use Rattle.blif_declarations.proofs.RowStarts.{names-length}
-use Rattle.blif_reading.specs.Read.{added, gateCount, pinCount, overSizes}
+use Rattle.network.specs.Sizes.{overSizes}
+use Rattle.blif_reading.specs.Read.{added, gateCount, pinCount}
 use Rattle.blif_read_sizes.specs.between.Sizes.{Few, sizes, sizesOf, Added, Totals}
 use Rattle.blif_read_sizes.specs.declared.Sizes.{Sizes}
 

@@ -12,7 +12,8 @@ ghost use Rattle.network.specs.between.Sizes.{WithinSizes};
 ghost use Rattle.blif_text.specs.Decls.{decls};
 ghost use Rattle.blif_text.specs.between.Places.{maxTokens};
 ghost use Rattle.blif_text.specs.between.Walk.{stmtsFrom, StmtsAt};
-ghost use Rattle.blif_reading.specs.Read.{added, overSizes, tooLarge};
+ghost use Rattle.network.specs.Sizes.{overSizes};
+ghost use Rattle.blif_reading.specs.Read.{added, tooLarge};
 ghost use Rattle.blif_read_sizes.specs.between.Sizes.{Few, sizesOf, Added};
 
 // How many inputs, outputs, gates and pins are declared.

@@ -38,7 +38,7 @@ module _ (net new : Net) (valid : Valid net) (e : sorted net ≡ some new) where
       omega (arith, h, k)
 
   -- so none comes back
-  sorted-no-loop : Loop new → ⊥
+  pub sorted-no-loop : Loop new → ⊥
   sorted-no-loop l = let h = path-rises (l .1) in absurd (omega (arith, h))
 
 -- the gates as built have pin counts that their forms can have

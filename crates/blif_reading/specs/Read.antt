@@ -14,7 +14,7 @@ use Rattle.refusals.specs.declared.Checked.{Checked}
 use Rattle.refusals.specs.declared.Checked.the-variants.{Fine, Refused}
 use Rattle.signal.specs.Signal.{Signal}
 use Rattle.network.specs.Net.{Net}
-use Rattle.network.specs.Sizes.{maxInputs, maxOutputs, maxGates, maxPins}
+use Rattle.network.specs.Sizes.{overSizes}
 use Rattle.sort_order.specs.Sorted.{sorted}
 use Rattle.blif_text.specs.Lines.{maxText}
 use Rattle.blif_text.specs.Statements.{parsed, firstBad}
@@ -38,10 +38,6 @@ gateCount (cover ns ls) = 1 + added (length ls)
 unfoldable pub pinCount : Def → ℕ
 pinCount (latch l) = 3
 pinCount (cover ns ls) = (length ls + 1) * (length ns - 1 + 2)
-
--- a size is passed: "256 inputs; 256 outputs; 1,024 gates; 16,384 pins"
-abbrev pub overSizes : ℕ → ℕ → ℕ → ℕ → Bool
-overSizes i o g p = ltb maxInputs i || ltb maxOutputs o || ltb maxGates g || ltb maxPins p
 
 -- "6 when a size is passed"
 unfoldable pub tooLarge : List Decl → Bool

@@ -11,7 +11,8 @@ use Rattle.signal.specs.Signal.{Signal}
 use Rattle.signal.specs.Cell.{sigOf}
 use Rattle.signal.specs.declared.Signal as signal
 use Rattle.gates.specs.Gate.{Form, Comb}
-use Rattle.gates.specs.Forms.{formNumber, binaryForm, ternaryForm, naryForm}
+use Rattle.gates.specs.Forms.{formNumber}
+use Rattle.gates.specs.between.Forms.{binaryForm, ternaryForm, naryForm}
 use Rattle.gates.specs.between.Decode.{runOf, runWithin, gateIn}
 use Rattle.gates.specs.declared.PinRun.{PinRun}
 use Rattle.gates.specs.declared.BinaryType.{BinaryType}

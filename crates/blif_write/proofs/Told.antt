@@ -11,7 +11,8 @@ use borrow.Author.Tests.{lt-ltb, le-ltb, eq-eqb, ne-eqb}
 use Rattle.lists.proofs.Tests.{by-test, and-false}
 use Rattle.signal.specs.Cell.{sigOf}
 use Rattle.gates.specs.Gate.{XorN, XnorN, Buf, Gate, Comb, Dff, pins}
-use Rattle.gates.specs.Forms.{formNumber, flopNumber, formCell, kindOf}
+use Rattle.gates.specs.Forms.{formNumber, flopNumber, formCell}
+use Rattle.gates.specs.between.Forms.{kindOf}
 use Rattle.gates.specs.between.Decode.{kindComb}
 use Rattle.gates.proofs.Forms.{From, comb-number}
 use Rattle.network.specs.Cells.{orBuf}

@@ -14,7 +14,8 @@ use borrow.Author.Tests.{ltb-false}
 use Rattle.lists.specs.Lists.{Bytes, all, range}
 use Rattle.lists.proofs.Tests.{by-order}
 use Rattle.gates.specs.Gate.{odd, XorN, XnorN}
-use Rattle.gates.specs.Forms.{formNumber, binaryForm, ternaryForm, naryForm}
+use Rattle.gates.specs.Forms.{formNumber}
+use Rattle.gates.specs.between.Forms.{binaryForm, ternaryForm, naryForm}
 use Rattle.gates.specs.declared.BinaryType.{BinaryType}
 use Rattle.gates.specs.declared.BinaryType.the-variants as B
 use Rattle.gates.specs.declared.TernaryType.{TernaryType}

@@ -8,7 +8,7 @@ ghost use mathlib.Core.Bool.{true};
 ghost use mathlib.Core.List.{[], _++_};
 ghost use Prim.Native.Nat.{_≤_, _<_};
 ghost use lib.ListN.{length, getD, replicate};
-ghost use Rattle.gates.specs.Forms.{binaryForm, ternaryForm, naryForm};
+ghost use Rattle.gates.specs.between.Forms.{binaryForm, ternaryForm, naryForm};
 ghost use Rattle.blif_writing.specs.WrittenModel.{linesOf, maxExclusive};
 ghost use Rattle.blif_write_names.specs.between.Text.{Wrote, Appended};
 ghost use Rattle.blif_write_cubes.specs.between.Lines.{outputText, maskColumns, cubeOf, sameCube, mintermAt, maskLines, linesText, rowsOf, Narrow};

@@ -14,7 +14,7 @@ use Rattle.signal.specs.Cell.{sigCell, nodeOf, sigOf}
 use Rattle.signal.specs.between.Cell.{gateCell, inputCell}
 use Rattle.signal.proofs.Cells.{signal-again, small-node, gate-cell, input-cell}
 use Rattle.gates.specs.declared.NaryType.{NaryType}
-use Rattle.gates.specs.Forms.{naryForm}
+use Rattle.gates.specs.between.Forms.{naryForm}
 use Rattle.blif_meaning.specs.Model.{Line, LatchDef, Cover, plainLatch}
 use Rattle.blif_writing.specs.Names.{nameBytes}
 use Rattle.blif_writing.specs.WrittenModel.{coverRow, colOf, linesOf, formBlock, isConst, unless, gateName, bare, bufBlock}

@@ -16,7 +16,7 @@ ghost use mathlib.Core.List.{[], _∷_, _++_, map};
 ghost use Prim.Native.Nat.{_<_};
 ghost use lib.ListN.{length};
 ghost use Rattle.signal.specs.Cell.{sigOf};
-ghost use Rattle.gates.specs.Forms.{binaryForm, ternaryForm, naryForm};
+ghost use Rattle.gates.specs.between.Forms.{binaryForm, ternaryForm, naryForm};
 ghost use Rattle.network.specs.Sizes.{maxGates};
 ghost use Rattle.blif_meaning.specs.Model.{plainLatch};
 ghost use Rattle.blif_writing.specs.Names.{nameBytes};

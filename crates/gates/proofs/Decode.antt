@@ -9,14 +9,14 @@ use lib.Dec.{eqb}
 use lib.ListN.{length, getD, take, drop, length-map, List·getD-eq-default}
 use borrow.Author.Tests.{eqb-true, eq-eqb, le-leb}
 use Rattle.lists.proofs.Tests.{by-test}
-use Rattle.gates.proofs.Forms.{binary-count, ternary-count}
+use Rattle.gates.proofs.Forms.{gate-kind, binary-count, ternary-count}
 use Rattle.signal.specs.declared.Signal as code
 use Rattle.signal.specs.Signal.{Signal}
 use Rattle.signal.specs.Cell.{sigOf}
 use Rattle.gates.specs.Gate as data-gate
 use Rattle.gates.specs.Gate.{Comb, Dff, Buf, isComb}
-use Rattle.gates.specs.Forms.{canHave, formCell, binaryForm, ternaryForm, naryForm, kindOf, kindTakes, combFrom, flopFrom, gateOfKind, gateFrom}
-use Rattle.gates.specs.between.Forms.{kindNumber}
+use Rattle.gates.specs.Forms.{canHave, formCell, combFrom, flopFrom, gateFrom}
+use Rattle.gates.specs.between.Forms.{binaryForm, ternaryForm, naryForm, kindOf, kindTakes, gateOfKind, kindNumber}
 use Rattle.gates.specs.between.Decode.{runWithin, gateIn, decodedIn, kindOfGate, kindComb, cellSignal, kindGate, withPins}
 use Rattle.gates.specs.declared.Gate.{Gate}
 use Rattle.gates.specs.declared.Gate.the-variants as G
@@ -98,11 +98,10 @@ module _ (pins : List ℕ) (i : ℕ) (ps : List ℕ) (run : RunAt pins i ps) whe
 
   -- what `with_pins` decodes at a form number is the gate of the number and the pins
   pub decode-is : (n : ℕ) → decodedIn (withPins (kindOf n) i ps) pins ≡ gateFrom n (map sigOf ps)
-  unfolding gateFrom
   decode-is n =
       by-test (kindTakes (kindOf n) (length ps))
-      (λ t. ap (λ (d : Decoded). decodedIn d pins) (sym (with-some (kindOf n) i ps t)) ∙ kind-in (kindOf n) t)
-      (λ t. ap (λ (d : Decoded). decodedIn d pins) (sym (with-none (kindOf n) i ps t)) ∙ none-kind ps (kindOf n) t)
+      (λ t. ap (λ (d : Decoded). decodedIn d pins) (sym (with-some (kindOf n) i ps t)) ∙ kind-in (kindOf n) t ∙ sym (gate-kind n (map sigOf ps)))
+      (λ t. ap (λ (d : Decoded). decodedIn d pins) (sym (with-none (kindOf n) i ps t)) ∙ none-kind ps (kindOf n) t ∙ sym (gate-kind n (map sigOf ps)))
 
 -- ---- the run of a gate that was decoded
 

@@ -2,18 +2,19 @@
 use mathlib.Core.Path.{_≡_, refl, sym, ap, _∙_, subst}
 use mathlib.Core.Bool.{true, false, false≢true}
 use mathlib.Core.List.{List, [], _∷_}
-use mathlib.Core.Option.{some, Option·none-ne-some}
+use mathlib.Core.Option.{Option, none, some, Option·none-ne-some}
 use Prim.Native.Nat.{ℕ, _≤_, _<_}
 use native.Mathlib.Omega.{arith}
 use lib.Dec.{eqb}
-use lib.ListN.{length, List·getD-eq-default}
-use borrow.Author.Tests.{eqb-true}
+use lib.ListN.{length}
+use borrow.Author.Tests.{eqb-true, ne-eqb}
+use Rattle.lists.specs.Lists.{optional}
 use Rattle.lists.proofs.Range.{range-all}
 use Rattle.lists.proofs.Tests.{by-test, by-order}
 use Rattle.signal.specs.Signal.{Signal}
 use Rattle.gates.specs.Gate.{Form, And2, Xor2, And3, Xor3, Maj3, Mux3, AndN, OrN, NandN, NorN, XorN, XnorN, Buf, Gate, Comb, Dff, pins, isComb}
-use Rattle.gates.specs.Forms.{formNumber, formCell, canHave, formed, binaryForm, ternaryForm, naryForm, kinds, kindOf, kindTakes, combFrom, flopFrom, gateOfKind, gateFrom}
-use Rattle.gates.specs.between.Forms.{kindNumber}
+use Rattle.gates.specs.Forms.{formNumber, formCell, flopNumber, formOf, canHave, formed, canTake, combFrom, flopFrom, gateFrom}
+use Rattle.gates.specs.between.Forms.{binaryForm, ternaryForm, naryForm, kindOfForm, kindOf, kindTakes, gateOfKind, kindNumber}
 use Rattle.gates.specs.between.Decode.{kindComb}
 use Rattle.gates.specs.declared.Kind.{Kind}
 use Rattle.gates.specs.declared.Kind.the-variants as K
@@ -32,7 +33,26 @@ number-again n h = eqb-true (kindNumber (kindOf n)) n (range-all (λ k. eqb (kin
 
 -- any other number is unknown
 pub number-unknown : (n : ℕ) → 15 ≤ n → kindOf n ≡ K.Unknown
-number-unknown n h = List·getD-eq-default kinds K.Unknown h
+number-unknown n h =
+    simp (
+      other 1 (omega arith),
+      other 2 (omega arith),
+      other 3 (omega arith),
+      other 4 (omega arith),
+      other 5 (omega arith),
+      other 6 (omega arith),
+      other 7 (omega arith),
+      other 8 (omega arith),
+      other 9 (omega arith),
+      other 10 (omega arith),
+      other 11 (omega arith),
+      other 12 (omega arith),
+      other 13 (omega arith),
+      other 14 (omega arith),
+    )
+  where
+    other : (k : ℕ) → k ≤ 14 → eqb n k ≡ false
+    other k l = ne-eqb n k (λ e. omega (arith, e, l, h))
 
 -- and each kind is that of its number
 pub kind-again : (k : Kind) → kindOf (kindNumber k) ≡ k
@@ -51,6 +71,40 @@ kind-again (K.Nary N.Xnor) = refl
 kind-again K.Buf = refl
 kind-again K.Dff = refl
 kind-again K.Unknown = refl
+
+-- ---- a number's form and its kind say the same
+
+form-kind : (f : Form) → ((ps : List Signal) → combFrom f ps ≡ gateOfKind (kindOfForm f) ps) × ((n : ℕ) → canHave f n ≡ kindTakes (kindOfForm f) n)
+form-kind And2 = ((λ ps. refl), (λ n. refl))
+form-kind Xor2 = ((λ ps. refl), (λ n. refl))
+form-kind And3 = ((λ ps. refl), (λ n. refl))
+form-kind Xor3 = ((λ ps. refl), (λ n. refl))
+form-kind Maj3 = ((λ ps. refl), (λ n. refl))
+form-kind Mux3 = ((λ ps. refl), (λ n. refl))
+form-kind AndN = ((λ ps. refl), (λ n. refl))
+form-kind OrN = ((λ ps. refl), (λ n. refl))
+form-kind NandN = ((λ ps. refl), (λ n. refl))
+form-kind NorN = ((λ ps. refl), (λ n. refl))
+form-kind XorN = ((λ ps. refl), (λ n. refl))
+form-kind XnorN = ((λ ps. refl), (λ n. refl))
+form-kind Buf = ((λ ps. refl), (λ n. refl))
+
+-- the gate of a number is that of its kind
+pub gate-kind : (n : ℕ) (ps : List Signal) → gateFrom n ps ≡ gateOfKind (kindOf n) ps
+unfolding gateFrom
+gate-kind n ps = by-test (eqb n flopNumber) (λ t. rw t) (λ t. rw t (go (formOf n)))
+  where
+    go : (o : Option Form) → optional (λ f. combFrom f ps) none o ≡ gateOfKind (optional kindOfForm K.Unknown o) ps
+    go none = refl
+    go (some f) = form-kind f .0 ps
+
+-- and so are the pin counts that it can have
+pub take-kind : (n count : ℕ) → canTake n count ≡ kindTakes (kindOf n) count
+take-kind n count = by-test (eqb n flopNumber) (λ t. rw t) (λ t. rw t (go (formOf n)))
+  where
+    go : (o : Option Form) → optional (λ f. canHave f count) false o ≡ kindTakes (optional kindOfForm K.Unknown o) count
+    go none = refl
+    go (some f) = form-kind f .1 count
 
 -- ---- pin counts
 
@@ -144,14 +198,13 @@ kind-from K.Dff ps g e = flop-from ps g e
 kind-from K.Unknown ps g e = absurd (Option·none-ne-some g e)
 
 pub gate-from : (n : ℕ) (ps : List Signal) (g : Gate) → gateFrom n ps ≡ some g → From n ps g
-unfolding gateFrom
 gate-from n ps g e = by-order n 14 small large
   where
     small : n ≤ 14 → From n ps g
-    small h = subst (λ (m : ℕ). From m ps g) (number-again n h) (kind-from (kindOf n) ps g e)
+    small h = subst (λ (m : ℕ). From m ps g) (number-again n h) (kind-from (kindOf n) ps g (sym (gate-kind n ps) ∙ e))
 
     large : 14 < n → From n ps g
-    large h = absurd (Option·none-ne-some g (sym (ap (λ (k : Kind). gateOfKind k ps) (number-unknown n h)) ∙ e))
+    large h = absurd (Option·none-ne-some g (sym (gate-kind n ps ∙ ap (λ (k : Kind). gateOfKind k ps) (number-unknown n h)) ∙ e))
 
 -- a kind and as many pins as it can have give a gate
 comb-made : (f : Form) (ps : List Signal) → canHave f (length ps) ≡ true → (x : Gate) × (combFrom f ps ≡ some x)
@@ -172,12 +225,11 @@ kind-made K.Buf ps h = comb-made Buf ps h
 kind-made K.Dff ps h = flop-made ps (eqb-true (length ps) 3 h)
 kind-made K.Unknown ps h = absurd (false≢true h)
 
-pub gate-made : (n : ℕ) (ps : List Signal) → kindTakes (kindOf n) (length ps) ≡ true → (x : Gate) × (gateFrom n ps ≡ some x)
-unfolding gateFrom
-gate-made n ps h = kind-made (kindOf n) ps h
+pub gate-made : (n : ℕ) (ps : List Signal) → canTake n (length ps) ≡ true → (x : Gate) × (gateFrom n ps ≡ some x)
+gate-made n ps h = let x = kind-made (kindOf n) ps (sym (take-kind n (length ps)) ∙ h) in (x .0, gate-kind n ps ∙ x .1)
 
--- the kind of a gate's number tells the pin counts that its form can have, and whether the gate is combinational
-number-tells : (x : Gate) → (kindTakes (kindOf (formCell x)) (length (pins x)) ≡ formed x) × (kindComb (kindOf (formCell x)) ≡ isComb x)
+-- a gate's number tells the pin counts that its form can have, and its kind whether the gate is combinational
+number-tells : (x : Gate) → (canTake (formCell x) (length (pins x)) ≡ formed x) × (kindComb (kindOf (formCell x)) ≡ isComb x)
 number-tells (Dff s) = (refl, refl)
 number-tells (Comb And2 ps) = (refl, refl)
 number-tells (Comb Xor2 ps) = (refl, refl)
@@ -193,7 +245,7 @@ number-tells (Comb XorN ps) = (refl, refl)
 number-tells (Comb XnorN ps) = (refl, refl)
 number-tells (Comb Buf ps) = (refl, refl)
 
-pub takes-formed : (x : Gate) → kindTakes (kindOf (formCell x)) (length (pins x)) ≡ formed x
+pub takes-formed : (x : Gate) → canTake (formCell x) (length (pins x)) ≡ formed x
 takes-formed x = number-tells x .0
 
 pub comb-number : (x : Gate) → kindComb (kindOf (formCell x)) ≡ isComb x

@@ -5,17 +5,10 @@ use mathlib.Core.List.{List, [], _∷_}
 use mathlib.Core.Option.{Option, none, some}
 use Prim.Native.Nat.{ℕ}
 use lib.Dec.{eqb}
-use lib.ListN.{length, getD}
+use lib.ListN.{length, getElem?}
+use Rattle.lists.specs.Lists.{if_then_else_, filter, optional}
 use Rattle.signal.specs.Signal.{Signal}
 use Rattle.gates.specs.Gate.{Form, And2, Xor2, And3, Xor3, Maj3, Mux3, AndN, OrN, NandN, NorN, XorN, XnorN, Buf, Gate, Comb, Dff}
-use Rattle.gates.specs.declared.Kind.{Kind}
-use Rattle.gates.specs.declared.Kind.the-variants as K
-use Rattle.gates.specs.declared.BinaryType.{BinaryType}
-use Rattle.gates.specs.declared.BinaryType.the-variants as B
-use Rattle.gates.specs.declared.TernaryType.{TernaryType}
-use Rattle.gates.specs.declared.TernaryType.the-variants as T
-use Rattle.gates.specs.declared.NaryType.{NaryType}
-use Rattle.gates.specs.declared.NaryType.the-variants as N
 
 -- the number of a combinational form
 abbrev pub formNumber : Form → ℕ
@@ -63,49 +56,19 @@ abbrev pub formed : Gate → Bool
 formed (Comb f ps) = canHave f (length ps)
 formed (Dff s) = true
 
--- ---- the code's types as forms
+-- ---- from a number
 
--- the form of a Binary type
-abbrev pub binaryForm : BinaryType → Form
-binaryForm B.And = And2
-binaryForm B.Xor = Xor2
+-- the combinational forms
+abbrev pub forms : List Form
+forms = And2 ∷ Xor2 ∷ And3 ∷ Xor3 ∷ Maj3 ∷ Mux3 ∷ AndN ∷ OrN ∷ NandN ∷ NorN ∷ XorN ∷ XnorN ∷ Buf ∷ []
 
--- the form of a Ternary type
-abbrev pub ternaryForm : TernaryType → Form
-ternaryForm T.And = And3
-ternaryForm T.Xor = Xor3
-ternaryForm T.Maj = Maj3
-ternaryForm T.Mux = Mux3
+-- the combinational form that has this number, if one has
+abbrev pub formOf : ℕ → Option Form
+formOf n = getElem? (filter (λ f. eqb n (formNumber f)) forms) 0
 
--- the form of a Nary type
-abbrev pub naryForm : NaryType → Form
-naryForm N.And = AndN
-naryForm N.Or = OrN
-naryForm N.Nand = NandN
-naryForm N.Nor = NorN
-naryForm N.Xor = XorN
-naryForm N.Xnor = XnorN
-
--- the kinds of gates by their numbers, 0 first: "the form numbers 1 to 14, in this order"
-abbrev pub kinds : List Kind
-kinds =
-    K.Unknown ∷ K.Binary B.And ∷ K.Binary B.Xor ∷ K.Ternary T.And ∷ K.Ternary T.Xor ∷ K.Ternary T.Maj ∷ K.Ternary T.Mux ∷ K.Nary N.And
-    ∷ K.Nary N.Or ∷ K.Nary N.Nand ∷ K.Nary N.Nor ∷ K.Nary N.Xor ∷ K.Nary N.Xnor ∷ K.Buf ∷ K.Dff ∷ []
-
--- the kind of a form number; 0 and all above 14 are unknown
-abbrev pub kindOf : ℕ → Kind
-kindOf n = getD kinds n K.Unknown
-
--- whether a kind can have n pins
-abbrev pub kindTakes : Kind → ℕ → Bool
-kindTakes (K.Binary t) n = canHave (binaryForm t) n
-kindTakes (K.Ternary t) n = canHave (ternaryForm t) n
-kindTakes (K.Nary t) n = canHave (naryForm t) n
-kindTakes K.Buf n = canHave Buf n
-kindTakes K.Dff n = eqb n 3
-kindTakes K.Unknown n = false
-
--- ---- from a number and pins to a gate
+-- whether a gate of this form number can have so many pins: "an unknown form" cannot, and Dff has three
+abbrev pub canTake : ℕ → ℕ → Bool
+canTake n count = if eqb n flopNumber then eqb count 3 else optional (λ f. canHave f count) false (formOf n)
 
 -- a combinational gate of these pins, if its form can have so many
 abbrev pub combFrom : Form → List Signal → Option Gate
@@ -119,15 +82,6 @@ flopFrom (d ∷ e ∷ []) = none
 flopFrom (d ∷ e ∷ r ∷ []) = some (Dff (record { dataIn = d; enable = e; reset = r }))
 flopFrom (d ∷ e ∷ r ∷ s ∷ ps) = none
 
--- the gate of a kind and pins
-abbrev pub gateOfKind : Kind → List Signal → Option Gate
-gateOfKind (K.Binary t) ps = combFrom (binaryForm t) ps
-gateOfKind (K.Ternary t) ps = combFrom (ternaryForm t) ps
-gateOfKind (K.Nary t) ps = combFrom (naryForm t) ps
-gateOfKind K.Buf ps = combFrom Buf ps
-gateOfKind K.Dff ps = flopFrom ps
-gateOfKind K.Unknown ps = none
-
 -- the gate of a form number and pins; none for "an unknown form, a pin count its form cannot have"
 unfoldable pub gateFrom : ℕ → List Signal → Option Gate
-gateFrom n ps = gateOfKind (kindOf n) ps
+gateFrom n ps = if eqb n flopNumber then flopFrom ps else optional (λ f. combFrom f ps) none (formOf n)

@@ -1,8 +1,7 @@
 // Gates: their forms, types, form numbers and pin counts (Quaigh's src/network/gates.rs).
 use signal::Signal;
 ghost use mathlib.Core.Path.{_≡_};
-ghost use Rattle.gates.specs.Forms.{kindOf, kindTakes};
-ghost use Rattle.gates.specs.between.Forms.{kindNumber};
+ghost use Rattle.gates.specs.between.Forms.{kindOf, kindTakes, kindNumber};
 ghost use Rattle.gates.specs.between.Decode.{pinCount, kindOfGate, kindComb, cellSignal, kindGate, withPins};
 
 // Form numbers, for those who look at a record's form alone.

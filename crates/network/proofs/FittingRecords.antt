@@ -15,7 +15,7 @@ use Rattle.lists.proofs.Places.{length-run, mem-run}
 use Rattle.signal.specs.Cell.{sigCell, sigOf}
 use Rattle.signal.proofs.Cells.{cells-again}
 use Rattle.gates.specs.Gate.{Gate, pins}
-use Rattle.gates.specs.Forms.{formCell, formed, kindOf, kindTakes}
+use Rattle.gates.specs.Forms.{formCell, formed, canTake}
 use Rattle.gates.proofs.Forms.{From, gate-from, gate-made}
 use Rattle.network.specs.Cells.{startAt, recordFits, orBuf}
 use Rattle.network.specs.Record.{gateWidth, recordOf, formAt, firstAt, countAt, runAt, gateAt, gateCells, pinCells}
@@ -51,11 +51,11 @@ module _ {cells pinsL : List ℕ} {n p : ℕ} (c : Fitting cells pinsL n p) wher
 
   pub read-at : (g : ℕ) → g < n → ReadAt cells pinsL g
   read-at g h =
-      let takes : kindTakes (kindOf (formAt cells g)) (countAt cells g) ≡ true =
-      and-left (kindTakes (kindOf (formAt cells g)) (countAt cells g)) (eqb (firstAt cells g) (startAt cells g)) (c .fit g h) in
+      let takes : canTake (formAt cells g) (countAt cells g) ≡ true =
+      and-left (canTake (formAt cells g) (countAt cells g)) (eqb (firstAt cells g) (startAt cells g)) (c .fit g h) in
       let at : firstAt cells g ≡ startAt cells g =
       eqb-true (firstAt cells g) (startAt cells g)
-      (and-right (kindTakes (kindOf (formAt cells g)) (countAt cells g)) (eqb (firstAt cells g) (startAt cells g)) (c .fit g h)) in
+      (and-right (canTake (formAt cells g) (countAt cells g)) (eqb (firstAt cells g) (startAt cells g)) (c .fit g h)) in
       let end : firstAt cells g + countAt cells g ≤ length pinsL = omega (arith, run-inside g h, c .pinsInside) in
       let size : length (map sigOf (runAt cells pinsL g)) ≡ countAt cells g =
       length-map (runAt cells pinsL g) sigOf ∙ length-run (firstAt cells g) (countAt cells g) pinsL end in

@@ -16,7 +16,7 @@ use Rattle.lists.proofs.Places.{length-run}
 use Rattle.lists.proofs.Range.{length-range, map-range}
 use Rattle.signal.specs.Cell.{sigOf}
 use Rattle.gates.specs.Gate.{Gate, pins}
-use Rattle.gates.specs.Forms.{kindOf}
+use Rattle.gates.specs.between.Forms.{kindOf}
 use Rattle.gates.specs.between.Decode.{runWithin, decodedIn}
 use Rattle.gates.specs.declared.Gate as code
 use Rattle.gates.specs.declared.Decoded.{Decoded}

@@ -16,7 +16,7 @@ use Rattle.signal.specs.Signal.{Signal}
 use Rattle.signal.specs.Cell.{sigCell, sigOf}
 use Rattle.signal.proofs.Cells.{Small, signals-again}
 use Rattle.gates.specs.Gate.{Gate, pins}
-use Rattle.gates.specs.Forms.{formCell, formed, kindOf, kindTakes, gateFrom}
+use Rattle.gates.specs.Forms.{formCell, formed, canTake, gateFrom}
 use Rattle.gates.proofs.Forms.{gate-again, takes-formed}
 use Rattle.network.specs.Cells.{startAt, recordFits, orBuf}
 use Rattle.network.specs.Record.{gateWidth, recordOf, formAt, firstAt, countAt, runAt, gateAt, gateCells, pinCells}
@@ -88,8 +88,8 @@ module _ {cells pinsL : List ℕ} {g : ℕ} {x : Gate} {xs : List Gate} (c : Hol
         size = k;
         gate = gate-there cells pinsL g (record-runs (startAt cells g) x inside (cells-split .0) (omega (arith, c .pinsWithin, pins-next x xs))) ∙ ap₂ gateFrom f run ∙ gate-again x good;
         fits =
-            and-both (kindTakes (kindOf (formAt cells g)) (countAt cells g)) (eqb (firstAt cells g) (startAt cells g))
-            (ap₂ (λ (a b : ℕ). kindTakes (kindOf a) b) f k ∙ takes-formed x ∙ good)
+            and-both (canTake (formAt cells g) (countAt cells g)) (eqb (firstAt cells g) (startAt cells g))
+            (ap₂ canTake f k ∙ takes-formed x ∙ good)
             (eq-eqb (firstAt cells g) (startAt cells g) s);
       }
 

@@ -4,6 +4,7 @@ pub mod OneChoice
 pub mod Steps
 pub mod Renumbering
 pub mod Permuting
+pub mod SizeLimits
 pub mod Records
 pub mod SignalBits
 pub mod Summary

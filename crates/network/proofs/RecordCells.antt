@@ -14,9 +14,9 @@ use Rattle.lists.proofs.OverAt.{length-overwriteAt, run-before, drop-behind, ru
 use Rattle.lists.proofs.Places.{length-run}
 use borrow.Author.Tests.{le-leb}
 use Rattle.signal.specs.Cell.{sigOf}
-use Rattle.gates.specs.Forms.{kindOf, gateFrom}
+use Rattle.gates.specs.Forms.{gateFrom, formNumber, formCell}
+use Rattle.gates.specs.between.Forms.{kindOf, naryForm}
 use Rattle.gates.specs.between.Decode.{withPins}
-use Rattle.gates.specs.Forms.{formNumber, formCell, naryForm}
 use Rattle.gates.specs.Gate.{FlipFlop, Gate, Comb, Dff, Buf, pins}
 use Rattle.gates.specs.declared.NaryType.{NaryType}
 use Rattle.gates.specs.declared.PinRun.{PinRun}

@@ -1,6 +1,6 @@
 -- The tests that refusal 20 asks for, as the code makes them. Assumes nothing.
 use mathlib.Core.Path.{_≡_, refl, sym, ap, ap₂, _∙_}
-use mathlib.Core.Bool.{Bool, true, false, true≢false}
+use mathlib.Core.Bool.{Bool, true, false, true≢false, or-true}
 use mathlib.Core.List.{List}
 use mathlib.Core.Option.{none}
 use Prim.Native.Nat.{ℕ, suc, _+_, _-_, _*_, _/_, _≤_, _<_}
@@ -8,7 +8,7 @@ use native.Mathlib.Omega.{arith}
 use native.Mathlib.Numerals.{add-one}
 use lib.Dec.{eqb, leb, ltb}
 use lib.ListN.{length, take, drop}
-use borrow.Author.Tests.{le-leb, lt-leb, le-ltb, leb-true}
+use borrow.Author.Tests.{le-leb, lt-leb, le-ltb, lt-ltb, leb-true, not-true}
 use Rattle.lists.proofs.Tests.{and-false, and-left, and-right}
 use Rattle.lists.proofs.Places.{part-run}
 use Rattle.lists.proofs.Range.{TestedTo, to-start, to-next, to-fails, to-done}
@@ -17,17 +17,19 @@ use Rattle.signal.specs.between.Signal.{inputNode, gateNode}
 use Rattle.signal.specs.Cell.{nodeOf}
 use Rattle.signal.specs.between.Cell.{inputNumber, gateNumber}
 use Rattle.signal.proofs.Cells.{input-number, gate-number}
-use Rattle.gates.specs.Forms.{kindOf, kindTakes}
+use Rattle.gates.specs.Forms.{canTake}
+use Rattle.gates.specs.between.Forms.{kindOf, kindTakes}
+use Rattle.gates.proofs.Forms.{take-kind}
 use Rattle.gates.specs.between.Decode.{withPins}
 use Rattle.gates.specs.declared.Kind.{Kind}
 use Rattle.gates.specs.declared.Decoded.{Decoded}
 use Rattle.gates.specs.declared.Decoded.the-variants.{Bad}
 use Rattle.network.specs.Cells.{sizesFit, startAt, recordFits, recordsFit, validNode, allValid, lent, isNetwork}
-use Rattle.network.specs.Sizes.{maxInputs, maxOutputs, maxGates, maxPins}
 use Rattle.network.specs.between.Sizes.{WithinSizes}
 use Rattle.network.specs.Record.{gateWidth, formAt, firstAt, countAt, runAt, hasRun, gateAt}
 use Rattle.network.specs.between.Record.{CellIs, decodedAt}
 use Rattle.network.specs.declared.Counts.{Counts}
+use Rattle.network.proofs.SizeLimits.{not-over}
 use Rattle.network.proofs.RecordCells.{record-below, gate-none, decoded-none, decoded-there}
 
 -- ---- valid signals
@@ -52,19 +54,19 @@ module _ (inputs gates c : ℕ) where
 module _ (n : Counts) (gs ps os : ℕ) where
   pub over-inputs : 256 < n .inputs → false ≡ sizesFit n gs ps os
   unfolding sizesFit
-  over-inputs h = sym (simp (lt-leb (n .inputs) 256 h))
+  over-inputs h = sym (simp (lt-ltb 256 (n .inputs) h))
 
   pub over-gates : 1024 < n .gates → false ≡ sizesFit n gs ps os
   unfolding sizesFit
-  over-gates h = sym (simp (lt-leb (n .gates) 1024 h, and-false))
+  over-gates h = sym (simp (lt-ltb 1024 (n .gates) h, or-true))
 
   pub over-pins : 16384 < n .pins → false ≡ sizesFit n gs ps os
   unfolding sizesFit
-  over-pins h = sym (simp (lt-leb (n .pins) 16384 h, and-false))
+  over-pins h = sym (simp (lt-ltb 16384 (n .pins) h, or-true))
 
   pub over-outputs : 256 < n .outputs → false ≡ sizesFit n gs ps os
   unfolding sizesFit
-  over-outputs h = sym (simp (lt-leb (n .outputs) 256 h, and-false))
+  over-outputs h = sym (simp (lt-ltb 256 (n .outputs) h, or-true))
 
   pub over-gate-cells : gs < n .gates * gateWidth → false ≡ sizesFit n gs ps os
   unfolding sizesFit
@@ -78,7 +80,7 @@ module _ (n : Counts) (gs ps os : ℕ) where
       → leb (n .outputs) os ≡ sizesFit n gs ps os
   unfolding sizesFit
   within-sizes a b c d e f =
-      sym (simp (le-leb (n .inputs) 256 a, le-leb (n .gates) 1024 b, le-leb (n .pins) 16384 c, le-leb (n .outputs) 256 d, le-leb (n .gates * gateWidth) gs e, le-leb (n .pins) ps f))
+      sym (simp (le-ltb 256 (n .inputs) a, le-ltb 1024 (n .gates) b, le-ltb 16384 (n .pins) c, le-ltb 256 (n .outputs) d, le-leb (n .gates * gateWidth) gs e, le-leb (n .pins) ps f))
 
 pub ruleset sizes = (over-inputs, over-gates, over-pins, over-outputs, over-gate-cells, over-pin-cells, within-sizes)
 
@@ -87,13 +89,13 @@ pub ruleset sizes = (over-inputs, over-gates, over-pins, over-outputs, over-gate
 module _ (cells : List ℕ) (g : ℕ) where
   -- the kind and the count that the code read
   pub takes-is : {f m : ℕ} {k : Kind} {b : Bool} → f ≡ formAt cells g → k ≡ kindOf f → CellIs (countAt cells g) m → b ≡ kindTakes k m
-      → b ≡ kindTakes (kindOf (formAt cells g)) (countAt cells g)
-  takes-is p q r e = e ∙ ap₂ kindTakes (q ∙ ap kindOf p) (r .cell)
+      → b ≡ canTake (formAt cells g) (countAt cells g)
+  takes-is p q r e = e ∙ ap₂ kindTakes (q ∙ ap kindOf p) (r .cell) ∙ sym (take-kind (formAt cells g) (countAt cells g))
 
-  pub form-refused : kindTakes (kindOf (formAt cells g)) (countAt cells g) ≡ false → false ≡ recordFits cells g
+  pub form-refused : canTake (formAt cells g) (countAt cells g) ≡ false → false ≡ recordFits cells g
   form-refused t = rw t
 
-  pub form-taken : {at first : ℕ} → kindTakes (kindOf (formAt cells g)) (countAt cells g) ≡ true → CellIs (firstAt cells g) first → at ≡ startAt cells g
+  pub form-taken : {at first : ℕ} → canTake (formAt cells g) (countAt cells g) ≡ true → CellIs (firstAt cells g) first → at ≡ startAt cells g
       → eqb first at ≡ recordFits cells g
   form-taken t r e = rw t (ap₂ eqb (r .cell) e)
 
@@ -177,13 +179,7 @@ pub sizes-give : {n : Counts} {gs ps os : ℕ} → sizesFit n gs ps os ≡ true 
 unfolding sizesFit
 sizes-give {n} {gs} {ps} {os} e =
     record {
-      few =
-          record {
-            inputs = leb-true (n .inputs) maxInputs (search (and-left, and-right) depth 8);
-            outputs = leb-true (n .outputs) maxOutputs (search (and-left, and-right) depth 8);
-            gates = leb-true (n .gates) maxGates (search (and-left, and-right) depth 8);
-            pins = leb-true (n .pins) maxPins (search (and-left, and-right) depth 8);
-          };
+      few = not-over (n .inputs) (n .outputs) (n .gates) (n .pins) (not-true _ (search (and-left, and-right) depth 8));
       gates-lent = leb-true (n .gates * gateWidth) gs (search (and-left, and-right) depth 8);
       pins-lent = leb-true (n .pins) ps (search (and-left, and-right) depth 8);
       outs-lent = leb-true (n .outputs) os (search (and-left, and-right) depth 8);

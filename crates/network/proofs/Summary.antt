@@ -1,13 +1,13 @@
 -- The network's theorems, as a reviewer would read them. Assumes nothing.
-use mathlib.Core.Path.{_≡_, refl, sym, subst}
+use mathlib.Core.Path.{_≡_, refl, sym, _∙_, subst}
 use mathlib.Core.Bool.{Bool}
 use mathlib.Core.List.{List}
 use mathlib.Core.Logic.{_↔_}
 use Prim.Native.Nat.{ℕ, _<_}
 use lib.ListN.{length}
 use Rattle.network.specs.Net.{Net, Valid, Loop}
-use Rattle.network.specs.Clock.{Fits, Clock, Runs}
-use Rattle.network.specs.Settle.{settle, runFrom}
+use Rattle.network.specs.Clock.{Fits, Clock, Runs, zeroBits, NetRuns}
+use Rattle.network.specs.Settle.{settle, runFrom, OneRun, SameOutputs}
 use Rattle.network.specs.Renumber.{Renumbered}
 use Rattle.network.proofs.OneChoice.{ranked, settle-fits, fits-unique, run-is, runs-unique}
 use Rattle.network.proofs.Renumbering.{renumbered-same}
@@ -28,6 +28,18 @@ one-run net valid free held rows outs = (
   (λ r. runs-unique net valid (ranked net free) held held rows outs (runFrom net held rows) (λ g u. refl) r (run-is net valid (ranked net free) rows held)),
   (λ e. subst (Runs (Clock net) held rows) (sym e) (run-is net valid (ranked net free) rows held)),
 )
+
+-- the same from zero
+pub one-run-zero : (net : Net) → Valid net → (Loop net → ⊥) → OneRun net
+one-run-zero net valid free = one-run net valid free zeroBits
+
+-- networks with the same outputs have the same runs by the relation
+pub same-runs : {a b : Net} → SameOutputs a b → (rows outs : List (List Bool)) → NetRuns a rows outs ↔ NetRuns b rows outs
+same-runs s rows outs =
+    let x = s .one-left rows outs in
+    let y = s .one-right rows outs in
+    let q = s .runs rows in
+    ((λ r. y .1 (x .0 r ∙ q)), (λ r. x .1 (y .0 r ∙ sym q)))
 
 -- a network whose gates are those of another, renumbered, with some left out or none, gives the same outputs at every clock for every
 -- list of rows, each gate starting at the bit that it held under its old number

@@ -1,6 +1,6 @@
 -- A network in lent cells, and what refusal 20 asks of them (document 01, "Sizes, and the reading and writing operations").
 -- Assumes nothing: these are definitions.
-use mathlib.Core.Bool.{Bool, true, _&&_}
+use mathlib.Core.Bool.{Bool, true, not, _&&_}
 use mathlib.Core.List.{List, [], map}
 use mathlib.Core.Option.{Option, none, some}
 use Prim.Native.Nat.{ℕ, _*_, _^_, _<_}
@@ -10,11 +10,11 @@ use Rattle.lists.specs.Lists.{all, range, sumTo}
 use Rattle.signal.specs.Signal.{Node, Const, Input, Var}
 use Rattle.signal.specs.Cell.{nodeOf, sigOf}
 use Rattle.gates.specs.Gate.{Buf, Gate, Comb, pins}
-use Rattle.gates.specs.Forms.{kindOf, kindTakes}
+use Rattle.gates.specs.Forms.{canTake}
 use Rattle.network.specs.Net.{Net, netFrom}
 use Rattle.network.specs.declared.Counts.{Counts}
 use Rattle.network.specs.Record.{gateWidth, formAt, firstAt, countAt, gateAt, pinCells}
-use Rattle.network.specs.Sizes.{maxInputs, maxOutputs, maxGates, maxPins}
+use Rattle.network.specs.Sizes.{overSizes}
 
 -- ---- a lent network
 
@@ -36,8 +36,7 @@ lent n gs ps os = record { counts = n; cells = gs; pinsLent = ps; outsLent = os 
 -- "a size over the limits or over its slices" is refused
 unfoldable pub sizesFit : Counts → ℕ → ℕ → ℕ → Bool
 sizesFit n gs ps os =
-    leb (n .inputs) maxInputs && leb (n .gates) maxGates && leb (n .pins) maxPins && leb (n .outputs) maxOutputs
-    && leb (n .gates * gateWidth) gs && leb (n .pins) ps && leb (n .outputs) os
+    not (overSizes (n .inputs) (n .outputs) (n .gates) (n .pins)) && leb (n .gates * gateWidth) gs && leb (n .pins) ps && leb (n .outputs) os
 
 -- where gate g's pins start: the pin counts before it, added up
 abbrev pub startAt : List ℕ → ℕ → ℕ
@@ -45,7 +44,7 @@ startAt cells g = sumTo g (countAt cells)
 
 -- "an unknown form, a pin count its form cannot have" is refused, and so is a run that does not start where the one before it ends
 abbrev pub recordFits : List ℕ → ℕ → Bool
-recordFits cells g = kindTakes (kindOf (formAt cells g)) (countAt cells g) && eqb (firstAt cells g) (startAt cells g)
+recordFits cells g = canTake (formAt cells g) (countAt cells g) && eqb (firstAt cells g) (startAt cells g)
 
 -- "runs of pins that do not follow each other in gate order and fill the pins in use" are refused
 unfoldable pub recordsFit : List ℕ → ℕ → ℕ → Bool

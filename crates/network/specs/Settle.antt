@@ -3,13 +3,14 @@
 use mathlib.Core.Path.{_≡_}
 use mathlib.Core.Bool.{Bool, false}
 use mathlib.Core.List.{List, [], _∷_, map}
+use mathlib.Core.Logic.{_↔_}
 use mathlib.Core.Option.{Option, none, some}
 use Prim.Native.Nat.{ℕ, zero, suc}
 use lib.ListN.{length, getElem?}
 use Rattle.signal.specs.Signal.{Signal}
 use Rattle.gates.specs.Gate.{Gate}
 use Rattle.network.specs.Net.{Net}
-use Rattle.network.specs.Clock.{sigBit, gateBit, nextBit, zeroBits}
+use Rattle.network.specs.Clock.{sigBit, gateBit, nextBit, zeroBits, NetRuns}
 
 -- the bit of a gate, or false where there is none
 abbrev pub bitAt : (Signal → Bool) → Bool → Option Gate → Bool
@@ -45,7 +46,11 @@ runFrom net held (row ∷ rows) =
 abbrev pub run : Net → List (List Bool) → List (List Bool)
 run net rows = runFrom net zeroBits rows
 
--- as many inputs and outputs, and for every list of input rows equal outputs at every clock from zero
+-- for every list of rows there is just one list of outputs that the clocks allow from zero: `run`'s
+abbrev pub OneRun : Net → Type 0
+OneRun net = (rows outs : List (List Bool)) → NetRuns net rows outs ↔ (outs ≡ run net rows)
+
+-- as many inputs and outputs, and for every list of input rows, the empty one too, equal outputs at every clock from zero
 pub record SameOutputs (a b : Net) : Type 0 where
   -- as many inputs
   pub inputs : a .inputs ≡ b .inputs
@@ -53,3 +58,7 @@ pub record SameOutputs (a b : Net) : Type 0 where
   pub outputs : length (a .outputs) ≡ length (b .outputs)
   -- for every list of rows the same lists of outputs
   pub runs : (rows : List (List Bool)) → run a rows ≡ run b rows
+  -- which are the only ones of the one network
+  pub one-left : OneRun a
+  -- and of the other
+  pub one-right : OneRun b

@@ -25,17 +25,17 @@ use Rattle.round_trip.proofs.Rendered.{parses}
 use Rattle.round_trip.proofs.NoFault.{no-fault}
 
 pub same-sym : {a b : Net} → SameOutputs a b → SameOutputs b a
-same-sym s = record { inputs = sym (s .inputs); outputs = sym (s .outputs); runs = λ rows. sym (s .runs rows) }
+same-sym s = record { inputs = sym (s .inputs); outputs = sym (s .outputs); runs = λ rows. sym (s .runs rows); one-left = s .one-right; one-right = s .one-left }
 
 pub same-trans : {a b c : Net} → SameOutputs a b → SameOutputs b c → SameOutputs a c
-same-trans s t = record { inputs = s .inputs ∙ t .inputs; outputs = s .outputs ∙ t .outputs; runs = λ rows. s .runs rows ∙ t .runs rows }
+same-trans s t = record { inputs = s .inputs ∙ t .inputs; outputs = s .outputs ∙ t .outputs; runs = λ rows. s .runs rows ∙ t .runs rows; one-left = s .one-left; one-right = t .one-right }
 
 module _ (net : Net) (good : RoundTripNet net) where
   pub round-trip-parses : modelOfText (textOf net) ≡ written nameBytes net
-  round-trip-parses = parses net (good .plain)
+  round-trip-parses = parses net (good .plain .flops)
 
   accepts : Accepts (written nameBytes net)
-  accepts = written-accepts nameBytes unname unname-name net (good .valid) (good .free) (good .formed)
+  accepts = written-accepts nameBytes unname unname-name net (good .valid) (good .plain .free) (good .formed)
 
   -- the gates built for what is written are sorted
   sorts : (new : Net) × (sorted (builtOf (written nameBytes net)) ≡ some new)
@@ -54,7 +54,7 @@ module _ (net : Net) (good : RoundTripNet net) where
       let s = sorts in (
         s .0,
         ap (λ (m : Model Bytes). sorted (builtOf m)) round-trip-parses ∙ s .1,
-        same-outputs nameBytes unname unname-name net (good .valid) (good .free) (good .formed) (s .0) (s .1),
+        same-outputs nameBytes unname unname-name net (good .valid) (good .plain .free) (good .formed) (s .0) (s .1),
       )
 
   -- within our sizes it is read
@@ -63,7 +63,7 @@ module _ (net : Net) (good : RoundTripNet net) where
   unfolding readText answer builtFrom declsOf
   read-back short small =
       let s = text-sorts in
-      (s .0, ap₂ answer (no-fault net (good .plain) accepts short small) (s .1), s .2)
+      (s .0, ap₂ answer (no-fault net (good .plain .flops) accepts short small) (s .1), s .2)
 
 -- two networks that share a text have as many inputs and outputs and equal outputs
 pub never-shared : (a b : Net) → RoundTripNet a → RoundTripNet b → textOf a ≡ textOf b → SameOutputs a b

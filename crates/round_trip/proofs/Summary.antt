@@ -1,5 +1,5 @@
 -- Demands 2 and 3, as a reviewer would read them; the definitions are in specs/Trip.antt. Assumes nothing.
-use mathlib.Core.Path.{_≡_, sym, _∙_}
+use mathlib.Core.Path.{_≡_}
 use mathlib.Core.Bool.{Bool}
 use mathlib.Core.List.{List}
 use mathlib.Core.Logic.{_↔_}
@@ -7,9 +7,7 @@ use Prim.Native.Nat.{ℕ}
 use lib.ListN.{length}
 use Rattle.network.specs.Net.{Net}
 use Rattle.network.specs.Cells.{Lent, netOf, Words}
-use Rattle.network.specs.Clock.{NetRuns, zeroBits}
 use Rattle.network.specs.Settle.{run}
-use Rattle.network.proofs.Summary.{one-run}
 use Rattle.blif_meaning.specs.Model.{BlifRuns}
 use Rattle.blif_writing.specs.Text.{textOf}
 use Rattle.blif_reading.specs.TextModel.{modelOfText}
@@ -39,19 +37,8 @@ pub demand-three : (l : Lent) (n : ℕ) (m : Lengths) → Words l → RoundTripC
 demand-three l n m w c = demand.demand-three w c
 
 -- so two such networks that differ in their numbers of inputs or outputs, or at an output for some list of rows, never share a text
-pub never-shared : (a b : Net) → RoundTripNet a → RoundTripNet b → textOf a ≡ textOf b
-    → (a .inputs ≡ b .inputs) × (length (a .outputs) ≡ length (b .outputs)) × ((rows : List (List Bool)) → run a rows ≡ run b rows)
-    × ((rows outs : List (List Bool)) → NetRuns a rows outs ↔ NetRuns b rows outs)
-never-shared a b goodA goodB e =
-    let s = back.never-shared a b goodA goodB e in (
-      s .inputs,
-      s .outputs,
-      s .runs,
-      λ rows outs.
-          let x = one-run a (goodA .valid) (goodA .free) zeroBits rows outs in
-          let y = one-run b (goodB .valid) (goodB .free) zeroBits rows outs in
-          ((λ r. y .1 (x .0 r ∙ s .runs rows)), (λ r. x .1 (y .0 r ∙ sym (s .runs rows)))),
-    )
+pub never-shared : (a b : Net) → RoundTripNet a → RoundTripNet b → textOf a ≡ textOf b → SameOutputs a b
+never-shared = back.never-shared
 
 -- the model written for a network gives the network's outputs and no others, whatever enables and resets its flip-flops have
 pub written-means : (net : Net) → Valid net → (Loop net → ⊥) → Formed net → (rows outs : List (List Bool))

@@ -5,7 +5,6 @@ use mathlib.Core.List.{List, [], _∷_, flatMap, headD}
 use mathlib.Core.Option.{Option, none, some}
 use Prim.Native.Nat.{ℕ, zero, suc, _^_, _≤_, _<_}
 use native.Mathlib.Omega.{arith}
-use native.Mathlib.Decide.{ℕ-discrete}
 use lib.Dec.{ltb}
 use lib.ListN.{length, getD}
 use borrow.Author.Tests.{ltb-true, leb-true}
@@ -71,7 +70,7 @@ free l =
 
 -- its text is within the sizes
 sized : tooLarge (declsOf (textOf net)) ≡ false
-unfolding ℕ-discrete flatMap headD same consFirst split dropCR lines cut continues before joined isBlank nonEmpty tokens modelStmt latchStmt stmtOf keywordOf parsedLine parsed stmts cubes decls insOf outsOf defsOf ins outs defs spaced line added gateCount pinCount tooLarge declsOf
+unfolding flatMap headD same consFirst split dropCR lines cut continues before joined isBlank nonEmpty tokens modelStmt latchStmt stmtOf keywordOf parsedLine parsed stmts cubes decls insOf outsOf defsOf ins outs defs spaced line added gateCount pinCount tooLarge declsOf
 sized = refl
 
 -- its one flip-flop is plain
@@ -81,17 +80,24 @@ plain-flops (suc zero) s e = absurd (let z : _≡_ {A = ℕ} 0 1 = cc in omega (
 plain-flops (suc (suc zero)) s e = absurd (let z : _≡_ {A = ℕ} 0 1 = cc in omega (arith, z))
 plain-flops (suc (suc (suc g))) s e = absurd (let z : _≡_ {A = ℕ} 0 1 = cc in omega (arith, z))
 
+-- its text is short
+fits : length (textOf (netOf witness)) ≤ 32768
+unfolding spaced line flatMap
+fits = subst (λ (x : Net). length (textOf x) ≤ 32768) (sym holds) (leb-true (length (textOf net)) 32768 refl)
+
 -- the witness meets the conditions
 pub witness-conditions : RoundTripConditions witness 32768 cells
 unfolding enough spaced line flatMap
 witness-conditions =
     record {
-      layout = layout;
-      free = free;
-      narrow = ap (λ (x : Net). any wide (x .gates)) holds;
-      plain = λ g s e. plain-flops g s (subst (λ (x : Net). GateIs x g (Dff s)) holds e);
+      written =
+          record {
+            network = layout;
+            narrow = ap (λ (x : Net). any wide (x .gates)) holds;
+            short = fits;
+            room = fits;
+          };
+      plain = record { free = free; flops = λ g s e. plain-flops g s (subst (λ (x : Net). GateIs x g (Dff s)) holds e) };
       sized = ap (λ (x : Net). tooLarge (declsOf (textOf x))) holds ∙ sized;
-      short = subst (λ (x : Net). length (textOf x) ≤ 32768) (sym holds) (leb-true (length (textOf net)) 32768 refl);
-      room = subst (λ (x : Net). length (textOf x) ≤ 32768) (sym holds) (leb-true (length (textOf net)) 32768 refl);
       cells = refl;
     }

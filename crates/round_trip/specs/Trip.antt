@@ -3,19 +3,15 @@
 -- at every clock from zero ("Demand 3 is one claim over every list of rows, the empty one too, not one for each clock"). Assumes nothing:
 -- these are definitions.
 use mathlib.Core.Path.{_≡_}
-use mathlib.Core.Bool.{Bool, true, false}
+use mathlib.Core.Bool.{true, false}
 use mathlib.Core.List.{List}
-use mathlib.Core.Logic.{_↔_}
-use Prim.Native.Nat.{ℕ, _≤_}
+use Prim.Native.Nat.{ℕ}
 use lib.ListN.{length, take}
-use Rattle.lists.specs.Lists.{Bytes, zeros, any, overwrite}
-use Rattle.network.specs.Net.{Net, Loop}
-use Rattle.network.specs.Cells.{Lent, lent, netOf, isNetwork}
-use Rattle.network.specs.Clock.{NetRuns}
-use Rattle.network.specs.Settle.{run}
+use Rattle.lists.specs.Lists.{Bytes, zeros, overwrite}
+use Rattle.network.specs.Net.{Net}
+use Rattle.network.specs.Cells.{Lent, lent, netOf}
+use Rattle.network.specs.Settle.{SameOutputs}
 use Rattle.network.specs.declared.Counts.{Counts}
-use Rattle.blif_text.specs.Lines.{maxText}
-use Rattle.blif_writing.specs.WrittenModel.{wide}
 use Rattle.blif_writing.specs.Text.{textOf}
 use Rattle.blif_reading.specs.Read.{tooLarge}
 use Rattle.blif_text.specs.Decls.{declsOf}
@@ -25,7 +21,7 @@ use Rattle.blif_read.specs.declared.ReadAnswer.the-variants as read
 use Rattle.blif_write.specs.Into.{writeInto}
 use Rattle.blif_write.specs.declared.WriteAnswer.{WriteAnswer}
 use Rattle.blif_write.specs.declared.WriteAnswer.the-variants as write
-use Rattle.round_trip.specs.Conditions.{PlainFlops}
+use Rattle.round_trip.specs.Conditions.{PlainNet, WrittenFrom}
 use Rattle.round_trip.specs.declared.TripAnswer.{TripAnswer}
 use Rattle.round_trip.specs.declared.TripAnswer.the-variants.{NotWritten, NotRead, ReadBack}
 
@@ -78,20 +74,12 @@ tripInto l n m =
 
 -- the conditions: n is the length of the text's slice, m are the lengths of those to be filled
 pub record RoundTripConditions (l : Lent) (n : ℕ) (m : Lengths) : Type 0 where
-  -- "Its networks have the layout and signals that 20 asks for"
-  pub layout : isNetwork l ≡ true
-  -- no combinational loop
-  pub free : Loop (netOf l) → ⊥
-  -- "its exclusive gates are those of 21"
-  pub narrow : any wide (netOf l .gates) ≡ false
-  -- its flip-flops are plain
-  pub plain : PlainFlops (netOf l)
+  -- it is written
+  pub written : WrittenFrom l n
+  -- it has no loop, and its flip-flops are plain
+  pub plain : PlainNet (netOf l)
   -- the text, counted as a text to be read, is within the sizes
   pub sized : tooLarge (declsOf (textOf (netOf l))) ≡ false
-  -- and within the bytes of a text
-  pub short : length (textOf (netOf l)) ≤ maxText
-  -- and within the slice
-  pub room : length (textOf (netOf l)) ≤ n
   -- "enough cells are those that 1 asks for"
   pub cells : enough m ≡ true
 
@@ -107,12 +95,5 @@ pub record ReadsBack (net : Net) (o : TripOutcome) : Type 0 where
   pub inputs : counts .inputs ≡ net .inputs
   -- as many outputs
   pub outputs : counts .outputs ≡ length (net .outputs)
-  -- for every list of rows, the empty one too, equal outputs at every clock from zero
-  pub runs : (rows : List (List Bool)) → run (netOf (lent counts (o .gates) (o .pins) (o .outputs))) rows ≡ run net rows
-  -- the same by the relation: what the one may answer, the other may
-  pub same : (rows outs : List (List Bool)) → NetRuns (netOf (lent counts (o .gates) (o .pins) (o .outputs))) rows outs ↔ NetRuns net rows outs
-  -- the run of the network written is there, and is the only one
-  pub one : (rows outs : List (List Bool)) → NetRuns net rows outs ↔ (outs ≡ run net rows)
-  -- and so is that of the network read back
-  pub one-back : (rows outs : List (List Bool)) → NetRuns (netOf (lent counts (o .gates) (o .pins) (o .outputs))) rows outs
-      ↔ (outs ≡ run (netOf (lent counts (o .gates) (o .pins) (o .outputs))) rows)
+  -- the network in the cells gives the outputs of the one written, for every list of rows
+  pub same : SameOutputs (netOf (lent counts (o .gates) (o .pins) (o .outputs))) net

@@ -12,7 +12,8 @@ use Rattle.signal.specs.Signal.{Signal}
 use Rattle.signal.specs.Cell.{sigOf}
 use Rattle.gates.specs.Gate.{Form, Buf, Gate, Comb, Dff, mux, formBit}
 use Rattle.gates.specs.between.Gate.{ones}
-use Rattle.gates.specs.Forms.{canHave, binaryForm, ternaryForm, naryForm, kindOf, kindTakes, combFrom, flopFrom, gateOfKind, gateFrom}
+use Rattle.gates.specs.Forms.{canHave, combFrom, flopFrom, gateFrom}
+use Rattle.gates.specs.between.Forms.{binaryForm, ternaryForm, naryForm, kindOf, kindTakes, gateOfKind}
 use Rattle.gates.specs.declared.BinaryType.{BinaryType}
 use Rattle.gates.specs.declared.BinaryType.the-variants as B
 use Rattle.gates.specs.declared.TernaryType.{TernaryType}
@@ -29,7 +30,7 @@ use Rattle.gates.specs.declared.Decoded.{Decoded}
 use Rattle.gates.specs.declared.Decoded.the-variants.{Good, Bad}
 use Rattle.signal.specs.declared.Signal as code
 use Rattle.gates.proofs.Decode.{none-kind}
-use Rattle.gates.proofs.Forms.{binary-count, ternary-count}
+use Rattle.gates.proofs.Forms.{gate-kind, binary-count, ternary-count}
 use Rattle.network.specs.Clock.{gateBit, nextBit}
 use Rattle.network.specs.Cells.{orBuf}
 use Rattle.network.specs.Record.{gateWidth, formAt, firstAt, countAt, gateAt}
@@ -162,9 +163,9 @@ module _ (row bits : List Bool) (cells pins : List ℕ) (g : ℕ) (held : Bool) 
 
     gate-is : {form : ℕ} {k : Kind} → g < length cells / gateWidth → first + count ≤ length pins → form ≡ formAt cells g → k ≡ kindOf form
         → gateOfKind k (map sigOf (take (first + count - first) (drop first pins))) ≡ gateAt cells pins g
-    unfolding gateFrom
     gate-is h l p q =
         ap₂ (λ (x : Kind) (y : List ℕ). gateOfKind x (map sigOf y)) (q ∙ ap kindOf p) (cut-run cells pins g f c)
+        ∙ sym (gate-kind (formAt cells g) _)
         ∙ sym (gate-there cells pins g (record { cells = record-below h; within = omega (arith, end-is cells pins g f c) }))
 
     pub bit-read : {form : ℕ} {k : Kind} {b : Bool} → g < length cells / gateWidth → first + count ≤ length pins → form ≡ formAt cells g → k ≡ kindOf form

@@ -21,7 +21,7 @@ ghost use lib.ListN.{getD, set};
 ghost use Rattle.signal.specs.Cell.{sigOf};
 ghost use Rattle.gates.specs.Gate.{mux};
 ghost use Rattle.gates.specs.between.Gate.{ones};
-ghost use Rattle.gates.specs.Forms.{gateOfKind, binaryForm, ternaryForm, naryForm};
+ghost use Rattle.gates.specs.between.Forms.{gateOfKind, binaryForm, ternaryForm, naryForm};
 ghost use Rattle.network.specs.Clock.{gateBit, nextBit};
 ghost use Rattle.network.specs.Cells.{orBuf};
 ghost use Rattle.network.specs.Record.{gateAt};

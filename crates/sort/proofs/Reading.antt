@@ -11,7 +11,8 @@ use borrow.Author.Tests.{ltb-true, leb-true}
 use Rattle.lists.proofs.Tests.{by-test, and-left, and-right}
 use Rattle.signal.specs.Cell.{sigOf}
 use Rattle.gates.specs.Gate.{Gate, pins, isComb}
-use Rattle.gates.specs.Forms.{formCell, kindOf, gateFrom}
+use Rattle.gates.specs.Forms.{formCell, gateFrom}
+use Rattle.gates.specs.between.Forms.{kindOf}
 use Rattle.gates.specs.between.Decode.{kindComb}
 use Rattle.gates.proofs.Forms.{comb-number}
 use Rattle.network.proofs.GateRead.{has-run, gate-is, cell-gate, cell-count}

@@ -23,7 +23,9 @@ use Rattle.blif_write.specs.declared.WriteAnswer.{WriteAnswer}
 use Rattle.blif_write.specs.declared.WriteAnswer.the-variants as written
 use Rattle.blif_write.proofs.Answers.{in-slice, in-text}
 use Rattle.blif_write.proofs.Summary.{writing-refuses}
-use Rattle.vumneath.specs.Handed.{networkOf, textFor, WrittenFrom}
+use Rattle.round_trip.specs.Conditions.{WrittenFrom}
+use Rattle.round_trip.proofs.Demand.{text-written}
+use Rattle.vumneath.specs.Handed.{networkOf, textFor}
 
 -- ---- reading
 
@@ -80,12 +82,11 @@ write-zero l n e = go (not (isNetwork l)) (any wide (netOf l .gates)) (tooLong (
           narrow = q;
           short = in-text (textOf (netOf l)) n s;
           room = in-slice (textOf (netOf l)) n s;
-          is = rw (p, q, s);
         }
 
 -- and a text that is written is handed over with 0
 pub write-success : (l : Lent) (n : ℕ) → WrittenFrom l n → textFor (writeInto l n .answer) .refused ≡ 0
-write-success l n f = ap (λ (o : WriteOutcome). textFor (o .answer) .refused) (f .is)
+write-success l n f = ap (λ (o : WriteOutcome). textFor (o .answer) .refused) (text-written l n f)
 
 -- any other number is one of writing's
 answer-refused : (a : WriteAnswer) → ((k : Refusal) → a ≡ written.Refused k → InWriting k) → (textFor a .refused ≡ 0 → ⊥)

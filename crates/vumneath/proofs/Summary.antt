@@ -20,12 +20,12 @@ use Rattle.refusals.specs.declared.Refusal.{Refusal}
 use Rattle.network.specs.Net.{Net}
 use Rattle.network.specs.Cells.{Lent, lent, netOf, Words, countsOf}
 use Rattle.network.specs.Clock.{NetRuns}
-use Rattle.network.specs.Settle.{run}
+use Rattle.network.specs.Settle.{run, SameOutputs}
 use Rattle.blif_meaning.specs.Model.{BlifRuns}
 use Rattle.blif_reading.specs.TextModel.{modelOfText}
 use Rattle.blif_writing.specs.Text.{textOf}
 use Rattle.blif_reading.specs.Read.{read, refused, readText}
-use Rattle.round_trip.specs.Conditions.{RoundTripNet}
+use Rattle.round_trip.specs.Conditions.{PlainNet, WrittenFrom}
 use Rattle.blif_read.specs.Into.{Lengths, enough, answered, readInto}
 use Rattle.blif_read.specs.declared.ReadAnswer.the-variants as answer-read
 use Rattle.blif_read.proofs.Summary.{read-counts}
@@ -36,7 +36,7 @@ use Rattle.round_trip.specs.Trip.{RoundTripConditions}
 use Rattle.round_trip.proofs.Demand as demand
 use Rattle.round_trip.proofs.Summary as trip
 use Rattle.blif_reading.proofs.Summary as reading
-use Rattle.vumneath.specs.Handed.{networkOf, textFor, ReadHanded, WriteHanded, countsHanded, netHanded, WrittenFrom, HandedBack, Runnable}
+use Rattle.vumneath.specs.Handed.{networkOf, textFor, ReadHanded, WriteHanded, countsHanded, netHanded, HandedBack}
 use Rattle.vumneath.specs.declared.VumneathNetwork.{VumneathNetwork}
 use Rattle.vumneath.specs.declared.VumneathText.{VumneathText}
 use Rattle.vumneath.proofs.Answered.{read-zero, read-success, read-refused, write-zero, write-success, write-refused}
@@ -99,8 +99,9 @@ module _ (l : Lent) (n : ℕ) {w : VumneathText} {out : Bytes} (h : WriteHanded 
   pub text-written : w .refused ≡ 0 → take (w .length) out ≡ textOf (netOf l)
   text-written z =
       let f = refused-writing .0 .0 z in
-      let k : w .length ≡ length (textOf (netOf l)) = ap (λ (x : VumneathText). x .length) (h .answer ∙ ap (λ (o : WriteOutcome). textFor (o .answer)) (f .is)) in
-      let t : out ≡ overwrite (textOf (netOf l)) (zeros n) = h .bytes ∙ ap (λ (o : WriteOutcome). o .out) (f .is) in
+      let is = demand.text-written l n f in
+      let k : w .length ≡ length (textOf (netOf l)) = ap (λ (x : VumneathText). x .length) (h .answer ∙ ap (λ (o : WriteOutcome). textFor (o .answer)) is) in
+      let t : out ≡ overwrite (textOf (netOf l)) (zeros n) = h .bytes ∙ ap (λ (o : WriteOutcome). o .out) is in
       (λ i. take (k i) (t i)) ∙ take-overwrite (textOf (netOf l)) (zeros n) (omega (arith, f .room, length-replicate {A = ℕ} n 0))
 
 -- ---- demand 3
@@ -125,32 +126,24 @@ handed-back l n m {w} {out} {r} {gs} {ps} {os} {wgs} {wps} words meets write rea
       reads = ap (λ (x : VumneathNetwork). x .refused) counts;
       inputs = ap (λ (x : VumneathNetwork). x .inputs) counts ∙ back .2 .inputs;
       outputs = ap (λ (x : VumneathNetwork). x .outputs) counts ∙ back .2 .outputs;
-      runs = λ rows. ap (λ (x : Net). run x rows) is ∙ back .2 .runs rows;
-      one = demand.one-lent words meets;
-      one-back = λ rows outs. subst (λ (x : Net). NetRuns x rows outs ↔ (outs ≡ run x rows)) (sym is) (demand.one-back words meets rows outs);
+      same = subst (λ (x : Net). SameOutputs x (netOf l)) (sym is) (back .2);
     }
 
 -- ---- two networks
 
--- a lent network that is written is one of demand 3's
-good : (l : Lent) (n : ℕ) → Runnable l → WrittenFrom l n → RoundTripNet (netOf l)
-good l n c f = demand.lent-round-trip l (c .words) (f .network) (c .free) (f .narrow) (c .plain)
-
-module _ (a b : Lent) (m n : ℕ) {v w : VumneathText} {out out′ : Bytes} (ra : Runnable a) (rb : Runnable b)
+module _ (a b : Lent) (m n : ℕ) {v w : VumneathText} {out out′ : Bytes} (words-a : Words a) (words-b : Words b) (pa : PlainNet (netOf a)) (pb : PlainNet (netOf b))
     (wa : WriteHanded (writeInto a m) v out) (wb : WriteHanded (writeInto b n) w out′) (za : v .refused ≡ 0) (zb : w .refused ≡ 0) where
   -- two lent networks whose written bytes are the same have as many inputs and outputs, and for every list of rows equal outputs at every
-  -- clock, by the function and by the relation
-  pub never-shared : take (v .length) out ≡ take (w .length) out′
-      → (netOf a .inputs ≡ netOf b .inputs) × (length (netOf a .outputs) ≡ length (netOf b .outputs)) × ((rows : List (List Bool)) → run (netOf a) rows ≡ run (netOf b) rows)
-      × ((rows outs : List (List Bool)) → NetRuns (netOf a) rows outs ↔ NetRuns (netOf b) rows outs)
+  -- clock
+  pub never-shared : take (v .length) out ≡ take (w .length) out′ → SameOutputs (netOf a) (netOf b)
   never-shared e =
-      trip.never-shared (netOf a) (netOf b) (good a m ra (refused-writing a m wa .0 .0 za)) (good b n rb (refused-writing b n wb .0 .0 zb))
-      (sym (text-written a m wa za) ∙ e ∙ text-written b n wb zb)
+      trip.never-shared (netOf a) (netOf b) (demand.lent-round-trip a m words-a (refused-writing a m wa .0 .0 za) pa)
+      (demand.lent-round-trip b n words-b (refused-writing b n wb .0 .0 zb) pb) (sym (text-written a m wa za) ∙ e ∙ text-written b n wb zb)
 
   -- so two networks that differ never share a text: that differ in those numbers, or at an output for some list of rows
   pub texts-differ : ((netOf a .inputs ≡ netOf b .inputs → ⊥) ⊎ (length (netOf a .outputs) ≡ length (netOf b .outputs) → ⊥)
       ⊎ ((rows : List (List Bool)) × (run (netOf a) rows ≡ run (netOf b) rows → ⊥)))
       → take (v .length) out ≡ take (w .length) out′ → ⊥
-  texts-differ (inl f) e = f (never-shared e .0)
-  texts-differ (inr (inl f)) e = f (never-shared e .1)
-  texts-differ (inr (inr (rows, f))) e = f (never-shared e .2 rows)
+  texts-differ (inl f) e = f (never-shared e .inputs)
+  texts-differ (inr (inl f)) e = f (never-shared e .outputs)
+  texts-differ (inr (inr (rows, f))) e = f (never-shared e .runs rows)

@@ -1,28 +1,22 @@
 -- What the exported functions hand to their callers: the answers of `read_blif` and `write_blif` as structs in C's layout. Assumes
 -- nothing: these are definitions.
 use mathlib.Core.Path.{_≡_}
-use mathlib.Core.Bool.{Bool, true, false}
 use mathlib.Core.List.{List}
-use mathlib.Core.Logic.{_↔_}
-use Prim.Native.Nat.{ℕ, _≤_}
+use Prim.Native.Nat.{ℕ}
 use lib.ListN.{length, take}
-use Rattle.lists.specs.Lists.{Bytes, any}
+use Rattle.lists.specs.Lists.{Bytes}
 use Rattle.refusals.specs.Numbers.{numberOf}
-use Rattle.network.specs.Net.{Net, Loop}
-use Rattle.network.specs.Clock.{NetRuns}
-use Rattle.network.specs.Settle.{run}
-use Rattle.network.specs.Cells.{Lent, lent, netOf, isNetwork, Words}
+use Rattle.network.specs.Net.{Net}
+use Rattle.network.specs.Settle.{SameOutputs}
+use Rattle.network.specs.Cells.{lent, netOf}
 use Rattle.network.specs.declared.Counts.{Counts}
-use Rattle.blif_text.specs.Lines.{maxText}
-use Rattle.blif_writing.specs.WrittenModel.{wide}
 use Rattle.blif_writing.specs.Text.{textOf}
 use Rattle.blif_read.specs.Into.{ReadOutcome}
 use Rattle.blif_read.specs.declared.ReadAnswer.{ReadAnswer}
 use Rattle.blif_read.specs.declared.ReadAnswer.the-variants as read
-use Rattle.blif_write.specs.Into.{WriteOutcome, writtenText, writeInto}
+use Rattle.blif_write.specs.Into.{WriteOutcome}
 use Rattle.blif_write.specs.declared.WriteAnswer.{WriteAnswer}
 use Rattle.blif_write.specs.declared.WriteAnswer.the-variants as write
-use Rattle.round_trip.specs.Conditions.{PlainFlops}
 use Rattle.vumneath.specs.declared.VumneathNetwork.{VumneathNetwork}
 use Rattle.vumneath.specs.declared.VumneathText.{VumneathText}
 
@@ -68,19 +62,6 @@ countsHanded r = record { inputs = r .inputs; gates = r .gates; pins = r .pins; 
 abbrev pub netHanded : VumneathNetwork → List ℕ → List ℕ → List ℕ → Net
 netHanded r gs ps os = netOf (lent (countsHanded r) gs ps os)
 
--- a lent network that is written into n bytes: no refusal of 20 to 22 takes it
-pub record WrittenFrom (l : Lent) (n : ℕ) : Type 0 where
-  -- it has "the layout and signals that 20 asks for"
-  pub network : isNetwork l ≡ true
-  -- "its exclusive gates are those of 21"
-  pub narrow : any wide (netOf l .gates) ≡ false
-  -- its text is not "longer .. than 32,768 bytes"
-  pub short : length (textOf (netOf l)) ≤ maxText
-  -- nor "than the output slice"
-  pub room : length (textOf (netOf l)) ≤ n
-  -- "Success gives the length and zero bytes after it"
-  pub is : writeInto l n ≡ writtenText (textOf (netOf l)) n
-
 -- demand 3 of what two calls handed over, one that wrote the network and one that read exactly the bytes written
 pub record HandedBack (net : Net) (w : VumneathText) (out : Bytes) (r : VumneathNetwork) (gs ps os : List ℕ) : Type 0 where
   -- the network is written
@@ -93,18 +74,5 @@ pub record HandedBack (net : Net) (w : VumneathText) (out : Bytes) (r : Vumneath
   pub inputs : r .inputs ≡ net .inputs
   -- as many outputs
   pub outputs : r .outputs ≡ length (net .outputs)
-  -- for "every list of rows, the empty one too", equal outputs at every clock from zero
-  pub runs : (rows : List (List Bool)) → run (netHanded r gs ps os) rows ≡ run net rows
-  -- the run of the network lent is there, and is the only one
-  pub one : (rows outs : List (List Bool)) → NetRuns net rows outs ↔ (outs ≡ run net rows)
-  -- and so is that of the network read back
-  pub one-back : (rows outs : List (List Bool)) → NetRuns (netHanded r gs ps os) rows outs ↔ (outs ≡ run (netHanded r gs ps os) rows)
-
--- what demand 3 asks of a lent network that is written
-pub record Runnable (l : Lent) : Type 0 where
-  -- the lent cells are 32-bit numbers, as C's are
-  pub words : Words l
-  -- no combinational loop
-  pub free : Loop (netOf l) → ⊥
-  -- its flip-flops are plain
-  pub plain : PlainFlops (netOf l)
+  -- the network in the cells gives the outputs of the one lent, for every list of rows
+  pub same : SameOutputs (netHanded r gs ps os) net

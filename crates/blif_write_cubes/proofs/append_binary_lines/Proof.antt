@@ -1,7 +1,7 @@
 -- `append_binary_lines` writes one row after the other. Assumes nothing.
 use Prim.Native.Nat.{_-_}
 use lib.ListN.{length}
-use Rattle.gates.specs.Forms.{binaryForm}
+use Rattle.gates.specs.between.Forms.{binaryForm}
 use Rattle.blif_writing.specs.WrittenModel.{linesOf}
 use Rattle.blif_write_cubes.proofs.FormLines.{Rows, rows}
 use Rattle.blif_write_cubes.proofs.append_binary_lines.Statement.{statement}

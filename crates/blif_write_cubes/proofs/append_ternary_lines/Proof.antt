@@ -1,7 +1,7 @@
 -- `append_ternary_lines` writes one row after the other. Assumes nothing.
 use Prim.Native.Nat.{_-_}
 use lib.ListN.{length}
-use Rattle.gates.specs.Forms.{ternaryForm}
+use Rattle.gates.specs.between.Forms.{ternaryForm}
 use Rattle.blif_writing.specs.WrittenModel.{linesOf}
 use Rattle.blif_write_cubes.proofs.FormLines.{Rows, rows}
 use Rattle.blif_write_cubes.proofs.append_ternary_lines.Statement.{statement}

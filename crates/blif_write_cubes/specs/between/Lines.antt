@@ -9,7 +9,8 @@ use lib.Count.{ones}
 use Rattle.lists.specs.Lists.{Bytes}
 use Rattle.gates.specs.Gate.{Form}
 use Rattle.gates.specs.declared.NaryType.{NaryType}
-use Rattle.gates.specs.Forms.{formNumber, naryForm}
+use Rattle.gates.specs.Forms.{formNumber}
+use Rattle.gates.specs.between.Forms.{naryForm}
 use Rattle.blif_meaning.specs.Model.{Line}
 use Rattle.blif_writing.specs.WrittenModel.{colOf, linesOf, tooWide}
 use Rattle.blif_writing.specs.Text.{colByte, outByte, cubeLine, line}

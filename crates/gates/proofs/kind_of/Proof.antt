@@ -3,7 +3,7 @@ use native.Mathlib.Omega.{arith}
 use mathlib.Core.Path.{_≡_, sym, ap}
 use Prim.Native.Nat.{_<_}
 use Rattle.lists.proofs.Tests.{by-order}
-use Rattle.gates.specs.Forms.{kindOf}
+use Rattle.gates.specs.between.Forms.{kindOf}
 use Rattle.gates.proofs.Forms.{number-unknown}
 use Rattle.gates.proofs.kind_of.Statement.{statement}
 use Rattle.gates.proofs.kind_of.Tie as tie

@@ -11,7 +11,7 @@ use Rattle.signal.specs.Signal.{Signal}
 use Rattle.signal.specs.Cell.{sigOf}
 use Rattle.gates.specs.Gate as data-gate
 use Rattle.gates.specs.Gate.{Comb, Dff}
-use Rattle.gates.specs.Forms.{binaryForm, ternaryForm, naryForm, kindTakes}
+use Rattle.gates.specs.between.Forms.{binaryForm, ternaryForm, naryForm, kindTakes}
 use Rattle.gates.specs.declared.PinRun.{PinRun}
 use Rattle.gates.specs.declared.Gate.{Gate}
 use Rattle.gates.specs.declared.Gate.the-variants as G

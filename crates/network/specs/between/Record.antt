@@ -7,8 +7,7 @@ use Prim.Native.Nat.{ℕ, suc, _+_, _*_, _^_, _<_, _≤_}
 use lib.ListN.{length, take, drop}
 use Rattle.lists.specs.between.Lists.{overwriteAt}
 use Rattle.gates.specs.Gate.{Gate, pins}
-use Rattle.gates.specs.Forms.{kindOf}
-use Rattle.gates.specs.between.Forms.{kindNumber}
+use Rattle.gates.specs.between.Forms.{kindOf, kindNumber}
 use Rattle.gates.specs.between.Decode.{pinsIn, pinCount, kindOfGate, withPins}
 use Rattle.gates.specs.declared.Gate as code
 use Rattle.gates.specs.declared.Gate.the-variants as G

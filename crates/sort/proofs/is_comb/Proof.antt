@@ -1,7 +1,7 @@
 -- A gate's form number tells its kind. Assumes nothing.
 use mathlib.Core.Path.{ap, _∙_}
 use borrow.Author.Needs.{needs}
-use Rattle.gates.specs.Forms.{kindOf}
+use Rattle.gates.specs.between.Forms.{kindOf}
 use Rattle.gates.specs.between.Decode.{kindComb}
 use Rattle.sort.specs.between.Steps.{formComb}
 use Rattle.sort.proofs.is_comb.Statement.{statement}

@@ -11,7 +11,7 @@ use Rattle.lists.specs.between.Lists.{overwriteAt}
 use Rattle.signal.specs.between.Signal.{gateNode}
 use Rattle.signal.specs.Cell.{nodeOf}
 use Rattle.signal.specs.between.Cell.{gateNumber, gateCell, remapCell}
-use Rattle.gates.specs.Forms.{kindOf}
+use Rattle.gates.specs.between.Forms.{kindOf}
 use Rattle.gates.specs.between.Decode.{kindComb}
 use Rattle.network.specs.Cells.{cellGates}
 use Rattle.network.specs.Sizes.{maxGates, maxPins}
