@@ -95,10 +95,10 @@ some-answer e = ap (answer Fine) e
 
 -- ---- building
 
-module _ {text tokens : List ℕ} {n : ℕ} {blocks : List ℕ} {i g o : ℕ} {gates pinsIn os : List ℕ} {used : ℕ} (c : Placing text tokens n blocks i g o gates pinsIn os used)
+module _ {text tokens blocks : List ℕ} {i g o : ℕ} {gates pinsIn os : List ℕ} {used : ℕ} (c : Placing text tokens blocks i g o gates pinsIn os used)
     (none : readFault text ≡ Fine) where
   -- what building asks
-  pub buildable : WorkRoom gates pinsIn → Buildable (defsAt text tokens n blocks g) gates pinsIn used
+  pub buildable : WorkRoom gates pinsIn → Buildable (defsAt text tokens (length tokens) blocks g) gates pinsIn used
   buildable w =
       let p = passed (declsOf text) (decls-none text none) in
       let s = sizes-within (declsOf text) (p .within) in
@@ -112,7 +112,7 @@ module _ {text tokens : List ℕ} {n : ℕ} {blocks : List ℕ} {i g o : ℕ} {g
         first = (signalOf (declsOf text), c .gates-in);
       })
 
-  module _ {gates′ pinsIn′ : List ℕ} {b : Built} (h : BuiltBy (defsAt text tokens n blocks g) gates pinsIn used gates′ pinsIn′ b)
+  module _ {gates′ pinsIn′ : List ℕ} {b : Built} (h : BuiltBy (defsAt text tokens (length tokens) blocks g) gates pinsIn used gates′ pinsIn′ b)
       (gr : (maxGates * gateWidth) ≤ length gates′) (pr : 16384 ≤ length pinsIn′) (or : 256 ≤ length os) where
     -- the counts with which the sort is called
     abbrev counts : Counts

@@ -18,11 +18,11 @@ use Rattle.blif_text.specs.between.Places.{InText, tokensOf}
 use Rattle.blif_text.specs.between.Walk.{stmtsFrom, Inside}
 use Rattle.blif_text.specs.between.Blocks.{defsAt}
 use Rattle.name_index.specs.between.Search.{Entry, signalIn}
-use Rattle.name_index.specs.between.Index.{entriesOf}
+use Rattle.name_index.specs.between.Index.{namesIn, entriesOf}
 use Rattle.blif_reading.specs.Read.{pinCount, tooLarge, naming, undefined, coverFaults, readFault, refused, signalOf, readText}
 use Rattle.blif_reading.specs.between.Working.{GatesIn, placed, placedCount}
 use Rattle.blif_read_names.specs.between.Entries.{entries}
-use Rattle.blif_read_names.specs.between.Tables.{Tables}
+use Rattle.blif_read_names.specs.between.Tables.{Named, Tables}
 use Rattle.blif_read_names.specs.declared.Declared.{Declared}
 use Rattle.blif_read_signals.specs.between.Resolve.{isFound, allFound, Resolved, PlacedBy, Signals}
 use Rattle.blif_read_signals.specs.declared.Placed.the-variants as answer
@@ -35,32 +35,36 @@ use Rattle.blif_read.proofs.Found.{found-all, found-signals, found-sign
 
 -- ---- names
 
-module _ {text tokens : List ℕ} {n : ℕ} (c : Sized text tokens n) where
+module _ {text tokens : List ℕ} (c : Sized text tokens) where
   -- what naming asks of the sizes
-  pub sized-again : tooLarge (decls (stmtsFrom text tokens n 0)) ≡ false
+  pub sized-again : tooLarge (decls (stmtsFrom text tokens (length tokens) 0)) ≡ false
   sized-again = sym (ap tooLarge (c .declared)) ∙ c .sized
 
   -- the refusals of 7 to 10 are the text's
-  naming-is : naming false [] (decls (stmtsFrom text tokens n 0)) ≡ naming false [] (declsOf text)
+  naming-is : naming false [] (decls (stmtsFrom text tokens (length tokens) 0)) ≡ naming false [] (declsOf text)
   naming-is = sym (ap (naming false []) (c .declared))
 
   -- a refusal of 7 to 10
-  pub name-refused : {r : Refusal} → naming false [] (decls (stmtsFrom text tokens n 0)) ≡ Refused r → readText text ≡ refused r
+  pub name-refused : {r : Refusal} → naming false [] (decls (stmtsFrom text tokens (length tokens) 0)) ≡ Refused r → readText text ≡ refused r
   name-refused h = refuses text _ (c .left) (sym naming-is ∙ h)
 
   module _ {index outNames blocks : List ℕ} where
     -- none
-    pub names-entered : {d : Declared} → naming false [] (decls (stmtsFrom text tokens n 0)) ≡ Fine
-        → Tables (decls (stmtsFrom text tokens n 0)) text tokens n index outNames blocks (d .inputs) (d .gates) (d .outputs)
-        → Defining text tokens n index outNames blocks (d .inputs) (d .gates) (d .outputs)
+    pub names-entered : {d : Declared} → naming false [] (decls (stmtsFrom text tokens (length tokens) 0)) ≡ Fine
+        → Tables (decls (stmtsFrom text tokens (length tokens) 0)) text tokens (length tokens) index outNames blocks (d .inputs) (d .gates) (d .outputs)
+        → Defining text tokens index outNames blocks (d .inputs) (d .gates) (d .outputs)
     names-entered {d} z h =
         let e : naming false [] (declsOf text) ≡ Fine = sym naming-is ∙ z in
         record {
-          tables = subst (λ (ds : List Decl). Tables ds text tokens n index outNames blocks (d .inputs) (d .gates) (d .outputs)) (sym (c .declared)) h;
+          tables = subst (λ (ds : List Decl). Tables ds text tokens (length tokens) index outNames blocks (d .inputs) (d .gates) (d .outputs)) (sym (c .declared)) h;
           sized = c .sized;
           once = e;
           left = goes-on text _ (c .left) e;
         }
+
+-- the index has as many names as are declared
+entries-counted : {ds : List Decl} {text tokens index blocks : List ℕ} {n i g o : ℕ} → Named ds text tokens n index blocks i g o → entriesOf text index (namesIn index) ≡ entries 0 0 ds
+entries-counted {text = text} {index = index} t = ap (entriesOf text index) (t .index-is .counted) ∙ t .entries-are
 
 -- the first places are within the text too
 pub inside-first : {text cells : List ℕ} (o : ℕ) → Inside text cells o → Inside text (take o cells) (length (take o cells))
@@ -72,7 +76,7 @@ inside-first {text} {cells} o h =
           subst (InText text) (sym (getD-take o cells i 0 (omega (arith, e, l)))) (h .inside i (omega (arith, e, l)));
     }
 
-module _ {text tokens : List ℕ} {n : ℕ} {index outNames blocks : List ℕ} {i g o : ℕ} (c : Defining text tokens n index outNames blocks i g o) where
+module _ {text tokens index outNames blocks : List ℕ} {i g o : ℕ} (c : Defining text tokens index outNames blocks i g o) where
   -- "256 outputs"
   pub few-outs : o ≤ 256
   few-outs = omega (arith, c .tables .named .outputs, sizes-within (declsOf text) (c .sized) .outputs)
@@ -81,13 +85,13 @@ module _ {text tokens : List ℕ} {n : ℕ} {index outNames blocks : List ℕ} {
   pub outs-fit : (m : ℕ) → 256 ≤ m → length (take o outNames) ≤ m
   outs-fit m h = omega (arith, length-take-le o outNames (c .tables .outputs-in .room), few-outs)
 
-  module _ {os os′ : List ℕ} {r : Bool} (h : Resolved (map (signalIn (entriesOf text index (i + g))) (tokensOf text (take o outNames))) os os′ r) where
+  module _ {os os′ : List ℕ} {r : Bool} (h : Resolved (map (signalIn (entriesOf text index (namesIn index))) (tokensOf text (take o outNames))) os os′ r) where
     abbrev ds : List Decl
     ds = declsOf text
 
     -- the signals asked for are those of the outputs
-    asked : map (signalIn (entriesOf text index (i + g))) (tokensOf text (take o outNames)) ≡ map (signalIn (entries 0 0 ds)) (outs ds)
-    asked = ap₂ (λ (es : List Entry) (xs : List Bytes). map (signalIn es) xs) (c .tables .named .entries-are) (c .tables .outputs-are)
+    asked : map (signalIn (entriesOf text index (namesIn index))) (tokensOf text (take o outNames)) ≡ map (signalIn (entries 0 0 ds)) (outs ds)
+    asked = ap₂ (λ (es : List Entry) (xs : List Bytes). map (signalIn es) xs) (entries-counted (c .tables .named)) (c .tables .outputs-are)
 
     -- whether all are defined
     all-known : r ≡ all (λ (x : Bytes). known x (ins ds ++ map defines (defs ds))) (outs ds)
@@ -99,7 +103,7 @@ module _ {text tokens : List ℕ} {n : ℕ} {index outNames blocks : List ℕ} {
         refuses-refuseIf text (undefined ds) refusal.Undefined (coverFaults (defs ds)) (c .left) (output-missing ds (c .once) (c .sized) (sym all-known ∙ e))
 
     -- none is
-    pub outputs-found : r ≡ true → 256 ≤ length os → Resolving text tokens n index os′ blocks i g o
+    pub outputs-found : r ≡ true → 256 ≤ length os → Resolving text tokens index os′ blocks i g o
     outputs-found e room =
         let k = sym all-known ∙ e in
         let s = found-signals ds (c .once) (c .sized) (outs ds) k in
@@ -132,26 +136,26 @@ placed-within (cover ns ls ∷ ds) =
     wide zero m = omega arith
     wide (suc k) m = omega (arith, wide k m)
 
-module _ {text tokens : List ℕ} {n : ℕ} {index os blocks : List ℕ} {i g o : ℕ} (c : Resolving text tokens n index os blocks i g o) where
+module _ {text tokens index os blocks : List ℕ} {i g o : ℕ} (c : Resolving text tokens index os blocks i g o) where
   -- "1,024 gates"
   pub few-gates : g ≤ 1024
   few-gates = omega (arith, c .tables .gates, defs-few (defs (declsOf text)), sizes-within (declsOf text) (c .sized) .gates)
 
   -- "16,384 pins"
-  pub few-placed : sumOf placedCount (defsAt text tokens n blocks g) ≤ maxPins
+  pub few-placed : sumOf placedCount (defsAt text tokens (length tokens) blocks g) ≤ maxPins
   few-placed =
       omega (arith, ap (sumOf placedCount) (c .tables .blocks-are), placed-within (defs (declsOf text)), sizes-within (declsOf text) (c .sized) .pins)
 
   -- whether all uses are defined
-  uses-known : allFound (signalIn (entriesOf text index (i + g))) (defsAt text tokens n blocks g)
+  uses-known : allFound (signalIn (entriesOf text index (namesIn index))) (defsAt text tokens (length tokens) blocks g)
       ≡ all (λ (x : Bytes). known x (ins (declsOf text) ++ map defines (defs (declsOf text)))) (flatMap usedNames (defs (declsOf text)))
   uses-known =
-      ap₂ (λ (es : List Entry) (xs : List Def). allFound (signalIn es) xs) (c .tables .entries-are) (c .tables .blocks-are)
+      ap₂ (λ (es : List Entry) (xs : List Def). allFound (signalIn es) xs) (entries-counted (c .tables)) (c .tables .blocks-are)
       ∙ found-all (declsOf text) (c .once) (c .sized) (flatMap usedNames (defs (declsOf text)))
 
   module _ {gates pinsIn : List ℕ} where
     -- one is undefined
-    pub use-refused : {r : Refusal} → PlacedBy (signalIn (entriesOf text index (i + g))) (defsAt text tokens n blocks g) gates pinsIn (answer.Refused r) → readText text ≡ refused r
+    pub use-refused : {r : Refusal} → PlacedBy (signalIn (entriesOf text index (namesIn index))) (defsAt text tokens (length tokens) blocks g) gates pinsIn (answer.Refused r) → readText text ≡ refused r
     use-refused h =
         let f = refused-found _ _ (h .counted) in
         refuses-refuseIf text (undefined (declsOf text)) refusal.Undefined (coverFaults (defs (declsOf text))) (c .left)
@@ -159,8 +163,8 @@ module _ {text tokens : List ℕ} {n : ℕ} {index os blocks : List ℕ} {i g o 
         ∙ ap refused (sym (f .1))
 
     -- none is
-    pub gates-placed : {used : ℕ} → PlacedBy (signalIn (entriesOf text index (i + g))) (defsAt text tokens n blocks g) gates pinsIn (answer.Pins used)
-        → Placing text tokens n blocks i g o gates pinsIn os used
+    pub gates-placed : {used : ℕ} → PlacedBy (signalIn (entriesOf text index (namesIn index))) (defsAt text tokens (length tokens) blocks g) gates pinsIn (answer.Pins used)
+        → Placing text tokens blocks i g o gates pinsIn os used
     gates-placed {used} h =
         let f = pins-found _ _ (h .counted) in
         record {
@@ -174,15 +178,15 @@ module _ {text tokens : List ℕ} {n : ℕ} {index os blocks : List ℕ} {i g o 
           used-is = f .1 ∙ ap (sumOf placedCount) (c .tables .blocks-are);
           gates-in =
               subst (λ (xs : List Def). GatesIn gates pinsIn used (map (placed (signalOf (declsOf text))) xs)) (c .tables .blocks-are)
-              (subst (λ (k : ℕ). GatesIn gates pinsIn k (map (placed (signalOf (declsOf text))) (defsAt text tokens n blocks g))) (sym (f .1))
+              (subst (λ (k : ℕ). GatesIn gates pinsIn k (map (placed (signalOf (declsOf text))) (defsAt text tokens (length tokens) blocks g))) (sym (f .1))
               (h .gates-in (f .0) (signalOf (declsOf text))
-              (subst (λ (es : List Entry). Signals (signalIn es) (signalOf (declsOf text))) (sym (c .tables .entries-are)) (found-signal (declsOf text) (c .once) (c .sized)))));
+              (subst (λ (es : List Entry). Signals (signalIn es) (signalOf (declsOf text))) (sym (entries-counted (c .tables))) (found-signal (declsOf text) (c .once) (c .sized)))));
           outs-are = c .outs-are;
         }
 
 -- ---- covers
 
-module _ {text tokens : List ℕ} {n : ℕ} {blocks : List ℕ} {i g o : ℕ} {gates pinsIn os : List ℕ} {used : ℕ} (c : Placing text tokens n blocks i g o gates pinsIn os used) where
+module _ {text tokens blocks : List ℕ} {i g o : ℕ} {gates pinsIn os : List ℕ} {used : ℕ} (c : Placing text tokens blocks i g o gates pinsIn os used) where
   -- what the covers are refused for, the text is
-  pub covers-left : readFault text ≡ coverFaults (defsAt text tokens n blocks g)
+  pub covers-left : readFault text ≡ coverFaults (defsAt text tokens (length tokens) blocks g)
   covers-left = c .left ∙ sym (ap coverFaults (c .blocks-are))

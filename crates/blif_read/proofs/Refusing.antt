@@ -4,7 +4,7 @@ use mathlib.Core.Bool.{Bool, true, false}
 use mathlib.Core.List.{List, []}
 use Prim.Native.Nat.{ℕ, _≤_}
 use lib.Dec.{ltb, leb}
-use lib.ListN.{length}
+use lib.ListN.{length, take}
 use Rattle.lists.specs.Lists.{Bytes, any}
 use Rattle.refusals.specs.Order.{_orElse_, refuseIf}
 use Rattle.refusals.specs.declared.Refusal.{Refusal}
@@ -16,10 +16,11 @@ use Rattle.refusals.proofs.Order.{orElse-stop, orElse-go, refuseIf-yes, refuseI
 use Rattle.sort_order.specs.Sorted.{sorted}
 use Rattle.blif_text.specs.Statements.{parsed, firstBad}
 use Rattle.blif_text.specs.Decls.{decls, defs, declsOf}
-use Rattle.blif_text.specs.between.Places.{TokensMarked}
+use Rattle.blif_text.specs.between.Places.{maxTokens, TokensMarked}
 use Rattle.blif_text.specs.Lines.{maxText}
-use Rattle.blif_text.specs.between.Walk.{stmtsFrom}
+use Rattle.blif_text.specs.between.Walk.{stmtsFrom, StmtsAt}
 use Rattle.blif_text.proofs.RefusalLaws.{stmts-start, stmts-all}
+use Rattle.blif_declarations.proofs.FrontLaws.{walk-few, walk-decls, walk-front}
 use Rattle.blif_reading.specs.Read.{tooLarge, naming, undefined, coverFaults, declFault, readFault, Result, refused, answer, builtFrom, readText}
 use Rattle.blif_read.specs.between.Stages.{Holds, PlainText, Sized}
 use Rattle.blif_read.specs.declared.ReadAnswer.the-variants.{Refused}
@@ -85,10 +86,22 @@ module _ {text : Bytes} (c : PlainText text) where
   bad-statement e = refuses text _ (c .left) e
 
   module _ {tokens : List ℕ} {n : ℕ} (m : TokensMarked text tokens n) (h : n ≤ length tokens) (z : firstBad (parsed text) ≡ Fine) where
-    -- the tokens declare what the text declares
-    same-decls : decls (stmtsFrom text tokens n 0) ≡ declsOf text
+    -- the tokens that are marked
+    abbrev front : List ℕ
+    front = take n tokens
+
+    -- the statements stand in them
+    pub marked-stand : StmtsAt text front (length front) 0
+    marked-stand = walk-front (stmts-start m h z)
+
+    -- they are no more than a text may have
+    pub marked-few : length front ≤ maxTokens
+    marked-few = walk-few (stmts-start m h z) (m .few)
+
+    -- they declare what the text declares
+    same-decls : decls (stmtsFrom text front (length front) 0) ≡ declsOf text
     unfolding declsOf
-    same-decls = ap decls (stmts-all m)
+    same-decls = walk-decls (stmts-start m h z) ∙ ap decls (stmts-all m)
 
     third-left : readFault text ≡
         (refuseIf (tooLarge (declsOf text)) refusal.SizePassed
@@ -98,15 +111,15 @@ module _ {text : Bytes} (c : PlainText text) where
     unfolding declFault
     third-left = goes-on text _ (c .left) z
 
-    pub passed-size : tooLarge (decls (stmtsFrom text tokens n 0)) ≡ true → readText text ≡ refused refusal.SizePassed
+    pub passed-size : tooLarge (decls (stmtsFrom text front (length front) 0)) ≡ true → readText text ≡ refused refusal.SizePassed
     passed-size e = refuses-refuseIf text (tooLarge (declsOf text)) refusal.SizePassed _ third-left (sym (ap tooLarge same-decls) ∙ e)
 
-    pub sized : tooLarge (decls (stmtsFrom text tokens n 0)) ≡ false → Sized text tokens n
+    pub sized : tooLarge (decls (stmtsFrom text front (length front) 0)) ≡ false → Sized text front
     sized e =
         let s : tooLarge (declsOf text) ≡ false = sym (ap tooLarge same-decls) ∙ e in
         record {
-          stands = stmts-start m h z;
-          few = m .few;
+          stands = marked-stand;
+          few = marked-few;
           declared = sym same-decls;
           sized = s;
           left = passes-refuseIf text (tooLarge (declsOf text)) refusal.SizePassed _ third-left s;

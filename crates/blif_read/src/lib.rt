@@ -1,7 +1,6 @@
 // The BLIF reader (Quaigh's src/io/blif.rs: read_blif).
 use blif_read_covers::check_covers;
 use blif_read_gates::build_covers;
-use blif_read_names::Declared;
 use blif_read_names::Defined;
 use blif_read_names::build_name_to_sig;
 use blif_read_signals::Placed;
@@ -22,6 +21,7 @@ use refusals::Refusal;
 use sort::Sorted;
 use sort::topo_sort;
 ghost use mathlib.Core.Path.{_≡_};
+ghost use Prim.Native.Nat.{_≤_};
 ghost use lib.Dec.{leb};
 ghost use lib.ListN.{length, take};
 ghost use Rattle.lists.specs.Lists.{any, overwrite, zeros};
@@ -74,12 +74,19 @@ fn has_high_byte(text: &[u8]) -> bool
     high
 }
 
+// The tokens marked, and the inputs, gates and outputs that they declare, each counted.
+struct Marked {
+    tokens: usize,
+    inputs: usize,
+    gates: usize,
+    outputs: usize,
+}
+
 // Builds the covers' gates and sorts the network: refusal 14.
 fn read_built(
     text: &[u8],
-    n: usize,
     used: usize,
-    d: Declared,
+    marked: Marked,
     gates: &mut [u32],
     pins: &mut [u32],
     outputs: &mut [u32],
@@ -87,23 +94,26 @@ fn read_built(
     work_pins: &mut [u32],
 ) -> ReadAnswer
     requires { ⌜ Enough (now gates) (now pins) (now outputs) (now «work_gates») (now «work_pins») ⌝ }
-    requires { ⌜ Placing (now text) (now pins) n (now gates) (d .inputs) (d .gates) (d .outputs) (now «work_gates») (now «work_pins») (now outputs) used × (readFault (now text) ≡ Fine) ⌝ }
+    requires { ⌜ marked .tokens ≤ length (now pins) ⌝ }
+    requires { ⌜ Placing (now text) (take (marked .tokens) (now pins)) (now gates) (marked .inputs) (marked .gates) (marked .outputs) (now «work_gates») (now «work_pins») (now outputs) used × (readFault (now text) ≡ Fine) ⌝ }
     ensures { λ r. ⌜ Holds (readText (now (text .entry))) r (now (gates .exit)) (now (pins .exit)) (now (outputs .exit)) ⌝ }
 {
-    let b = build_covers(text, pins, n, gates, d.gates, work_gates, work_pins, used);
+    let n = marked.tokens;
+    let g = marked.gates;
+    let built = build_covers(text, &pins[..n], gates, g, work_gates, work_pins, used);
     let counts = Counts {
-        inputs: d.inputs,
-        gates: b.gates,
-        pins: b.pins,
-        outputs: d.outputs,
+        inputs: marked.inputs,
+        gates: built.gates,
+        pins: built.pins,
+        outputs: marked.outputs,
     };
     match topo_sort(counts, work_gates, work_pins, outputs, gates, pins) {
         Sorted::Loop => ReadAnswer::Refused(Refusal::CombinationalLoop),
         Sorted::Order(used_pins) => ReadAnswer::Read(Counts {
-            inputs: d.inputs,
-            gates: b.gates,
+            inputs: marked.inputs,
+            gates: built.gates,
             pins: used_pins,
-            outputs: d.outputs,
+            outputs: marked.outputs,
         }),
     }
 }
@@ -111,9 +121,8 @@ fn read_built(
 // Checks the covers: refusals 12 and 13.
 fn read_covers(
     text: &[u8],
-    n: usize,
     used: usize,
-    d: Declared,
+    marked: Marked,
     gates: &mut [u32],
     pins: &mut [u32],
     outputs: &mut [u32],
@@ -121,18 +130,19 @@ fn read_covers(
     work_pins: &mut [u32],
 ) -> ReadAnswer
     requires { ⌜ Enough (now gates) (now pins) (now outputs) (now «work_gates») (now «work_pins») ⌝ }
-    requires { ⌜ Placing (now text) (now pins) n (now gates) (d .inputs) (d .gates) (d .outputs) (now «work_gates») (now «work_pins») (now outputs) used ⌝ }
+    requires { ⌜ marked .tokens ≤ length (now pins) ⌝ }
+    requires { ⌜ Placing (now text) (take (marked .tokens) (now pins)) (now gates) (marked .inputs) (marked .gates) (marked .outputs) (now «work_gates») (now «work_pins») (now outputs) used ⌝ }
     ensures { λ r. ⌜ Holds (readText (now (text .entry))) r (now (gates .exit)) (now (pins .exit)) (now (outputs .exit)) ⌝ }
 {
-    let bad = check_covers(text, pins, n, gates, d.gates);
-    if let Checked::Refused(r) = bad {
-        return ReadAnswer::Refused(r);
+    let n = marked.tokens;
+    let bad = check_covers(text, &pins[..n], gates, marked.gates);
+    if let Checked::Refused(refusal) = bad {
+        return ReadAnswer::Refused(refusal);
     }
     read_built(
         text,
-        n,
         used,
-        d,
+        marked,
         gates,
         pins,
         outputs,
@@ -144,9 +154,8 @@ fn read_covers(
 // Places the gates: refusal 11.
 fn read_blocks(
     text: &[u8],
-    n: usize,
     index: &[u32],
-    d: Declared,
+    marked: Marked,
     gates: &mut [u32],
     pins: &mut [u32],
     outputs: &mut [u32],
@@ -154,28 +163,19 @@ fn read_blocks(
     work_pins: &mut [u32],
 ) -> ReadAnswer
     requires { ⌜ Enough (now gates) (now pins) (now outputs) (now «work_gates») (now «work_pins») ⌝ }
-    requires { ⌜ Resolving (now text) (now pins) n (now index) (now outputs) (now gates) (d .inputs) (d .gates) (d .outputs) ⌝ }
+    requires { ⌜ marked .tokens ≤ length (now pins) ⌝ }
+    requires { ⌜ Resolving (now text) (take (marked .tokens) (now pins)) (now index) (now outputs) (now gates) (marked .inputs) (marked .gates) (marked .outputs) ⌝ }
     ensures { λ r. ⌜ Holds (readText (now (text .entry))) r (now (gates .exit)) (now (pins .exit)) (now (outputs .exit)) ⌝ }
 {
-    let g = d.gates;
-    let placed = place_gates(
-        text,
-        pins,
-        n,
-        index,
-        d.inputs + g,
-        gates,
-        g,
-        work_gates,
-        work_pins,
-    );
+    let n = marked.tokens;
+    let g = marked.gates;
+    let placed = place_gates(text, &pins[..n], index, gates, g, work_gates, work_pins);
     match placed {
-        Placed::Refused(r) => ReadAnswer::Refused(r),
+        Placed::Refused(refusal) => ReadAnswer::Refused(refusal),
         Placed::Pins(used) => read_covers(
             text,
-            n,
             used,
-            d,
+            marked,
             gates,
             pins,
             outputs,
@@ -188,9 +188,8 @@ fn read_blocks(
 // Gives each output its signal: refusal 11.
 fn read_outputs(
     text: &[u8],
-    n: usize,
     index: &[u32],
-    d: Declared,
+    marked: Marked,
     gates: &mut [u32],
     pins: &mut [u32],
     outputs: &mut [u32],
@@ -198,18 +197,18 @@ fn read_outputs(
     work_pins: &mut [u32],
 ) -> ReadAnswer
     requires { ⌜ Enough (now gates) (now pins) (now outputs) (now «work_gates») (now «work_pins») ⌝ }
-    requires { ⌜ Defining (now text) (now pins) n (now index) (now «work_pins») (now gates) (d .inputs) (d .gates) (d .outputs) ⌝ }
+    requires { ⌜ marked .tokens ≤ length (now pins) ⌝ }
+    requires { ⌜ Defining (now text) (take (marked .tokens) (now pins)) (now index) (now «work_pins») (now gates) (marked .inputs) (marked .gates) (marked .outputs) ⌝ }
     ensures { λ r. ⌜ Holds (readText (now (text .entry))) r (now (gates .exit)) (now (pins .exit)) (now (outputs .exit)) ⌝ }
 {
-    let o = d.outputs;
-    if !resolve_names(text, index, d.inputs + d.gates, &work_pins[..o], outputs) {
+    let o = marked.outputs;
+    if !resolve_names(text, index, &work_pins[..o], outputs) {
         return ReadAnswer::Refused(Refusal::Undefined);
     }
     read_blocks(
         text,
-        n,
         index,
-        d,
+        marked,
         gates,
         pins,
         outputs,
@@ -229,24 +228,32 @@ fn read_names(
     work_pins: &mut [u32],
 ) -> ReadAnswer
     requires { ⌜ Enough (now gates) (now pins) (now outputs) (now «work_gates») (now «work_pins») ⌝ }
-    requires { ⌜ Sized (now text) (now pins) n ⌝ }
+    requires { ⌜ n ≤ length (now pins) ⌝ }
+    requires { ⌜ Sized (now text) (take n (now pins)) ⌝ }
     ensures { λ r. ⌜ Holds (readText (now (text .entry))) r (now (gates .exit)) (now (pins .exit)) (now (outputs .exit)) ⌝ }
 {
-    let mut index = [0u32; 6144];
+    let mut index = [0u32; 6145];
     let defined = build_name_to_sig(text, &pins[..n], &mut index, work_pins, gates);
     match defined {
-        Defined::Refused(r) => ReadAnswer::Refused(r),
-        Defined::Names(d) => read_outputs(
-            text,
-            n,
-            &index,
-            d,
-            gates,
-            pins,
-            outputs,
-            work_gates,
-            work_pins,
-        ),
+        Defined::Refused(refusal) => ReadAnswer::Refused(refusal),
+        Defined::Names(declared) => {
+            let marked = Marked {
+                tokens: n,
+                inputs: declared.inputs,
+                gates: declared.gates,
+                outputs: declared.outputs,
+            };
+            read_outputs(
+                text,
+                &index,
+                marked,
+                gates,
+                pins,
+                outputs,
+                work_gates,
+                work_pins,
+            )
+        }
     }
 }
 
@@ -265,8 +272,8 @@ fn read_tokens(
 {
     let n = mark_tokens(text, pins);
     let bad = first_bad(text, pins, n);
-    if let Checked::Refused(r) = bad {
-        return ReadAnswer::Refused(r);
+    if let Checked::Refused(refusal) = bad {
+        return ReadAnswer::Refused(refusal);
     }
     if too_large(text, &pins[..n]) {
         return ReadAnswer::Refused(Refusal::SizePassed);

@@ -2,11 +2,10 @@
 use mathlib.Core.Path.{_≡_, refl, sym, ap, ap₂, _∙_}
 use mathlib.Core.Bool.{Bool, true, false, _&&_, _||_, not, true≢false, false≢true, or-true, and-assoc, and-comm}
 use mathlib.Core.List.{List, [], _∷_}
-use Prim.Native.Nat.{ℕ, zero, suc, _-_, _≤_, _<_}
+use Prim.Native.Nat.{ℕ, zero, suc, _<_}
 use native.Mathlib.Omega.{arith}
 use lib.Dec.{eqb, ltb}
-use lib.ListN.{length, getD}
-use lib.Seq.{slice}
+use lib.ListN.{length, length-map}
 use borrow.Author.Tests.{ltb-true, lt-ltb, le-ltb, ne-eqb}
 use Rattle.lists.specs.Lists.{if_then_else_, Bytes, same, all, any, elem, known}
 use Rattle.lists.proofs.Tests.{by-test, by-order, and-left, and-right}
@@ -17,7 +16,7 @@ use Rattle.refusals.specs.declared.Checked.{Checked}
 use Rattle.refusals.specs.declared.Checked.the-variants.{Fine, Refused}
 use Rattle.blif_text.specs.between.Places.{tokenOf, tokensOf}
 use Rattle.blif_text.specs.Decls.{columns, output, isOne}
-use Rattle.blif_text.proofs.ColumnLaws.{row-count, last-output}
+use Rattle.blif_text.proofs.ColumnLaws.{lastCell, last-output}
 use Rattle.blif_reading.specs.Read.{goodLine, isColumn}
 use Rattle.blif_read_covers.specs.between.Pass.{outputOf, withOutput, right, fits}
 use Rattle.blif_read_covers.specs.declared.Output.{Output}
@@ -101,11 +100,9 @@ module _ {ts : List Bytes} {m : ℕ} {out : Bytes} (w : ℕ) (l : LineIn ts m ou
       let h : m < 3 = ltb-true m 3 (and-left a b (and-left (a && b) (right (outputOf out)) f)) in
       ap (λ (t : Bytes). same t (49 ∷ [])) (l .out-is h) ∙ one-is out
 
--- the row from at to end is a line of that many tokens
-pub line-in : (text tokens : List ℕ) (at end : ℕ) → at < end → end ≤ length tokens
-    → LineIn (tokensOf text (slice at end tokens)) (end - at) (tokenOf text (getD tokens (end - 1) 0))
-line-in text tokens at end h k =
-    record { some = omega arith; counted = row-count text tokens at end h k; out-is = last-output text tokens at end h k }
+-- a row of token cells is a line
+pub line-in : (text row : List ℕ) → 0 < length row → LineIn (tokensOf text row) (length row) (tokenOf text (lastCell row))
+line-in text row h = record { some = h; counted = length-map row (tokenOf text); out-is = last-output text row h }
 
 -- ---- refusals in order
 

@@ -7,7 +7,6 @@ use Prim.Native.Nat.{ℕ, suc, _+_, _-_, _≤_, _<_}
 use native.Mathlib.Nat.{sub-zero, sub-eq-zero-of-le}
 use native.Mathlib.Omega.{arith}
 use lib.ListN.{length, getD, take, drop, drop-of-length-le}
-use lib.Seq.{slice}
 use borrow.Author.Tests.{not-true, not-false}
 use borrow.Author.Needs.{needs}
 use Rattle.lists.specs.Lists.{Bytes, all, range}
@@ -24,7 +23,8 @@ use Rattle.blif_text.specs.Decls.{columns}
 use Rattle.blif_text.specs.between.PlacedStatements.{RowTo}
 use Rattle.blif_text.specs.between.Walk.{rowsFrom, Inside, RowsAt}
 use Rattle.blif_text.specs.between.Blocks.{firstName, nameCount, lineCount, defFrom, defAt, defsAt, BlockIn, Blocks}
-use Rattle.blif_text.proofs.RowWalk.{inside-less, rows-end, rows-next, rows-are}
+use Rattle.blif_text.proofs.ColumnLaws.{lastCell}
+use Rattle.blif_text.proofs.RowWalk.{part, part-inside, rows-end, rows-next, part-rows}
 use Rattle.blif_reading.specs.Read.{coverFault, coverFaults, isColumn}
 use Rattle.blif_read_covers.specs.between.Pass.{outputOf, withOutput, differ, fits, linesIn}
 use Rattle.blif_read_covers.specs.declared.Output.{Output}
@@ -145,37 +145,41 @@ module _ {text tokens : List ℕ} {n : ℕ} {blocks : List ℕ} {g : ℕ} where
           }
 
       -- the line's tokens are places within the text
-      pub line-inside : {end : ℕ} → RowTo tokens at n end → Inside text tokens end
-      line-inside w = inside-less (w .high) (v .places .places)
+      pub line-inside : {end : ℕ} → RowTo tokens at n end → Inside text (part at end tokens) (length (part at end tokens))
+      line-inside w = part-inside (v .places .places) w .1
 
       -- its last token is within the text
-      pub last-there : k < lines → {end : ℕ} → RowTo tokens at n end → InText text (getD tokens (end - 1) 0)
-      last-there h {end} w = v .places .places .inside (end - 1) (omega (arith, w .low, w .high))
+      pub last-there : {end : ℕ} → RowTo tokens at n end → InText text (lastCell (part at end tokens))
+      last-there {end} w =
+          let l = part-inside (v .places .places) w in l .1 .inside (length (part at end tokens) - 1) (omega (arith, l .0))
 
       -- the line has a token, and the cover a name
-      pub line-some : k < lines → {end : ℕ} → RowTo tokens at n end → (0 < end - at) × (0 < names)
-      line-some h {end} w = (omega (arith, w .low), v .named h)
+      pub line-some : k < lines → {end : ℕ} → RowTo tokens at n end → (0 < length (part at end tokens)) × (0 < names)
+      line-some h w = (part-inside (v .places .places) w .0, v .named h)
 
       module _ {end : ℕ} {cols t : Bytes} {o : Output} {b : Bool} (h : k < lines) (w : RowTo tokens at n end)
-          (p : cols ≡ columns (tokensOf text (slice at end tokens))) (u : t ≡ tokenOf text (getD tokens (end - 1) 0)) (s : o ≡ outputOf t)
-          (r : b ≡ fits (end - at) (length cols) (names - 1) o) where
+          (p : cols ≡ columns (tokensOf text (part at end tokens))) (u : t ≡ tokenOf text (lastCell (part at end tokens))) (s : o ≡ outputOf t)
+          (r : b ≡ fits (length (part at end tokens)) (length cols) (names - 1) o) where
         -- the row, then the lines behind it
+        abbrev cells : List ℕ
+        cells = part at end tokens
+
         abbrev row : List Bytes
-        row = tokensOf text (slice at end tokens)
+        row = tokensOf text cells
 
         lines-are : take (lines - k) (rowsFrom text tokens n at) ≡ row ∷ take (lines - (k + 1)) (rowsFrom text tokens n end)
         lines-are =
             ap (λ (m : ℕ). take m (rowsFrom text tokens n at)) (let e : lines - k ≡ suc (lines - (k + 1)) = omega arith in e)
-            ∙ ap (take (suc (lines - (k + 1)))) (rows-are (v .rows h) (line-there h) w)
+            ∙ ap (take (suc (lines - (k + 1)))) (part-rows (v .rows h) (line-there h) w)
 
-        line : LineIn row (end - at) (tokenOf text (getD tokens (end - 1) 0))
-        line = line-in text tokens at end (w .low) (omega (arith, w .high, v .places .places .room))
+        line : LineIn row (length cells) (tokenOf text (lastCell cells))
+        line = line-in text cells (line-some h w .0)
 
-        q : o ≡ outputOf (tokenOf text (getD tokens (end - 1) 0))
+        q : o ≡ outputOf (tokenOf text (lastCell cells))
         q = s ∙ ap outputOf u
 
-        fits-is : fits (end - at) (length (columns row)) (names - 1) (outputOf (tokenOf text (getD tokens (end - 1) 0))) ≡ b
-        fits-is = ap₂ (λ (c : Bytes) (x : Output). fits (end - at) (length c) (names - 1) x) (sym p) (sym q) ∙ sym r
+        fits-is : fits (length cells) (length (columns row)) (names - 1) (outputOf (tokenOf text (lastCell cells))) ≡ b
+        fits-is = ap₂ (λ (c : Bytes) (x : Output). fits (length cells) (length c) (names - 1) x) (sym p) (sym q) ∙ sym r
 
         -- the pass answers what the line and those behind it give
         line-left : whole text tokens n blocks g
@@ -200,7 +204,7 @@ module _ {text tokens : List ℕ} {n : ℕ} {blocks : List ℕ} {g : ℕ} where
               line = h;
               named = v .named h;
               rows = rows-next (v .rows h) (line-there h) w;
-              enough = omega (arith, v .enough h, ap length (rows-are (v .rows h) (line-there h) w));
+              enough = omega (arith, v .enough h, ap length (part-rows (v .rows h) (line-there h) w));
               is =
                   line-left
                   ∙ ap (λ (x : Checked). x orElse rest text tokens n blocks g (j + 1))

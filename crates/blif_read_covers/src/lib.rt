@@ -9,6 +9,7 @@ use refusals::Checked;
 use refusals::Refusal;
 ghost use mathlib.Core.Path.{_≡_};
 ghost use Prim.Native.Nat.{_-_, _<_};
+ghost use lib.ListN.{length};
 ghost use Rattle.blif_text.specs.between.Blocks.{defsAt, Blocks};
 ghost use Rattle.blif_reading.specs.Read.{coverFaults, isColumn};
 ghost use Rattle.blif_read_covers.specs.between.Pass.{outputOf, withOutput, differ, fits, linesIn};
@@ -113,9 +114,9 @@ fn line_fits(tokens: usize, columns: usize, names: usize, output: Output) -> boo
 }
 
 // The first refusal among the covers, if there is one: the first wrong column of the first wrong line ends the whole pass.
-pub fn check_covers(text: &[u8], tokens: &[u32], n: usize, blocks: &[u32], g: usize) -> Checked
-    requires { ⌜ Blocks (now text) (now tokens) n (now blocks) g ⌝ }
-    ensures { λ r. ⌜ r ≡ coverFaults (defsAt (now (text .entry)) (now (tokens .entry)) n (now (blocks .entry)) g) ⌝ }
+pub fn check_covers(text: &[u8], tokens: &[u32], blocks: &[u32], g: usize) -> Checked
+    requires { ⌜ Blocks (now text) (now tokens) (length (now tokens)) (now blocks) g ⌝ }
+    ensures { λ r. ⌜ r ≡ coverFaults (defsAt (now (text .entry)) (now (tokens .entry)) (length (now (tokens .entry))) (now (blocks .entry)) g) ⌝ }
 {
     let mut j: usize = 0;
     let fault: Checked = 'pass: loop {
@@ -129,10 +130,11 @@ pub fn check_covers(text: &[u8], tokens: &[u32], n: usize, blocks: &[u32], g: us
         let mut met = NO_OUTPUT;
         let mut k: usize = 0;
         while k < lines {
-            let end = row_end(tokens, at, n);
-            let columns = line_columns(text, tokens, at, end);
-            let output = output_of(token(text, tokens[end - 1]));
-            if !line_fits(end - at, columns.len(), names, output) {
+            let end = row_end(tokens, at, tokens.len());
+            let row = &tokens[at..end];
+            let columns = line_columns(text, row);
+            let output = output_of(token(text, row[row.len() - 1]));
+            if !line_fits(row.len(), columns.len(), names, output) {
                 break 'pass Checked::Refused(Refusal::WrongCubeLine);
             }
             let mut i: usize = 0;

@@ -25,6 +25,10 @@ use Rattle.blif_read_gates.proofs.GateLaws.{kept-none}
 abbrev pub Cells : List ℕ → ℕ → ℕ → ℕ → ℕ → Type 0
 Cells blocks j first names lines = (first ≡ firstName blocks j) × (names ≡ nameCount blocks j) × (lines ≡ lineCount blocks j)
 
+-- the blocks up to block j
+pub blocks-to : {text tokens : List ℕ} {n : ℕ} {blocks : List ℕ} {g j : ℕ} → Blocks text tokens n blocks g → j < g → Blocks text tokens n blocks (j + 1)
+blocks-to b h = record { few = b .few; places = b .places; room = omega (arith, b .room); each = λ i l. b .each i (omega arith) }
+
 -- the definition by these cells
 def-is : (text tokens : List ℕ) (n : ℕ) (blocks : List ℕ) (j first names lines : ℕ) → Cells blocks j first names lines
     → defAt text tokens n blocks j ≡ defFrom text tokens n first names lines
@@ -53,10 +57,10 @@ pub cover-good : (ns : List Bytes) (ls : List (List Bytes)) → coverFault (cove
 unfolding coverFault
 cover-good ns ls e = not-false (all (goodLine (length ns - 1)) ls) (fine-refuseIf (not (all (goodLine (length ns - 1)) ls)) refusal.WrongCubeLine (orElse-left _ _ e))
 
-module _ {text tokens : List ℕ} {n : ℕ} {blocks : List ℕ} {g j first names lines next at : ℕ} {gates pinsIn : List ℕ} (some-names : names ≡ 0 → ⊥) (low : j < g)
-    (bs : Blocks text tokens n blocks g) (e : Cells blocks j first names lines) (room : BlockRoom (defAt text tokens n blocks j) j next at gates pinsIn) where
+module _ {text tokens : List ℕ} {n : ℕ} {blocks : List ℕ} {j first names lines next at : ℕ} {gates pinsIn : List ℕ} (some-names : names ≡ 0 → ⊥)
+    (bs : Blocks text tokens n blocks (j + 1)) (e : Cells blocks j first names lines) (room : BlockRoom (defAt text tokens n blocks j) j next at gates pinsIn) where
   b : BlockIn text tokens n first names lines
-  b = rw (e .0, e .1, e .2) (bs .each j low)
+  b = rw (e .0, e .1, e .2) (bs .each j (omega arith))
 
   -- the names end among the tokens
   pub cover-names : first + names ≤ maxTokens

@@ -27,15 +27,15 @@ use Rattle.blif_reading.proofs.WorkingLaws.{gate-run}
 use Rattle.blif_text.specs.Decls.{columns, isOne}
 use Rattle.blif_text.specs.between.PlacedStatements.{RowTo}
 use Rattle.blif_text.specs.between.Walk.{rowsFrom}
-use Rattle.blif_text.proofs.RowWalk.{inside-less, row-there, rows-are}
+use Rattle.blif_text.proofs.RowWalk.{part, part-inside, row-there, part-rows}
 use Rattle.blif_reading.specs.Build.{lineGate, gateRun, coverGate, lineGates}
 use Rattle.blif_reading.specs.Read.{goodLine, added}
 use Rattle.blif_reading.specs.TextModel.{lineOf}
 use Rattle.blif_reading.specs.between.Working.{GateIn}
-use Rattle.blif_read_gates.specs.between.Steps.{joinInHand, LineRoom, LinePut, rowTokens, GoodRow, GatesKept, GoodRows, LinesRoom, LinesPut, CoverRoom, CoverBuilt}
+use Rattle.blif_read_gates.specs.between.Steps.{joinInHand, LineRoom, LinePut, GoodRow, GatesKept, GoodRows, LinesRoom, LinesPut, CoverRoom, CoverBuilt}
 use Rattle.blif_read_gates.proofs.CellLaws.{run-front}
 use Rattle.blif_read_gates.proofs.JoinLaws.{joinCells, run-long}
-use Rattle.blif_read_gates.proofs.RowLaws.{row-wide}
+use Rattle.blif_read_gates.proofs.RowLaws.{rowTokens, row-wide}
 use Rattle.blif_read_gates.proofs.GateLaws.{gate-put, kept-put, kept-then, kept-some, room-wide, line-kept, line-gate}
 use Rattle.blif_read_gates.proofs.PinLaws.{line-pins, join-pins, many-lines}
 
@@ -53,14 +53,14 @@ module _ {text tokens : List ℕ} {n row count inputs : ℕ} (g : GoodRows text 
     pub first-take : take count (rowsFrom text tokens n row) ≡ rowTokens text tokens row end ∷ take (count - 1) (rowsFrom text tokens n end)
     first-take =
         let s : count ≡ suc (count - 1) = omega arith in
-        ap₂ (λ (k : ℕ) (l : List (List Bytes)). take k l) s (rows-are (g .rows) first-there e)
+        ap₂ (λ (k : ℕ) (l : List (List Bytes)). take k l) s (part-rows (g .rows) first-there e)
 
     -- it is a good line
-    pub first-good : GoodRow text tokens row end inputs
+    pub first-good : GoodRow text (part row end tokens) inputs
     first-good =
         record {
-          low = e .low;
-          places = inside-less (e .high) (g .rows .places);
+          low = part-inside (g .rows .places) e .0;
+          places = part-inside (g .rows .places) e .1;
           good = and-left (goodLine inputs (rowTokens text tokens row end)) _ (sym (ap (all (goodLine inputs)) first-take) ∙ g .good);
         }
 

@@ -19,15 +19,15 @@ use Rattle.gates.specs.Gate.{Gate}
 use Rattle.blif_text.specs.Decls.{columns, isOne}
 use Rattle.blif_text.specs.between.PlacedStatements.{RowTo}
 use Rattle.blif_text.specs.between.Walk.{rowsFrom, RowsAt}
-use Rattle.blif_text.proofs.RowWalk.{inside-less, row-there, rows-next, rows-are}
+use Rattle.blif_text.proofs.RowWalk.{part, part-inside, row-there, rows-next, part-rows}
 use Rattle.blif_reading.specs.Build.{lineGate}
 use Rattle.blif_reading.specs.Read.{goodLine}
 use Rattle.blif_reading.specs.TextModel.{lineOf}
 use Rattle.blif_reading.specs.between.Working.{GateIn}
 use Rattle.blif_read_gates.specs.between.Pins.{linePins}
-use Rattle.blif_read_gates.specs.between.Steps.{LineRoom, LinePut, rowTokens, GoodRow, GoodRows, LinesRoom, LinesPut}
+use Rattle.blif_read_gates.specs.between.Steps.{LineRoom, LinePut, GoodRow, GoodRows, LinesRoom, LinesPut}
 use Rattle.blif_read_gates.proofs.CellLaws.{run-front}
-use Rattle.blif_read_gates.proofs.RowLaws.{row-wide}
+use Rattle.blif_read_gates.proofs.RowLaws.{rowTokens, row-wide}
 use Rattle.blif_read_gates.proofs.GateLaws.{kept-none, kept-then, kept-some, room-wide, line-kept, line-same, line-gate}
 use Rattle.blif_read_gates.proofs.PinLaws.{line-pins, lines-few}
 
@@ -128,17 +128,17 @@ module _ {text tokens : List ℕ} {n first count inputs : ℕ} {gates₀ : List 
 
     module _ {end : ℕ} (e : RowTo tokens row n end) where
       this-row : rowTokens text tokens row end ≡ getD all-rows i []
-      this-row = let p = rows-are (w .rows) putting-there e in cc (next-row, p)
+      this-row = let p = part-rows (w .rows) putting-there e in cc (next-row, p)
 
       rest-rows : rowsFrom text tokens n end ≡ drop (suc i) all-rows
-      rest-rows = let p = rows-are (w .rows) putting-there e in cc (next-row, p)
+      rest-rows = let p = part-rows (w .rows) putting-there e in cc (next-row, p)
 
       -- it is a good line
-      pub putting-row : GoodRow text tokens row end inputs
+      pub putting-row : GoodRow text (part row end tokens) inputs
       putting-row =
           record {
-            low = e .low;
-            places = inside-less (e .high) (w .rows .places);
+            low = part-inside (w .rows .places) e .0;
+            places = part-inside (w .rows .places) e .1;
             good =
                 ap (goodLine inputs) this-row
                 ∙ all-mem (goodLine inputs) (take count all-rows) (g .good) (getD all-rows i [])

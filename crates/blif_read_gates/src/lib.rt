@@ -12,24 +12,23 @@ use network::lay_gate;
 use network::put_record;
 use signal::Signal;
 ghost use mathlib.Core.Path.{_≡_};
-ghost use mathlib.Core.List.{[], _∷_, map};
-ghost use Prim.Native.Nat.{_+_, _*_, _≤_, _<_};
+ghost use mathlib.Core.List.{map};
+ghost use Prim.Native.Nat.{_+_, _≤_, _<_};
 ghost use lib.ListN.{length, getD, take, drop};
-ghost use Rattle.lists.specs.Lists.{same};
 ghost use Rattle.lists.specs.between.Lists.{overwriteAt};
 ghost use Rattle.signal.specs.Cell.{sigCell};
 ghost use Rattle.network.specs.Sizes.{maxGates};
 ghost use Rattle.network.specs.Record.{firstAt, countAt};
 ghost use Rattle.network.specs.between.Record.{RecordIn};
 ghost use Rattle.blif_text.specs.Decls.{columns, isOne};
-ghost use Rattle.blif_text.specs.between.Places.{InText, tokenOf};
-ghost use Rattle.blif_text.specs.between.Walk.{rowsFrom};
+ghost use Rattle.blif_text.specs.between.Places.{tokensOf};
+ghost use Rattle.blif_text.specs.between.Walk.{rowsFrom, Inside};
 ghost use Rattle.blif_text.specs.between.Blocks.{defAt, defsAt, Blocks};
 ghost use Rattle.blif_reading.specs.Build.{gateRun};
 ghost use Rattle.blif_reading.specs.Read.{added};
 ghost use Rattle.blif_read_gates.specs.between.Covers.{Buildable, BuiltBy};
 ghost use Rattle.blif_read_gates.specs.between.Steps.{columnCells, literalsAt, singleCell, lineInHand, joinInHand, LineRoom, LinePut};
-ghost use Rattle.blif_read_gates.specs.between.Steps.{rowTokens, GoodRow, GoodRows, LinesRoom, LinesPut, CoverRoom, CoverBuilt, BlockRoom, BlockBuilt};
+ghost use Rattle.blif_read_gates.specs.between.Steps.{GoodRow, GoodRows, LinesRoom, LinesPut, CoverRoom, CoverBuilt, BlockRoom, BlockBuilt};
 
 // How many gates are built, and how many pins are in use.
 pub struct Built {
@@ -40,6 +39,12 @@ pub struct Built {
 // The sources of a cover: the run of pins that its And has.
 struct Sources {
     first: usize,
+    count: usize,
+}
+
+// The lines of a cover: the first one's first token, and how many there are.
+struct Lines {
+    row: usize,
     count: usize,
 }
 
@@ -145,32 +150,30 @@ fn put_line(
     lay_gate(gates, h, pins, at, gate)
 }
 
-// Whether a token is 1.
-fn is_one(text: &[u8], cell: u32) -> bool
-    requires { ⌜ InText (now text) cell ⌝ }
-    ensures { λ r. ⌜ r ≡ same (tokenOf (now (text .entry)) cell) (49 ∷ []) ⌝ }
+// Whether the output of a line with one or two tokens is 1.
+fn is_one(text: &[u8], row: &[u32]) -> bool
+    requires { ⌜ (0 < length (now row)) × (length (now row) < 3) × Inside (now text) (now row) (length (now row)) ⌝ }
+    ensures { λ r. ⌜ r ≡ isOne (tokensOf (now (text .entry)) (now (row .entry))) ⌝ }
 {
-    equal(blif_text::token(text, cell), b"1")
+    equal(blif_text::token(text, row[row.len() - 1]), b"1")
 }
 
-// Puts the gate of the line from row to end into a record.
+// Puts the gate of the line with these tokens into a record. Answers the pins' end.
 fn put_row(
     text: &[u8],
-    tokens: &[u32],
-    row: usize,
-    end: usize,
+    row: &[u32],
     sources: Sources,
     gates: &mut [u32],
     gate: usize,
     pins: &mut [u32],
     at: usize,
 ) -> usize
-    requires { ⌜ GoodRow (now text) (now tokens) row end (sources .count) ⌝ }
+    requires { ⌜ GoodRow (now text) (now row) (sources .count) ⌝ }
     requires { ⌜ LineRoom (sources .count) (sources .first) at gate (now gates) (now pins) ⌝ }
-    ensures { λ r. ⌜ LinePut (columns (rowTokens (now (text .entry)) (now (tokens .entry)) row end)) (isOne (rowTokens (now (text .entry)) (now (tokens .entry)) row end)) (sources .first) at gate (now (gates .entry)) (now (pins .entry)) (now (gates .exit)) (now (pins .exit)) r ⌝ }
+    ensures { λ r. ⌜ LinePut (columns (tokensOf (now (text .entry)) (now (row .entry)))) (isOne (tokensOf (now (text .entry)) (now (row .entry)))) (sources .first) at gate (now (gates .entry)) (now (pins .entry)) (now (gates .exit)) (now (pins .exit)) r ⌝ }
 {
-    let columns = line_columns(text, tokens, row, end);
-    let one = is_one(text, tokens[end - 1]);
+    let columns = line_columns(text, row);
+    let one = is_one(text, row);
     put_line(columns, one, gates, gate, pins, sources.first, at)
 }
 
@@ -179,105 +182,94 @@ fn put_joins(pins: &mut [u32], at: usize, next: usize, count: usize)
     requires { ⌜ (at + count ≤ length (now pins)) × (next + count ≤ maxGates) ⌝ }
     ensures { λ _. ⌜ now (pins .exit) ≡ overwriteAt at (map sigCell (gateRun next count)) (now (pins .entry)) ⌝ }
 {
-    let mut i = 0;
-    while i < count {
-        pins[at + i] = Signal::from_var((next + i) as u32).raw();
-        i += 1;
+    let mut k = 0;
+    while k < count {
+        pins[at + k] = Signal::from_var((next + k) as u32).raw();
+        k += 1;
     }
 }
 
-// Puts the gates of a cover's lines into the records from next on. Answers the pins' end.
+// Puts the gates of a cover's lines behind those built. Answers the pins' end.
 fn build_lines(
     text: &[u8],
     tokens: &[u32],
-    n: usize,
-    first: usize,
-    count: usize,
+    lines: Lines,
     sources: Sources,
     gates: &mut [u32],
-    next: usize,
     pins: &mut [u32],
-    start: usize,
+    built: Built,
 ) -> usize
-    requires { ⌜ GoodRows (now text) (now tokens) n first count (sources .count) ⌝ }
-    requires { ⌜ LinesRoom (sources .count) count (sources .first) start next (now gates) (now pins) ⌝ }
-    ensures { λ r. ⌜ LinesPut (take count (rowsFrom (now (text .entry)) (now (tokens .entry)) n first)) (sources .count) (sources .first) start next (now (gates .entry)) (now (pins .entry)) (now (gates .exit)) (now (pins .exit)) r ⌝ }
+    requires { ⌜ GoodRows (now text) (now tokens) (length (now tokens)) (lines .row) (lines .count) (sources .count) ⌝ }
+    requires { ⌜ LinesRoom (sources .count) (lines .count) (sources .first) (built .pins) (built .gates) (now gates) (now pins) ⌝ }
+    ensures { λ r. ⌜ LinesPut (take (lines .count) (rowsFrom (now (text .entry)) (now (tokens .entry)) (length (now (tokens .entry))) (lines .row))) (sources .count) (sources .first) (built .pins) (built .gates) (now (gates .entry)) (now (pins .entry)) (now (gates .exit)) (now (pins .exit)) r ⌝ }
 {
-    let mut row = first;
-    let mut at = start;
-    let mut i = 0;
-    while i < count {
-        let end = row_end(tokens, row, n);
-        at = put_row(text, tokens, row, end, sources, gates, next + i, pins, at);
+    let mut row = lines.row;
+    let mut at = built.pins;
+    let mut k = 0;
+    while k < lines.count {
+        let end = row_end(tokens, row, tokens.len());
+        let line = &tokens[row..end];
+        at = put_row(text, line, sources, gates, built.gates + k, pins, at);
         row = end;
-        i += 1;
+        k += 1;
     }
     at
 }
 
-// Joins the gates of two or more lines in gate j, and puts them into the records from next on. Answers the pins' end.
+// Joins the gates of two or more lines in gate j, and puts them behind those built. Answers the pins' end.
 fn join_lines(
     text: &[u8],
     tokens: &[u32],
-    n: usize,
-    row: usize,
-    count: usize,
+    lines: Lines,
     j: usize,
     gates: &mut [u32],
-    next: usize,
     pins: &mut [u32],
-    at: usize,
+    built: Built,
 ) -> usize
-    requires { ⌜ (1 < count) × GoodRows (now text) (now tokens) n row count (countAt (now gates) j) ⌝ }
-    requires { ⌜ CoverRoom count j next at (now gates) (now pins) ⌝ }
-    ensures { λ r. ⌜ CoverBuilt (take count (rowsFrom (now (text .entry)) (now (tokens .entry)) n row)) j next at (now (gates .entry)) (now (pins .entry)) (now (gates .exit)) (now (pins .exit)) r ⌝ }
+    requires { ⌜ (1 < lines .count) × GoodRows (now text) (now tokens) (length (now tokens)) (lines .row) (lines .count) (countAt (now gates) j) ⌝ }
+    requires { ⌜ CoverRoom (lines .count) j (built .gates) (built .pins) (now gates) (now pins) ⌝ }
+    ensures { λ r. ⌜ CoverBuilt (take (lines .count) (rowsFrom (now (text .entry)) (now (tokens .entry)) (length (now (tokens .entry))) (lines .row))) j (built .gates) (built .pins) (now (gates .entry)) (now (pins .entry)) (now (gates .exit)) (now (pins .exit)) r ⌝ }
 {
     let sources = sources_at(gates, j);
-    let end = row_end(tokens, row, n);
-    let last = tokens[end - 1];
-    put_joins(pins, at, next, count);
-    put_record(gates, j, at, join_gate(is_one(text, last), at, count));
-    build_lines(
-        text,
-        tokens,
-        n,
-        row,
-        count,
-        sources,
-        gates,
-        next,
-        pins,
-        at + count,
-    )
+    let row = lines.row;
+    let end = row_end(tokens, row, tokens.len());
+    let one = is_one(text, &tokens[row..end]);
+    put_joins(pins, built.pins, built.gates, lines.count);
+    let gate = join_gate(one, built.pins, lines.count);
+    put_record(gates, j, built.pins, gate);
+    let joined = Built {
+        gates: built.gates,
+        pins: built.pins + lines.count,
+    };
+    build_lines(text, tokens, lines, sources, gates, pins, joined)
 }
 
-// Puts a cover's gate in place of its And, gate j, and those of two or more lines into the records from next on.
+// Puts a cover's gate in place of its And, gate j, and those of two or more lines behind the gates built.
 // Answers the pins' end.
 fn build_cover(
     text: &[u8],
     tokens: &[u32],
-    n: usize,
-    row: usize,
-    count: usize,
+    lines: Lines,
     j: usize,
     gates: &mut [u32],
-    next: usize,
     pins: &mut [u32],
-    at: usize,
+    built: Built,
 ) -> usize
-    requires { ⌜ GoodRows (now text) (now tokens) n row count (countAt (now gates) j) ⌝ }
-    requires { ⌜ CoverRoom count j next at (now gates) (now pins) ⌝ }
-    ensures { λ r. ⌜ CoverBuilt (take count (rowsFrom (now (text .entry)) (now (tokens .entry)) n row)) j next at (now (gates .entry)) (now (pins .entry)) (now (gates .exit)) (now (pins .exit)) r ⌝ }
+    requires { ⌜ GoodRows (now text) (now tokens) (length (now tokens)) (lines .row) (lines .count) (countAt (now gates) j) ⌝ }
+    requires { ⌜ CoverRoom (lines .count) j (built .gates) (built .pins) (now gates) (now pins) ⌝ }
+    ensures { λ r. ⌜ CoverBuilt (take (lines .count) (rowsFrom (now (text .entry)) (now (tokens .entry)) (length (now (tokens .entry))) (lines .row))) j (built .gates) (built .pins) (now (gates .entry)) (now (pins .entry)) (now (gates .exit)) (now (pins .exit)) r ⌝ }
 {
-    if count == 0 {
-        return lay_gate(gates, j, pins, at, Gate::Buf(Signal::zero()));
+    if lines.count == 0 {
+        return lay_gate(gates, j, pins, built.pins, Gate::Buf(Signal::zero()));
     }
-    if count > 1 {
-        return join_lines(text, tokens, n, row, count, j, gates, next, pins, at);
+    if lines.count > 1 {
+        return join_lines(text, tokens, lines, j, gates, pins, built);
     }
     let sources = sources_at(gates, j);
-    let end = row_end(tokens, row, n);
-    put_row(text, tokens, row, end, sources, gates, j, pins, at)
+    let row = lines.row;
+    let end = row_end(tokens, row, tokens.len());
+    let line = &tokens[row..end];
+    put_row(text, line, sources, gates, j, pins, built.pins)
 }
 
 // How many gates a cover with this many lines adds.
@@ -294,27 +286,25 @@ fn new_gates(count: usize) -> usize
 fn build_block(
     text: &[u8],
     tokens: &[u32],
-    n: usize,
     blocks: &[u32],
-    g: usize,
     j: usize,
     gates: &mut [u32],
     pins: &mut [u32],
-    w: Built,
+    built: Built,
 ) -> Built
-    requires { ⌜ (j < g) × Blocks (now text) (now tokens) n (now blocks) g ⌝ }
-    requires { ⌜ BlockRoom (defAt (now text) (now tokens) n (now blocks) j) j (w .gates) (w .pins) (now gates) (now pins) ⌝ }
-    ensures { λ r. ⌜ BlockBuilt (defAt (now (text .entry)) (now (tokens .entry)) n (now (blocks .entry)) j) j (w .gates) (w .pins) (now (gates .entry)) (now (pins .entry)) (now (gates .exit)) (now (pins .exit)) (r .gates) (r .pins) ⌝ }
+    requires { ⌜ Blocks (now text) (now tokens) (length (now tokens)) (now blocks) (j + 1) ⌝ }
+    requires { ⌜ BlockRoom (defAt (now text) (now tokens) (length (now tokens)) (now blocks) j) j (built .gates) (built .pins) (now gates) (now pins) ⌝ }
+    ensures { λ r. ⌜ BlockBuilt (defAt (now (text .entry)) (now (tokens .entry)) (length (now (tokens .entry))) (now (blocks .entry)) j) j (built .gates) (built .pins) (now (gates .entry)) (now (pins .entry)) (now (gates .exit)) (now (pins .exit)) (r .gates) (r .pins) ⌝ }
 {
     let block = block_at(blocks, j);
     if block.names == 0 {
-        return w;
+        return built;
     }
     let row = block.first + block.names;
     let count = block.lines;
-    let at = build_cover(text, tokens, n, row, count, j, gates, w.gates, pins, w.pins);
+    let at = build_cover(text, tokens, Lines { row, count }, j, gates, pins, built);
     Built {
-        gates: w.gates + new_gates(count),
+        gates: built.gates + new_gates(count),
         pins: at,
     }
 }
@@ -323,25 +313,24 @@ fn build_block(
 pub fn build_covers(
     text: &[u8],
     tokens: &[u32],
-    n: usize,
     blocks: &[u32],
     g: usize,
     gates: &mut [u32],
     pins: &mut [u32],
     used: usize,
 ) -> Built
-    requires { ⌜ Blocks (now text) (now tokens) n (now blocks) g ⌝ }
-    requires { ⌜ Buildable (defsAt (now text) (now tokens) n (now blocks) g) (now gates) (now pins) used ⌝ }
-    ensures { λ r. ⌜ BuiltBy (defsAt (now (text .entry)) (now (tokens .entry)) n (now (blocks .entry)) g) (now (gates .entry)) (now (pins .entry)) used (now (gates .exit)) (now (pins .exit)) r ⌝ }
+    requires { ⌜ Blocks (now text) (now tokens) (length (now tokens)) (now blocks) g ⌝ }
+    requires { ⌜ Buildable (defsAt (now text) (now tokens) (length (now tokens)) (now blocks) g) (now gates) (now pins) used ⌝ }
+    ensures { λ r. ⌜ BuiltBy (defsAt (now (text .entry)) (now (tokens .entry)) (length (now (tokens .entry))) (now (blocks .entry)) g) (now (gates .entry)) (now (pins .entry)) used (now (gates .exit)) (now (pins .exit)) r ⌝ }
 {
-    let mut w = Built {
+    let mut built = Built {
         gates: g,
         pins: used,
     };
     let mut j = 0;
     while j < g {
-        w = build_block(text, tokens, n, blocks, g, j, gates, pins, w);
+        built = build_block(text, tokens, blocks, j, gates, pins, built);
         j += 1;
     }
-    w
+    built
 }

@@ -5,4 +5,3 @@ pub mod Defining
 pub mod DefiningGates
 pub mod Walking
 pub mod EntryLaws
-pub mod FrontTables

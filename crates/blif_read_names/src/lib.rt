@@ -63,7 +63,7 @@ fn step_of(checked: Checked, next: Walk) -> Step
 {
     match checked {
         Checked::Fine => Step::Next(next),
-        Checked::Refused(r) => Step::Refused(r),
+        Checked::Refused(refusal) => Step::Refused(refusal),
     }
 }
 
@@ -84,7 +84,7 @@ fn enter_inputs(
     let mut i = inputs;
     while j < end {
         let signal = Signal::from_input(i as u32);
-        if !enter_name(text, index, i + gates, tokens[j], signal.a) {
+        if !enter_name(text, index, tokens[j], signal.a) {
             return Checked::Refused(Refusal::DefinedTwice);
         }
         j += 1;
@@ -121,7 +121,7 @@ fn define_gate(
     ensures { λ r. ⌜ GateDefined (now (text .entry)) (now (index .entry)) inputs gates (tokenOf (now (text .entry)) cell) block (now (blocks .entry)) (now (index .exit)) (now (blocks .exit)) r ⌝ }
 {
     let signal = Signal::from_var(gates as u32);
-    if !enter_name(text, index, inputs + gates, cell, signal.a) {
+    if !enter_name(text, index, cell, signal.a) {
         return Checked::Refused(Refusal::DefinedTwice);
     }
     put_block(blocks, gates, block);
@@ -256,7 +256,7 @@ pub fn build_name_to_sig(
         let step = define_declaration(text, tokens, index, out_names, blocks, w, next);
         match step {
             Step::Next(after) => w = after,
-            Step::Refused(r) => return Defined::Refused(r),
+            Step::Refused(refusal) => return Defined::Refused(refusal),
         }
     }
     Defined::Names(Declared {

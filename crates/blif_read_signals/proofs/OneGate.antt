@@ -1,19 +1,16 @@
--- One gate placed: its names by their tokens, its record and its run of pins. Assumes nothing.
+-- One gate placed: its record and its run of pins, and the block that it is placed for. Assumes nothing.
 use mathlib.Core.Path.{_≡_, refl, sym, ap, ap₂, _∙_, subst}
 use mathlib.Core.Bool.{Bool, true, false, not, and-true, false≢true}
 use borrow.Author.Tests.{ne-eqb}
 use mathlib.Core.List.{List, [], _∷_, _++_, map}
-use Prim.Native.Nat.{ℕ, zero, suc, _+_, _-_, _*_, _≤_, _<_}
+use Prim.Native.Nat.{ℕ, zero, suc, _+_, _-_, _*_, _≤_}
 use native.Mathlib.Omega.{arith}
-use lib.ListN.{length, getD, take, drop, set, length-take, length-drop, length-map}
-use lib.Seq.{slice, drop-cons, getD-take, getD-drop, length-slice}
+use lib.ListN.{length, getD, take, drop, length-take, length-drop, length-map}
+use lib.Seq.{slice, getD-take, getD-drop, length-slice}
 use Rattle.lists.specs.Lists.{Bytes, all}
 use Rattle.lists.specs.between.Lists.{overwriteAt}
-use Rattle.lists.proofs.OverAt.{overwrite-three, part-laid}
+use Rattle.lists.proofs.OverAt.{part-laid}
 use Rattle.lists.proofs.Places.{run-within}
-use Rattle.lists.proofs.Laying.{one-store}
-use Rattle.gates.specs.Gate.{AndN}
-use Rattle.gates.specs.Forms.{formNumber, flopNumber}
 use Rattle.signal.specs.declared.Signal as signal
 use Rattle.gates.specs.declared.Gate as code
 use Rattle.gates.specs.declared.Gate.the-variants as G
@@ -26,95 +23,40 @@ use Rattle.blif_text.specs.between.Walk.{rowsFrom, Inside}
 use Rattle.blif_text.specs.Decls.{Def, latch, cover, coverIns, usedNames}
 use Rattle.blif_text.specs.between.Blocks.{firstName, nameCount, lineCount, defFrom, defAt, Blocks}
 use Rattle.blif_text.proofs.BlockLaws.{cover-from}
+use Rattle.blif_text.proofs.RowWalk.{inside-less}
 use Rattle.blif_reading.specs.between.Working.{placedCount}
 use Rattle.blif_read_signals.specs.between.Resolve.{isFound, placedTo, Resolved}
-use Rattle.blif_read_signals.specs.between.Steps.{NamesAt, GateRoom, andInHand, GatePlaced, DefPlaced}
+use Rattle.blif_read_signals.specs.between.Steps.{GateRoom, andInHand, GatePlaced, DefPlaced}
 use Rattle.blif_read_signals.specs.declared.Placed.{Placed}
 use Rattle.blif_read_signals.specs.declared.Placed.the-variants as answer
 use Rattle.refusals.specs.declared.Refusal.the-variants as refusal
 
--- ---- the names by their tokens
-
-module _ {text tokens : List ℕ} {first count : ℕ} (h : NamesAt text tokens first count) where
-  -- the code's part of the tokens
-  part-is : take (first + count - first) (drop first tokens) ≡ take count (drop first tokens)
-  part-is = let e : first + count - first ≡ count = omega arith in ap (λ (k : ℕ). take k (drop first tokens)) e
-
-  part-length : length (take count (drop first tokens)) ≡ count
-  part-length = omega (arith, length-take count (drop first tokens), length-drop first tokens, h .room)
-
-  part-inside : Inside text (take count (drop first tokens)) (length (take count (drop first tokens)))
-  part-inside =
-      record {
-        room = omega arith;
-        inside = λ i l.
-            let u : i < count = omega (arith, part-length) in
-            let e : getD (take count (drop first tokens)) i 0 ≡ getD tokens (first + i) 0 =
-            getD-take count (drop first tokens) i 0 u ∙ getD-drop first tokens i 0 in
-            rw e (h .inside i u);
-      }
-
-  pub names-inside : Inside text (take (first + count - first) (drop first tokens)) (length (take (first + count - first) (drop first tokens)))
-  names-inside = rw part-is part-inside
-
-  pub names-fit : {gates pinsIn : List ℕ} {j at more : ℕ} → count ≤ more → GateRoom gates pinsIn j at more
-      → length (take (first + count - first) (drop first tokens)) ≤ length (take (length pinsIn - at) (drop at pinsIn))
-  names-fit {pinsIn = pinsIn} {at = at} l r =
-      omega (
-        arith,
-        ap length part-is,
-        part-length,
-        length-take (length pinsIn - at) (drop at pinsIn),
-        length-drop at pinsIn,
-        r .few,
-        r .cells .pinRoom,
-      )
-
-  pub names-are : tokensOf text (take (first + count - first) (drop first tokens)) ≡ tokensOf text (take count (drop first tokens))
-  names-are = ap (tokensOf text) part-is
-
-  pub names-length : length (tokensOf text (take count (drop first tokens))) ≡ count
-  names-length = length-map (take count (drop first tokens)) (tokenOf text) ∙ part-length
-
-pub one-name : {text tokens : List ℕ} {first : ℕ} → NamesAt text tokens first 1
-    → tokensOf text (take (first + 1 - first) (drop first tokens)) ≡ tokenOf text (getD tokens first 0) ∷ []
-one-name {text} {tokens} {first} h = names-are h ∙ ap (λ (l : List ℕ). tokensOf text (take 1 l)) (drop-cons tokens first 0 (omega (arith, h .room)))
-
 -- ---- placed or not
 
 -- a name was not found
-pub not-placed : {sig : Bytes → ℕ} {names₀ names : List Bytes} {x : code.Gate} {j at : ℕ} {run cells q gates pinsIn gates′ pinsIn′ : List ℕ} {r : Bool}
-    → Resolved (map sig names₀) cells q r → names₀ ≡ names → r ≡ false
-    → GatePlaced sig x names run j at gates pinsIn gates′ pinsIn′ (answer.Refused refusal.Undefined)
-not-placed {sig} {at = at} {run = run} w n t =
-    let f = sym t ∙ w .found ∙ ap (λ (l : List Bytes). all isFound (map sig l)) n in
+pub not-placed : {sig : Bytes → ℕ} {names : List Bytes} {x : code.Gate} {j at : ℕ} {run cells q gates pinsIn gates′ pinsIn′ : List ℕ} {r : Bool}
+    → Resolved (map sig names) cells q r → r ≡ false → GatePlaced sig x names run j at gates pinsIn gates′ pinsIn′ (answer.Refused refusal.Undefined)
+not-placed {at = at} {run = run} w t =
+    let f = sym t ∙ w .found in
     record {
       end = ap (λ (b : Bool). placedTo b (at + length run)) f;
       records = λ u. absurd (false≢true (f ∙ u));
       runs = λ u. absurd (false≢true (f ∙ u));
     }
 
--- what the part of the pins holds then
-module _ (sig : Bytes → ℕ) {names₀ names : List Bytes} (at : ℕ) (pinsIn : List ℕ) {q : List ℕ} {r : Bool}
-    (w : Resolved (map sig names₀) (take (length pinsIn - at) (drop at pinsIn)) q r) (n : names₀ ≡ names) (t : r ≡ true) (h : at ≤ length pinsIn) where
-  names-laid : take at pinsIn ++ (q ++ drop (length pinsIn - at) (drop at pinsIn)) ≡ overwriteAt at (map sig names) pinsIn
-  names-laid = part-laid at (map sig names₀) pinsIn h (w .laid t) ∙ ap (λ (l : List Bytes). overwriteAt at (map sig l) pinsIn) n
-
-  all-found : true ≡ all isFound (map sig names)
-  all-found = sym t ∙ w .found ∙ ap (λ (l : List Bytes). all isFound (map sig l)) n
-
-pub cover-placed : {sig : Bytes → ℕ} {names₀ names : List Bytes} {j at count : ℕ} {q gates pinsIn gates′ : List ℕ} {r : Bool}
-    → Resolved (map sig names₀) (take (length pinsIn - at) (drop at pinsIn)) q r → names₀ ≡ names → length names ≡ count → r ≡ true
-    → GateRoom gates pinsIn j at count → gates′ ≡ overwriteAt (j * gateWidth) (handRecord at (andInHand at count)) gates
-    → GatePlaced sig (andInHand at count) names (map sig names) j at gates pinsIn gates′ (take at pinsIn ++ (q ++ drop (length pinsIn - at) (drop at pinsIn)))
-    (answer.Pins (at + count))
-cover-placed {sig} {names = names} {j} {at} {count} {gates = gates} {pinsIn} w n l t m g =
-    let u : at ≤ length pinsIn = omega (arith, m .few, m .cells .pinRoom) in
-    let e : count ≡ length (map sig names) = sym (length-map names sig ∙ l) in
+-- all names of a cover's inputs were
+pub cover-placed : (text names : List ℕ) {sig : Bytes → ℕ} {q gates pinsIn gates′ : List ℕ} {j at : ℕ} {r : Bool}
+    → Resolved (map sig (tokensOf text names)) (take (length pinsIn - at) (drop at pinsIn)) q r → r ≡ true → GateRoom gates pinsIn j at (length names)
+    → gates′ ≡ overwriteAt (j * gateWidth) (handRecord at (andInHand at (length names))) gates
+    → GatePlaced sig (andInHand at (length names)) (tokensOf text names) (map sig (tokensOf text names)) j at gates pinsIn gates′
+    (take at pinsIn ++ (q ++ drop (length pinsIn - at) (drop at pinsIn))) (answer.Pins (at + length names))
+cover-placed text names {sig} {pinsIn = pinsIn} {at = at} w t m g =
+    let run : List ℕ = map sig (tokensOf text names) in
+    let e : length names ≡ length run = sym (length-map (tokensOf text names) sig ∙ length-map names (tokenOf text)) in
     record {
-      end = ap₂ (λ (k : ℕ) (b : Bool). placedTo b (at + k)) e (all-found sig at pinsIn w n t u);
+      end = ap₂ (λ (k : ℕ) (b : Bool). placedTo b (at + k)) e (sym t ∙ w .found);
       records = λ v. g;
-      runs = λ v. names-laid sig at pinsIn w n t u;
+      runs = λ v. part-laid at run pinsIn (omega (arith, m .few, m .cells .pinRoom)) (w .laid t);
     }
 
 -- a latch whose input has this cell, and room for it
@@ -160,6 +102,10 @@ take-map g zero l = refl
 take-map g (suc m) [] = refl
 take-map {A} {B} g (suc m) (x ∷ l) = ap (λ (r : List B). g x ∷ r) (take-map g m l)
 
+-- the names of a cover's inputs, as the code takes them from the tokens
+abbrev inputsAt : List ℕ → ℕ → ℕ → List ℕ
+inputsAt tokens f c = take (f + c - 1 - f) (drop f tokens)
+
 module _ {text tokens : List ℕ} {n : ℕ} {blocks : List ℕ} {f c : ℕ} (j : ℕ) (b : Blocks text tokens n blocks (j + 1)) (ef : f ≡ firstName blocks j) (ec : c ≡ nameCount blocks j) where
   -- as the record says
   def-is : defAt text tokens n blocks j ≡ defFrom text tokens n f c (lineCount blocks j)
@@ -171,34 +117,45 @@ module _ {text tokens : List ℕ} {n : ℕ} {blocks : List ℕ} {f c : ℕ} (j :
   cover-is : (c ≡ 0 → ⊥) → defAt text tokens n blocks j ≡ cover (tokensOf text (slice f (f + c) tokens)) (take (lineCount blocks j) (rowsFrom text tokens n (f + c)))
   cover-is z = def-is ∙ cover-from text tokens n f c (lineCount blocks j) z
 
-  names-among : (count : ℕ) → f + count ≤ n → NamesAt text tokens f count
-  names-among count l = record { room = omega (arith, b .places .room); inside = λ i u. b .places .inside (f + i) (omega arith) }
+  pub latch-names : c ≡ 0 → Inside text tokens (f + 1)
+  latch-names z = inside-less (omega (arith, b .each j (omega arith) .latchNames (sym ec ∙ z))) (b .places)
 
-  pub latch-names : c ≡ 0 → NamesAt text tokens f 1
-  latch-names z = names-among 1 (omega (arith, b .each j (omega arith) .latchNames (sym ec ∙ z)))
+  pub cover-among : f + c ≤ n
+  cover-among = omega (arith, b .each j (omega arith) .coverNames)
 
-  pub cover-names : (c ≡ 0 → ⊥) → NamesAt text tokens f (c - 1)
-  cover-names z = names-among (c - 1) (omega (arith, b .each j (omega arith) .coverNames))
+  inputs-length : length (inputsAt tokens f c) ≡ c - 1
+  inputs-length = omega (arith, length-take (f + c - 1 - f) (drop f tokens), length-drop f tokens, cover-among, b .places .room)
+
+  pub cover-names : Inside text (inputsAt tokens f c) (length (inputsAt tokens f c))
+  cover-names =
+      record {
+        room = omega arith;
+        inside = λ i l.
+            let e : getD (inputsAt tokens f c) i 0 ≡ getD tokens (f + i) 0 =
+            getD-take (f + c - 1 - f) (drop f tokens) i 0 (omega (arith, inputs-length)) ∙ getD-drop f tokens i 0 in
+            rw e (b .places .inside (f + i) (omega (arith, inputs-length, cover-among)));
+      }
 
   all-length : length (tokensOf text (slice f (f + c) tokens)) ≡ c
   all-length =
-      let l : f + c ≤ length tokens = omega (arith, b .each j (omega arith) .coverNames, b .places .room) in
+      let l : f + c ≤ length tokens = omega (arith, cover-among, b .places .room) in
       length-map (slice f (f + c) tokens) (tokenOf text) ∙ length-slice f (f + c) tokens l ∙ omega arith
 
-  ins-are : coverIns (tokensOf text (slice f (f + c) tokens)) ≡ tokensOf text (take (c - 1) (drop f tokens))
+  ins-are : coverIns (tokensOf text (slice f (f + c) tokens)) ≡ tokensOf text (inputsAt tokens f c)
   unfolding coverIns
   ins-are =
-      ap (λ (k : ℕ). take (k - 1) (tokensOf text (slice f (f + c) tokens))) all-length
-      ∙ take-map (tokenOf text) (c - 1) (slice f (f + c) tokens)
-      ∙ ap (tokensOf text) (run-within f (c - 1) (f + c) tokens (omega arith))
+      let e : length (tokensOf text (slice f (f + c) tokens)) - 1 ≡ f + c - 1 - f = omega (arith, all-length) in
+      ap (λ (k : ℕ). take k (tokensOf text (slice f (f + c) tokens))) e
+      ∙ take-map (tokenOf text) (f + c - 1 - f) (slice f (f + c) tokens)
+      ∙ ap (tokensOf text) (run-within f (f + c - 1 - f) (f + c) tokens (omega arith))
 
   module _ {gates pinsIn : List ℕ} {at : ℕ} where
     pub latch-room : GateRoom gates pinsIn j at (placedCount (defAt text tokens n blocks j)) → c ≡ 0 → GateRoom gates pinsIn j at 3
     latch-room m z = let e : placedCount (defAt text tokens n blocks j) ≡ 3 = ap placedCount (latch-is z) in rw e at m
 
-    pub cover-room : GateRoom gates pinsIn j at (placedCount (defAt text tokens n blocks j)) → (c ≡ 0 → ⊥) → GateRoom gates pinsIn j at (c - 1)
+    pub cover-room : GateRoom gates pinsIn j at (placedCount (defAt text tokens n blocks j)) → (c ≡ 0 → ⊥) → GateRoom gates pinsIn j at (length (inputsAt tokens f c))
     cover-room m z =
-        let e : placedCount (defAt text tokens n blocks j) ≡ c - 1 = ap placedCount (cover-is z) ∙ ap (λ (k : ℕ). k - 1) all-length in
+        let e : placedCount (defAt text tokens n blocks j) ≡ length (inputsAt tokens f c) = ap placedCount (cover-is z) ∙ ap (λ (k : ℕ). k - 1) all-length ∙ sym inputs-length in
         rw e at m
 
     module _ {sig : Bytes → ℕ} {gates′ pinsIn′ : List ℕ} {r : Placed} where
@@ -208,11 +165,11 @@ module _ {text tokens : List ℕ} {n : ℕ} {blocks : List ℕ} {f c : ℕ} (j :
       latch-def z p = subst (λ (d : Def). DefPlaced sig d j at gates pinsIn gates′ pinsIn′ r) (sym (latch-is z)) p
 
       pub cover-def : (c ≡ 0 → ⊥)
-          → GatePlaced sig (andInHand at (c - 1)) (tokensOf text (take (c - 1) (drop f tokens))) (map sig (tokensOf text (take (c - 1) (drop f tokens)))) j at gates pinsIn gates′ pinsIn′ r
+          → GatePlaced sig (andInHand at (length (inputsAt tokens f c))) (tokensOf text (inputsAt tokens f c)) (map sig (tokensOf text (inputsAt tokens f c))) j at gates pinsIn gates′ pinsIn′ r
           → DefPlaced sig (defAt text tokens n blocks j) j at gates pinsIn gates′ pinsIn′ r
       unfolding usedNames
       cover-def z p =
-          let names = tokensOf text (take (c - 1) (drop f tokens)) in
+          let names = tokensOf text (inputsAt tokens f c) in
           subst (λ (d : Def). DefPlaced sig d j at gates pinsIn gates′ pinsIn′ r) (sym (cover-is z))
           (subst (λ (ns : List Bytes). GatePlaced sig (andInHand at (length ns)) ns (map sig ns) j at gates pinsIn gates′ pinsIn′ r) (sym ins-are)
-          (subst (λ (k : ℕ). GatePlaced sig (andInHand at k) names (map sig names) j at gates pinsIn gates′ pinsIn′ r) (sym (names-length (cover-names z))) p))
+          (subst (λ (k : ℕ). GatePlaced sig (andInHand at k) names (map sig names) j at gates pinsIn gates′ pinsIn′ r) (sym (length-map (inputsAt tokens f c) (tokenOf text))) p))

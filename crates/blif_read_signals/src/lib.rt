@@ -11,7 +11,7 @@ use refusals::Refusal;
 use signal::Signal;
 ghost use mathlib.Core.List.{map};
 ghost use Prim.Native.Nat.{_+_, _≤_};
-ghost use lib.ListN.{length, getD, take, drop};
+ghost use lib.ListN.{length, getD};
 ghost use Rattle.lists.specs.Lists.{sumOf};
 ghost use Rattle.network.specs.Sizes.{maxGates, maxPins};
 ghost use Rattle.blif_meaning.specs.Model.{plainLatch};
@@ -20,10 +20,10 @@ ghost use Rattle.blif_text.specs.between.Places.{tokenOf, tokensOf};
 ghost use Rattle.blif_text.specs.between.Walk.{Inside};
 ghost use Rattle.blif_text.specs.between.Blocks.{defAt, defsAt, Blocks};
 ghost use Rattle.name_index.specs.between.Search.{signalIn};
-ghost use Rattle.name_index.specs.between.Index.{entriesOf, Index};
+ghost use Rattle.name_index.specs.between.Index.{namesIn, entriesOf, Index};
 ghost use Rattle.blif_reading.specs.between.Working.{placedCount, WorkRoom};
 ghost use Rattle.blif_read_signals.specs.between.Resolve.{Resolved, PlacedBy};
-ghost use Rattle.blif_read_signals.specs.between.Steps.{NamesAt, GateRoom, andInHand, GatePlaced, DefPlaced};
+ghost use Rattle.blif_read_signals.specs.between.Steps.{GateRoom, andInHand, GatePlaced, DefPlaced};
 
 // How many pins are in use, or the refusal of a name that is not defined.
 pub enum Placed {
@@ -32,20 +32,14 @@ pub enum Placed {
 }
 
 // Writes the signals of names, given by their places; answers whether all were found.
-pub fn resolve_names(
-    text: &[u8],
-    index: &[u32],
-    k: usize,
-    names: &[u32],
-    signals: &mut [u32],
-) -> bool
-    requires { ⌜ Index (now text) (now index) k ⌝ }
+pub fn resolve_names(text: &[u8], index: &[u32], names: &[u32], signals: &mut [u32]) -> bool
+    requires { ⌜ Index (now text) (now index) (namesIn (now index)) ⌝ }
     requires { ⌜ Inside (now text) (now names) (length (now names)) × (length (now names) ≤ length (now signals)) ⌝ }
-    ensures { λ r. ⌜ Resolved (map (signalIn (entriesOf (now (text .entry)) (now (index .entry)) k)) (tokensOf (now (text .entry)) (now (names .entry)))) (now (signals .entry)) (now (signals .exit)) r ⌝ }
+    ensures { λ r. ⌜ Resolved (map (signalIn (entriesOf (now (text .entry)) (now (index .entry)) (namesIn (now (index .entry))))) (tokensOf (now (text .entry)) (now (names .entry)))) (now (signals .entry)) (now (signals .exit)) r ⌝ }
 {
     let mut i = 0;
     while i < names.len() {
-        let s = find_signal(text, index, k, token(text, names[i]));
+        let s = find_signal(text, index, token(text, names[i]));
         if s == 0 {
             return false;
         }
@@ -60,21 +54,20 @@ fn place_latch(
     text: &[u8],
     tokens: &[u32],
     index: &[u32],
-    k: usize,
     first: usize,
     j: usize,
     gates: &mut [u32],
     pins: &mut [u32],
     at: usize,
 ) -> Placed
-    requires { ⌜ Index (now text) (now index) k × NamesAt (now text) (now tokens) first 1 ⌝ }
+    requires { ⌜ Index (now text) (now index) (namesIn (now index)) × Inside (now text) (now tokens) (first + 1) ⌝ }
     requires { ⌜ GateRoom (now gates) (now pins) j at 3 ⌝ }
     ensures { λ r.
-        let sig = signalIn (entriesOf (now (text .entry)) (now (index .entry)) k) in
+        let sig = signalIn (entriesOf (now (text .entry)) (now (index .entry)) (namesIn (now (index .entry)))) in
         let d = latch (plainLatch (tokenOf (now (text .entry)) (getD (now (tokens .entry)) first 0)) (tokenOf (now (text .entry)) (getD (now (tokens .entry)) (first + 1) 0))) in
         ⌜ DefPlaced sig d j at (now (gates .entry)) (now (pins .entry)) (now (gates .exit)) (now (pins .exit)) r ⌝ }
 {
-    let input = find_signal(text, index, k, token(text, tokens[first]));
+    let input = find_signal(text, index, token(text, tokens[first]));
     if input == 0 {
         return Placed::Refused(Refusal::Undefined);
     }
@@ -82,30 +75,27 @@ fn place_latch(
     Placed::Pins(lay_gate(gates, j, pins, at, gate))
 }
 
-// Places gate j for the cover whose inputs' names are count tokens from first on, with its pins from cell at on.
+// Places gate j for the cover whose inputs have these names, with its pins from cell at on.
 fn place_cover(
     text: &[u8],
-    tokens: &[u32],
+    names: &[u32],
     index: &[u32],
-    k: usize,
-    first: usize,
-    count: usize,
     j: usize,
     gates: &mut [u32],
     pins: &mut [u32],
     at: usize,
 ) -> Placed
-    requires { ⌜ Index (now text) (now index) k × NamesAt (now text) (now tokens) first count ⌝ }
-    requires { ⌜ GateRoom (now gates) (now pins) j at count ⌝ }
+    requires { ⌜ Index (now text) (now index) (namesIn (now index)) × Inside (now text) (now names) (length (now names)) ⌝ }
+    requires { ⌜ GateRoom (now gates) (now pins) j at (length (now names)) ⌝ }
     ensures { λ r.
-        let sig = signalIn (entriesOf (now (text .entry)) (now (index .entry)) k) in
-        let names = tokensOf (now (text .entry)) (take count (drop first (now (tokens .entry)))) in
-        ⌜ GatePlaced sig (andInHand at count) names (map sig names) j at (now (gates .entry)) (now (pins .entry)) (now (gates .exit)) (now (pins .exit)) r ⌝ }
+        let sig = signalIn (entriesOf (now (text .entry)) (now (index .entry)) (namesIn (now (index .entry)))) in
+        let used = tokensOf (now (text .entry)) (now (names .entry)) in
+        ⌜ GatePlaced sig (andInHand at (length (now (names .entry)))) used (map sig used) j at (now (gates .entry)) (now (pins .entry)) (now (gates .exit)) (now (pins .exit)) r ⌝ }
 {
-    let end = first + count;
-    if !resolve_names(text, index, k, &tokens[first..end], &mut pins[at..]) {
+    if !resolve_names(text, index, names, &mut pins[at..]) {
         return Placed::Refused(Refusal::Undefined);
     }
+    let count = names.len();
     let run = PinRun { first: at, count };
     put_record(gates, j, at, Gate::Nary(NaryType::And, run));
     Placed::Pins(at + count)
@@ -115,60 +105,47 @@ fn place_cover(
 fn place_block(
     text: &[u8],
     tokens: &[u32],
-    n: usize,
     index: &[u32],
-    k: usize,
     blocks: &[u32],
     j: usize,
     gates: &mut [u32],
     pins: &mut [u32],
     at: usize,
 ) -> Placed
-    requires { ⌜ Index (now text) (now index) k × Blocks (now text) (now tokens) n (now blocks) (j + 1) ⌝ }
-    requires { ⌜ GateRoom (now gates) (now pins) j at (placedCount (defAt (now text) (now tokens) n (now blocks) j)) ⌝ }
-    ensures { λ r. ⌜ DefPlaced (signalIn (entriesOf (now (text .entry)) (now (index .entry)) k)) (defAt (now (text .entry)) (now (tokens .entry)) n (now (blocks .entry)) j) j at (now (gates .entry)) (now (pins .entry)) (now (gates .exit)) (now (pins .exit)) r ⌝ }
+    requires { ⌜ Index (now text) (now index) (namesIn (now index)) × Blocks (now text) (now tokens) (length (now tokens)) (now blocks) (j + 1) ⌝ }
+    requires { ⌜ GateRoom (now gates) (now pins) j at (placedCount (defAt (now text) (now tokens) (length (now tokens)) (now blocks) j)) ⌝ }
+    ensures { λ r. ⌜ DefPlaced (signalIn (entriesOf (now (text .entry)) (now (index .entry)) (namesIn (now (index .entry))))) (defAt (now (text .entry)) (now (tokens .entry)) (length (now (tokens .entry))) (now (blocks .entry)) j) j at (now (gates .entry)) (now (pins .entry)) (now (gates .exit)) (now (pins .exit)) r ⌝ }
 {
     let block = block_at(blocks, j);
     if block.names == 0 {
-        return place_latch(text, tokens, index, k, block.first, j, gates, pins, at);
+        return place_latch(text, tokens, index, block.first, j, gates, pins, at);
     }
-    place_cover(
-        text,
-        tokens,
-        index,
-        k,
-        block.first,
-        block.names - 1,
-        j,
-        gates,
-        pins,
-        at,
-    )
+    let first = block.first;
+    let end = first + block.names - 1;
+    place_cover(text, &tokens[first..end], index, j, gates, pins, at)
 }
 
 // Places a gate for each block: a latch's Dff, and for a cover an And of its inputs.
 pub fn place_gates(
     text: &[u8],
     tokens: &[u32],
-    n: usize,
     index: &[u32],
-    k: usize,
     blocks: &[u32],
     g: usize,
     gates: &mut [u32],
     pins: &mut [u32],
 ) -> Placed
-    requires { ⌜ Index (now text) (now index) k × Blocks (now text) (now tokens) n (now blocks) g ⌝ }
-    requires { ⌜ WorkRoom (now gates) (now pins) × (g ≤ maxGates) × (sumOf placedCount (defsAt (now text) (now tokens) n (now blocks) g) ≤ maxPins) ⌝ }
-    ensures { λ r. ⌜ PlacedBy (signalIn (entriesOf (now (text .entry)) (now (index .entry)) k)) (defsAt (now (text .entry)) (now (tokens .entry)) n (now (blocks .entry)) g) (now (gates .exit)) (now (pins .exit)) r ⌝ }
+    requires { ⌜ Index (now text) (now index) (namesIn (now index)) × Blocks (now text) (now tokens) (length (now tokens)) (now blocks) g ⌝ }
+    requires { ⌜ WorkRoom (now gates) (now pins) × (g ≤ maxGates) × (sumOf placedCount (defsAt (now text) (now tokens) (length (now tokens)) (now blocks) g) ≤ maxPins) ⌝ }
+    ensures { λ r. ⌜ PlacedBy (signalIn (entriesOf (now (text .entry)) (now (index .entry)) (namesIn (now (index .entry))))) (defsAt (now (text .entry)) (now (tokens .entry)) (length (now (tokens .entry))) (now (blocks .entry)) g) (now (gates .exit)) (now (pins .exit)) r ⌝ }
 {
     let mut at = 0;
     let mut j = 0;
     while j < g {
-        let placed = place_block(text, tokens, n, index, k, blocks, j, gates, pins, at);
+        let placed = place_block(text, tokens, index, blocks, j, gates, pins, at);
         match placed {
             Placed::Pins(end) => at = end,
-            Placed::Refused(r) => return Placed::Refused(r),
+            Placed::Refused(refusal) => return Placed::Refused(refusal),
         }
         j += 1;
     }

@@ -4,8 +4,8 @@ use mathlib.Core.Bool.{Bool, true, false}
 use mathlib.Core.List.{List, [], _∷_, _++_}
 use Prim.Native.Nat.{ℕ, zero, suc, _+_, _-_, _≤_, _<_}
 use native.Mathlib.Omega.{arith}
-use lib.ListN.{length, getD, take, drop}
-use lib.Seq.{slice, slice-empty, slice-cons, take-add, drop-drop}
+use lib.ListN.{length, getD, take, drop, length-drop}
+use lib.Seq.{slice, slice-empty, slice-cons, length-take-le, getD-drop, getD-take, take-add, drop-drop}
 use Rattle.lists.specs.Lists.{Bytes}
 use Rattle.lists.proofs.Tests.{by-test, by-order}
 use Rattle.blif_text.specs.between.Places.{isFirst, tokenOf, tokensOf, withToken, grouped, TokensMarked}
@@ -41,6 +41,22 @@ none-slice (suc m) k r cells e h f =
 -- fewer cells are places within the text too
 pub inside-less : {text cells : List ℕ} {n end : ℕ} → end ≤ n → Inside text cells n → Inside text cells end
 inside-less l p = record { room = omega (arith, p .room); inside = λ i h. p .inside i (omega arith) }
+
+-- the cells from a place to another, as code lends them
+abbrev pub part : ℕ → ℕ → List ℕ → List ℕ
+part at r cells = take (r - at) (drop at cells)
+
+-- a row has a cell, and each is a place within the text
+pub part-inside : {text cells : List ℕ} {n at r : ℕ} → Inside text cells n → RowTo cells at n r
+    → (0 < length (part at r cells)) × Inside text (part at r cells) (length (part at r cells))
+part-inside {cells = cells} {at = at} {r = r} p w =
+    let e = length-take-le (r - at) (drop at cells) (rw length-drop (omega (arith, w .high, p .room))) in (
+      omega (arith, e, w .low),
+      record {
+        room = omega arith;
+        inside = λ i h. let l : i < r - at = omega (arith, e) in rw (getD-take, getD-drop) (p .inside (at + i) (omega (arith, w .high)));
+      },
+    )
 
 -- a cell that nothing is loose before starts a row
 first-of : (text : Bytes) (c : ℕ) (cs : List ℕ) → grouped text (c ∷ cs) .loose ≡ [] → isFirst c ≡ true
@@ -120,3 +136,7 @@ module _ {text cells : List ℕ} {n at : ℕ} (c : RowsAt text cells n at) where
         ap (λ (x : List ℕ). grouped text x .rows) (slice-split cells at r n (omega (arith, w .low)) (w .high) ∙ ap (λ (x : List ℕ). x ++ slice r n cells) e)
         ∙ rows-cons text (getD cells at 0) (slice (suc at) r cells) (slice r n cells) row-first (none-slice (r - suc at) (suc at) r cells m k (λ j a b. w .inner j (omega arith) b)) rest-loose
         ∙ ap (λ (x : List ℕ). tokensOf text x ∷ grouped text (slice r n cells) .rows) (sym e)
+
+    -- the same, with the row as code lends it
+    pub part-rows : rowsFrom text cells n at ≡ tokensOf text (part at r cells) ∷ rowsFrom text cells n r
+    part-rows = rows-are ∙ ap (λ (x : List ℕ). tokensOf text x ∷ rowsFrom text cells n r) (drop-take at r cells)

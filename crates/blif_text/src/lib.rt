@@ -8,7 +8,6 @@ ghost use lib.Dec.{eqb};
 ghost use mathlib.Core.List.{[], _∷_};
 ghost use Prim.Native.Nat.{_+_, _*_, _≤_, _<_};
 ghost use lib.ListN.{length, getD};
-ghost use lib.Seq.{slice};
 ghost use Rattle.lists.specs.Lists.{any, overwrite};
 ghost use Rattle.lists.specs.between.Lists.{overwriteAt};
 ghost use Rattle.blif_text.specs.Lines.{isBlank, maxText};
@@ -398,15 +397,15 @@ pub fn row_end(cells: &[u32], at: usize, n: usize) -> usize
     i
 }
 
-// The columns of the cube line from a row's first token to its end: none of a line with one token, else its first token.
-pub fn line_columns<'a, 'b>(text: &'a [u8], tokens: &'b [u32], row: usize, end: usize) -> &'a [u8]
-    requires { ⌜ (row < end) × Inside (now text) (now tokens) end ⌝ }
-    ensures { λ r. ⌜ now r ≡ columns (tokensOf (now (text .entry)) (slice row end (now (tokens .entry)))) ⌝ }
+// The columns of the cube line that a row of tokens is: none of a line with one token, else its first token.
+pub fn line_columns<'a, 'b>(text: &'a [u8], row: &'b [u32]) -> &'a [u8]
+    requires { ⌜ Inside (now text) (now row) (length (now row)) ⌝ }
+    ensures { λ r. ⌜ now r ≡ columns (tokensOf (now (text .entry)) (now (row .entry))) ⌝ }
 {
-    if end - row < 2 {
+    if row.len() < 2 {
         return &text[..0];
     }
-    token(text, tokens[row])
+    token(text, row[0])
 }
 
 // The statement of the row from at to end, whose first token has this keyword.

@@ -1,6 +1,6 @@
 -- The index as a whole: empty, searched, and with one name more. Assumes nothing.
-use mathlib.Core.Path.{_≡_, sym, ap, ap₂, _∙_}
-use mathlib.Core.Bool.{true, false, not, false≢true}
+use mathlib.Core.Path.{_≡_, sym, ap, ap₂, subst, _∙_}
+use mathlib.Core.Bool.{Bool, true, false, not, false≢true}
 use mathlib.Core.List.{List, [], _∷_, _++_, map}
 use Prim.Native.Nat.{ℕ, suc, _+_, _*_, _-_, _%_, _≤_, _<_}
 use native.Mathlib.Omega.{arith}
@@ -13,7 +13,7 @@ use Rattle.lists.proofs.Same.{same-is}
 use Rattle.lists.proofs.Tests.{by-order}
 use Rattle.blif_text.specs.between.Places.{InText, tokenOf}
 use Rattle.name_index.specs.between.Search.{Entry, entry, signalIn}
-use Rattle.name_index.specs.between.Index.{trees, maxNames, entryWidth, indexCells, nameAt, signalAt, branch, entryAt, entriesOf, hashAt, rootOf, wayOf, Leads, Index, Entered}
+use Rattle.name_index.specs.between.Index.{trees, maxNames, entryWidth, indexCells, namesIn, nameAt, signalAt, branch, entryAt, entriesOf, hashAt, rootOf, wayOf, Leads, Index, Entered}
 use Rattle.name_index.specs.between.Steps.{Sought}
 use Rattle.name_index.proofs.TreeLaws.{TreeCell, root, cell-before, cell-apart, sought-cell, leads-kept, passes-lead}
 use Rattle.name_index.proofs.EntryLaws.{map-range-last, map-range-same, signal-none, signal-at, known-none, known-at}
@@ -24,6 +24,7 @@ pub index-empty : (text : Bytes) → Index text (zeros indexCells) 0
 index-empty text =
     record {
       room = omega (arith, length-replicate {A = ℕ} indexCells 0);
+      counted = getD-replicate {A = ℕ} indexCells (trees + maxNames * entryWidth) 0 0 (omega arith);
       few = omega arith;
       inside = λ e l. absurd (omega arith);
       roots = λ h l. omega (arith, getD-replicate {A = ℕ} indexCells h 0 0 (omega arith));
@@ -31,6 +32,15 @@ index-empty text =
       held = λ e l. absurd (omega arith);
       once = λ d e l u. absurd (omega arith);
     }
+
+-- ---- its count
+
+pub index-counted : {text cells : List ℕ} {k : ℕ} → Index text cells k → Index text cells (namesIn cells)
+index-counted {text} {cells} x = subst (Index text cells) (sym (x .counted)) x
+
+pub entered-counted : {text cells : List ℕ} {k cell signal : ℕ} {cells′ : List ℕ} {r : Bool} → Index text cells k
+    → Entered text cells (namesIn cells) cell signal cells′ r → Entered text cells k cell signal cells′ r
+entered-counted {text} {cells} {cell = cell} {signal} {cells′} {r} x e = subst (λ (k : ℕ). Entered text cells k cell signal cells′ r) (x .counted) e
 
 -- ---- a search
 
@@ -63,10 +73,10 @@ module _ {text cells : List ℕ} {k : ℕ} {name : Bytes} {r : ℕ} (x : Index t
 
 -- ---- one name more
 
--- the stores of entry k, and of its number in a cell
+-- the stores of entry k, of its number in a cell, and of the count
 abbrev pub withEntry : List ℕ → ℕ → ℕ → ℕ → ℕ → List ℕ
 withEntry cells k at cell signal =
-    set (set (set (set (set cells (1024 + k * 4) cell) (1024 + k * 4 + 1) signal) (1024 + k * 4 + 2) 0) (1024 + k * 4 + 3) 0) at (k + 1)
+    set (set (set (set (set (set cells (1024 + k * 4) cell) (1024 + k * 4 + 1) signal) (1024 + k * 4 + 2) 0) (1024 + k * 4 + 3) 0) at (k + 1)) 6144 (k + 1)
 
 -- the cells after them, one by one
 record Stored (cells : List ℕ) (k at cell signal : ℕ) (cells′ : List ℕ) : Type 0 where
@@ -75,6 +85,7 @@ record Stored (cells : List ℕ) (k at cell signal : ℕ) (cells′ : List ℕ) 
   its-signal : signalAt cells′ k ≡ signal
   ends : (bits : ℕ) → getD cells′ (branch k bits) 0 ≡ 0
   linked : getD cells′ at 0 ≡ suc k
+  count : namesIn cells′ ≡ k + 1
   kept : (j : ℕ) → j < trees + k * entryWidth → (j ≡ at → ⊥) → getD cells′ j 0 ≡ getD cells j 0
 
 stored : (cells : List ℕ) (k at cell signal : ℕ) → indexCells ≤ length cells → k < maxNames → at < trees + k * entryWidth
@@ -89,23 +100,27 @@ stored cells k at cell signal r l s =
     let l2 : length c2 ≡ length cells = length-set c1 (a + 1) signal ∙ l1 in
     let l3 : length c3 ≡ length cells = length-set c2 (a + 2) 0 ∙ l2 in
     let l4 : length c4 ≡ length cells = length-set c3 (a + 3) 0 ∙ l3 in
-    let last : (j : ℕ) → (j ≡ at → ⊥) → getD (set c4 at (k + 1)) j 0 ≡ getD c4 j 0 = λ j u. getD-set-other c4 at j (k + 1) 0 u in
+    let c5 : List ℕ = set c4 at (k + 1) in
+    let l5 : length c5 ≡ length cells = length-set c4 at (k + 1) ∙ l4 in
+    let last : (j : ℕ) → j < 6144 → (j ≡ at → ⊥) → getD (set c5 6144 (k + 1)) j 0 ≡ getD c4 j 0 = λ j v u.
+    getD-set-other c5 6144 j (k + 1) 0 (λ z. omega arith) ∙ getD-set-other c4 at j (k + 1) 0 u in
     let low : (j : ℕ) → j < a + 2 → getD c4 j 0 ≡ getD c2 j 0 = λ j u.
     getD-set-other c3 (a + 3) j 0 0 (λ z. omega arith) ∙ getD-set-other c2 (a + 2) j 0 0 (λ z. omega arith) in
     record {
-      long = length-set c4 at (k + 1) ∙ l4;
-      name = last a (λ z. omega arith) ∙ low a (omega arith) ∙ getD-set-other c1 (a + 1) a signal 0 (λ z. omega arith) ∙ getD-set-same cells a cell 0 (omega arith);
-      its-signal = last (a + 1) (λ z. omega arith) ∙ low (a + 1) (omega arith) ∙ getD-set-same c1 (a + 1) signal 0 (omega (arith, l1));
+      long = length-set c5 6144 (k + 1) ∙ l5;
+      name = last a (omega arith) (λ z. omega arith) ∙ low a (omega arith) ∙ getD-set-other c1 (a + 1) a signal 0 (λ z. omega arith) ∙ getD-set-same cells a cell 0 (omega arith);
+      its-signal = last (a + 1) (omega arith) (λ z. omega arith) ∙ low (a + 1) (omega arith) ∙ getD-set-same c1 (a + 1) signal 0 (omega (arith, l1));
       ends = λ bits.
-          last (branch k bits) (λ z. omega arith)
+          last (branch k bits) (omega arith) (λ z. omega arith)
           ∙ by-order 1 (bits % 2)
           (λ u. let z : branch k bits ≡ a + 3 = omega arith in ap (λ (j : ℕ). getD c4 j 0) z ∙ getD-set-same c3 (a + 3) 0 0 (omega (arith, l3)))
           (λ u.
           let z : branch k bits ≡ a + 2 = omega arith in
           ap (λ (j : ℕ). getD c4 j 0) z ∙ getD-set-other c3 (a + 3) (a + 2) 0 0 (λ v. omega arith) ∙ getD-set-same c2 (a + 2) 0 0 (omega (arith, l2)));
-      linked = getD-set-same c4 at (k + 1) 0 (omega (arith, l4)) ∙ add-one k;
+      linked = getD-set-other c5 6144 at (k + 1) 0 (λ z. omega arith) ∙ getD-set-same c4 at (k + 1) 0 (omega (arith, l4)) ∙ add-one k;
+      count = getD-set-same c5 6144 (k + 1) 0 (omega (arith, l5));
       kept = λ j u n.
-          last j n ∙ low j (omega arith) ∙ getD-set-other c1 (a + 1) j signal 0 (λ z. omega arith) ∙ getD-set-other cells a j cell 0 (λ z. omega arith);
+          last j (omega arith) n ∙ low j (omega arith) ∙ getD-set-other c1 (a + 1) j signal 0 (λ z. omega arith) ∙ getD-set-other cells a j cell 0 (λ z. omega arith);
     }
 
 -- an entry is the new one or one of the others
@@ -166,6 +181,7 @@ module _ {text cells : List ℕ} {k at cell signal : ℕ} (x : Index text cells 
   index-new =
       record {
         room = omega (arith, x .room, w .long);
+        counted = w .count;
         few = omega arith;
         inside = inside-new;
         roots = roots-new;

@@ -1,16 +1,14 @@
 -- `read_tokens` marks the tokens and makes the tests of 4 to 6. Assumes nothing.
-use mathlib.Core.Path.{_≡_, refl, sym, ap, _∙_}
+use mathlib.Core.Path.{_≡_, refl, sym, _∙_}
 use mathlib.Core.List.{List}
 use Prim.Native.Nat.{ℕ, _≤_}
 use native.Mathlib.Omega.{arith}
 use lib.ListN.{length}
+use lib.Seq.{length-take-le}
 use borrow.Author.Needs.{needs}
 use Rattle.network.specs.Sizes.{maxPins}
 use Rattle.blif_text.specs.between.Places.{TokensMarked}
-use Rattle.blif_text.proofs.RefusalLaws.{stmts-start}
-use Rattle.blif_declarations.proofs.FrontLaws.{walk-count, walk-few, walk-decls, walk-front}
-use Rattle.blif_reading.specs.Read.{tooLarge}
-use Rattle.blif_read.proofs.Refusing.{holds-refused, bad-statement, passed-size, sized}
+use Rattle.blif_read.proofs.Refusing.{holds-refused, bad-statement, marked-stand, marked-few, passed-size, sized}
 use Rattle.blif_read.proofs.Lending.{enough-same}
 use Rattle.blif_read.proofs.read_tokens.Statement.{statement}
 use Rattle.blif_read.proofs.read_tokens.Tie as tie
@@ -36,42 +34,32 @@ enum-told c = search needs
 
 slice-aggregate-too-large : tie.Need-slice-aggregate-too-large
 slice-aggregate-too-large c =
-    let mark-tokens = c .before .before .before .before .before .before .before .mark-tokens in
-    let pre = c .before .before .before .before .before .before .before .before .before .before .before .before .before .before .before .pre in
-    let marked = mark-tokens .ensures .0 in
-    let room = fits marked (mark-tokens .kept .1 .0) (pre .0 .pins) in
-    let fine = sym (c .before .before .before .first-bad .ensures) ∙ c .before .enum-told .given .1 in
-    walk-count (stmts-start marked room fine)
+    let marked = c .before .before .before .before .before .before .before .mark-tokens in
+    sym (length-take-le _ _ (fits (marked .ensures .0) (marked .kept .1 .0) (c .before .before .before .before .before .before .before .before .before .before .before .before .before .before .before .pre .0 .pins)))
 
 too-large-requires : tie.Need-too-large-requires
 too-large-requires c κs =
-    let mark-tokens = c .before .before .before .before .before .before .before .mark-tokens in
     let pre = c .before .before .before .before .before .before .before .before .before .before .before .before .before .before .before .pre in
-    let marked = mark-tokens .ensures .0 in
-    let room = fits marked (mark-tokens .kept .1 .0) (pre .0 .pins) in
+    let marked = c .before .before .before .before .before .before .before .mark-tokens in
+    let room = fits (marked .ensures .0) (marked .kept .1 .0) (pre .0 .pins) in
     let fine = sym (c .before .before .before .first-bad .ensures) ∙ c .before .enum-told .given .1 in
-    let stands = stmts-start marked room fine in
-    (walk-front stands, walk-few stands (marked .few))
+    (marked-stand (pre .1) (marked .ensures .0) room fine, marked-few (pre .1) (marked .ensures .0) room fine)
 
 returns-2 : tie.Need-returns-2
 returns-2 c =
-    let mark-tokens = c .before .before .before .before .before .before .before .before .before .mark-tokens in
     let pre = c .before .before .before .before .before .before .before .before .before .before .before .before .before .before .before .before .before .pre in
-    let marked = mark-tokens .ensures .0 in
-    let room = fits marked (mark-tokens .kept .1 .0) (pre .0 .pins) in
+    let marked = c .before .before .before .before .before .before .before .before .before .mark-tokens in
+    let room = fits (marked .ensures .0) (marked .kept .1 .0) (pre .0 .pins) in
     let fine = sym (c .before .before .before .before .before .first-bad .ensures) ∙ c .before .before .before .enum-told .given .1 in
-    let large = sym (ap tooLarge (walk-decls (stmts-start marked room fine))) ∙ sym (c .before .too-large .ensures) ∙ c .if1 .taken in
-    holds-refused _ _ _ _ _ (passed-size (pre .1) marked room fine large)
+    holds-refused _ _ _ _ _ (passed-size (pre .1) (marked .ensures .0) room fine (sym (c .before .too-large .ensures) ∙ c .if1 .taken))
 
 read-names-requires : tie.Need-read-names-requires
 read-names-requires c κs =
-    let mark-tokens = c .before .before .before .before .before .before .before .before .before .before .before .before .before .before .mark-tokens in
     let pre = c .before .before .before .before .before .before .before .before .before .before .before .before .before .before .before .before .before .before .before .before .before .before .pre in
-    let marked = mark-tokens .ensures .0 in
-    let room = fits marked (mark-tokens .kept .1 .0) (pre .0 .pins) in
+    let marked = c .before .before .before .before .before .before .before .before .before .before .before .before .before .before .mark-tokens in
+    let room = fits (marked .ensures .0) (marked .kept .1 .0) (pre .0 .pins) in
     let fine = sym (c .before .before .before .before .before .before .before .before .before .before .first-bad .ensures) ∙ c .before .before .before .before .before .before .before .before .enum-told .given .1 in
-    let small = sym (ap tooLarge (walk-decls (stmts-start marked room fine))) ∙ sym (c .before .before .before .before .before .before .too-large .ensures) ∙ c .before .before .before .before .before .if1 .left in
-    (enough-same (pre .0) refl (mark-tokens .kept .1 .0) refl refl refl, sized (pre .1) marked room fine small)
+    (enough-same (pre .0) refl (marked .kept .1 .0) refl refl refl, (room, sized (pre .1) (marked .ensures .0) room fine (sym (c .before .before .before .before .before .before .too-large .ensures) ∙ c .before .before .before .before .before .if1 .left)))
 
 pub read-tokens-spec : {M : Type 1} → statement M
 read-tokens-spec =

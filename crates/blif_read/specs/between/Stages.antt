@@ -58,14 +58,14 @@ pub record PlainText (text : Bytes) : Type 0 where
   -- what is left of the refusals
   pub left : readFault text ≡ (firstBad (parsed text) orElse declFault (declsOf text))
 
--- by no refusal up to 6; n tokens are marked
-pub record Sized (text tokens : List ℕ) (n : ℕ) : Type 0 where
+-- by no refusal up to 6; these tokens are marked
+pub record Sized (text tokens : List ℕ) : Type 0 where
   -- the statements stand in the cells
-  pub stands : StmtsAt text tokens n 0
+  pub stands : StmtsAt text tokens (length tokens) 0
   -- no more tokens than a text may have
-  pub few : n ≤ maxTokens
+  pub few : length tokens ≤ maxTokens
   -- they declare what the text declares
-  pub declared : declsOf text ≡ decls (stmtsFrom text tokens n 0)
+  pub declared : declsOf text ≡ decls (stmtsFrom text tokens (length tokens) 0)
   -- within the sizes
   pub sized : tooLarge (declsOf text) ≡ false
   -- what is left of the refusals
@@ -74,9 +74,9 @@ pub record Sized (text tokens : List ℕ) (n : ℕ) : Type 0 where
       ≡ (naming false [] (declsOf text) orElse refuseIf (undefined (declsOf text)) refusal.Undefined orElse coverFaults (defs (declsOf text)))
 
 -- by no refusal up to 10; the names are in the index, and the outputs' names in the cells `outNames`
-pub record Defining (text tokens : List ℕ) (n : ℕ) (index outNames blocks : List ℕ) (i g o : ℕ) : Type 0 where
+pub record Defining (text tokens index outNames blocks : List ℕ) (i g o : ℕ) : Type 0 where
   -- the tables are the text's
-  pub tables : Tables (declsOf text) text tokens n index outNames blocks i g o
+  pub tables : Tables (declsOf text) text tokens (length tokens) index outNames blocks i g o
   -- within the sizes
   pub sized : tooLarge (declsOf text) ≡ false
   -- no name is defined twice
@@ -85,9 +85,9 @@ pub record Defining (text tokens : List ℕ) (n : ℕ) (index outNames blocks : 
   pub left : readFault text ≡ (refuseIf (undefined (declsOf text)) refusal.Undefined orElse coverFaults (defs (declsOf text)))
 
 -- by no refusal up to 10, and no output is undefined; the names are in the index, and the outputs' signals in their cells
-pub record Resolving (text tokens : List ℕ) (n : ℕ) (index outs blocks : List ℕ) (i g o : ℕ) : Type 0 where
+pub record Resolving (text tokens index outs blocks : List ℕ) (i g o : ℕ) : Type 0 where
   -- index and blocks are the text's
-  pub tables : Named (declsOf text) text tokens n index blocks i g o
+  pub tables : Named (declsOf text) text tokens (length tokens) index blocks i g o
   -- within the sizes
   pub sized : tooLarge (declsOf text) ≡ false
   -- no name is defined twice
@@ -100,15 +100,15 @@ pub record Resolving (text tokens : List ℕ) (n : ℕ) (index outs blocks : Lis
   pub left : readFault text ≡ (refuseIf (undefined (declsOf text)) refusal.Undefined orElse coverFaults (defs (declsOf text)))
 
 -- by no refusal up to 11; the gates first placed stand in the working cells, and the outputs' signals in theirs
-pub record Placing (text tokens : List ℕ) (n : ℕ) (blocks : List ℕ) (i g o : ℕ) (gates pinsIn outs : List ℕ) (used : ℕ) : Type 0 where
+pub record Placing (text tokens blocks : List ℕ) (i g o : ℕ) (gates pinsIn outs : List ℕ) (used : ℕ) : Type 0 where
   -- the inputs are counted
   pub inputs : i ≡ length (ins (declsOf text))
   -- the outputs are counted
   pub outputs : o ≡ length (names.outs (declsOf text))
   -- the records place blocks
-  pub blocks-in : Blocks text tokens n blocks g
+  pub blocks-in : Blocks text tokens (length tokens) blocks g
   -- which are the latches and covers
-  pub blocks-are : defsAt text tokens n blocks g ≡ defs (declsOf text)
+  pub blocks-are : defsAt text tokens (length tokens) blocks g ≡ defs (declsOf text)
   -- what is left of the refusals
   pub left : readFault text ≡ coverFaults (defs (declsOf text))
   -- the pins are counted

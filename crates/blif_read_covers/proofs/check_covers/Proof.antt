@@ -3,27 +3,28 @@
 use Prim.Native.Nat.{_-_}
 use native.Mathlib.Omega.{arith}
 use lib.ListN.{length}
+use borrow.Author.Needs.{needs}
 use Rattle.blif_read_covers.proofs.PassLaws.{Covers, Lines, Columns, names-end, last-there, line-some, enter-line, steps}
 use Rattle.blif_read_covers.proofs.check_covers.Statement.{statement}
 use Rattle.blif_read_covers.proofs.check_covers.Tie as tie
 
 abbrev Inv-loop2 : tie.InvT-loop2
-Inv-loop2 text tokens n blocks g j names lines at met k end columns output i₀ i = Columns text tokens n blocks g j names lines k end met columns output i
+Inv-loop2 text tokens blocks g j names lines at met k end columns output i₀ i = Columns text tokens (length tokens) blocks g j names lines k end met columns output i
 
 abbrev μ-loop2 : tie.MeasureT-loop2
-μ-loop2 text tokens n blocks g j names lines at met k end columns output i₀ i = length columns - i
+μ-loop2 text tokens blocks g j names lines at met k end columns output i₀ i = length columns - i
 
 abbrev Inv-loop : tie.InvT-loop
-Inv-loop text tokens n blocks g j names lines at₀ met₀ k₀ at met k = Lines text tokens n blocks g j names lines at met k
+Inv-loop text tokens blocks g j names lines at₀ met₀ k₀ at met k = Lines text tokens (length tokens) blocks g j names lines at met k
 
 abbrev μ-loop : tie.MeasureT-loop
-μ-loop text tokens n blocks g j names lines at₀ met₀ k₀ at met k = lines - k
+μ-loop text tokens blocks g j names lines at₀ met₀ k₀ at met k = lines - k
 
 abbrev Inv-pass : tie.InvT-pass
-Inv-pass text tokens n blocks g j₀ j = Covers text tokens n blocks g j
+Inv-pass text tokens blocks g j₀ j = Covers text tokens (length tokens) blocks g j
 
 abbrev μ-pass : tie.MeasureT-pass
-μ-pass text tokens n blocks g j₀ j = g - j
+μ-pass text tokens blocks g j₀ j = g - j
 
 pass-holds : tie.Need-pass-holds Inv-loop2 μ-loop2 Inv-loop μ-loop Inv-pass μ-pass
 pass-holds c = search steps
@@ -59,25 +60,21 @@ shared-slice-read-token :
 shared-slice-read-token c = search steps
 
 token-requires : tie.Need-token-requires Inv-loop2 μ-loop2 Inv-loop μ-loop Inv-pass μ-pass
-token-requires c κs = last-there (c .before .before .before .before .loop .inv) (c .before .before .before .loop-test .taken) (c .before .before .row-end .ensures)
+token-requires c κs = last-there (c .before .before .before .before .before .loop .inv) (c .before .before .before .row-end .ensures)
 
 output-of-requires : tie.Need-output-of-requires Inv-loop2 μ-loop2 Inv-loop μ-loop Inv-pass μ-pass
 output-of-requires c κs = search steps
 
-sub-line-fits : tie.Need-sub-line-fits Inv-loop2 μ-loop2 Inv-loop μ-loop Inv-pass μ-pass
-sub-line-fits c = search steps
-
 line-fits-requires : tie.Need-line-fits-requires Inv-loop2 μ-loop2 Inv-loop μ-loop Inv-pass μ-pass
 line-fits-requires c κs =
-    let loop = c .before .before .before .before .before .before .loop in
-    let loop-test = c .before .before .before .before .before .loop-test in
-    line-some (loop .inv) (loop-test .taken) (c .before .before .before .before .row-end .ensures)
+    let loop = c .before .before .before .before .before .before .before .loop in
+    let loop-test = c .before .before .before .before .before .before .loop-test in
+    line-some (loop .inv) (loop-test .taken) (c .before .before .before .before .before .row-end .ensures)
 
 loop2-holds : tie.Need-loop2-holds Inv-loop2 μ-loop2 Inv-loop μ-loop Inv-pass μ-pass
 loop2-holds c =
-    let before = c .before .before .before .before .before .before in
+    let r = c .before .before .before .before .before .before .before in
     let line-columns = c .before .before .before .before .before .line-columns in
-    let r = before in
     enter-line (r .before .before .loop .inv) (r .before .loop-test .taken) (r .row-end .ensures)
     (line-columns .ensures) (c .before .before .before .token .ensures) (c .before .before .output-of .ensures) (c .before .line-fits .ensures) (c .if2 .left)
 
@@ -150,13 +147,16 @@ check-covers-spec =
     add-at
     loop-holds
     row-end-requires
+    (λ c. search needs)
+    (λ c. search needs)
+    (λ c. search needs)
+    (λ c. search needs)
     line-columns-requires
     sub-token
     mul-token
     shared-slice-read-token
     token-requires
     output-of-requires
-    sub-line-fits
     line-fits-requires
     loop2-holds
     shared-slice-read-is-column

@@ -1,28 +1,29 @@
 -- `build_covers` builds block after block. Assumes nothing.
 use Prim.Native.Nat.{_-_}
 use native.Mathlib.Omega.{arith}
+use lib.ListN.{length}
 use Rattle.blif_text.specs.between.Blocks.{defsAt}
+use Rattle.blif_read_gates.proofs.BlockLaws.{blocks-to}
 use Rattle.blif_read_gates.proofs.Building.{Building, building-start, building-room, building-next, building-done}
 use Rattle.blif_read_gates.proofs.Counting.{defs-long, def-place}
 use Rattle.blif_read_gates.proofs.build_covers.Statement.{statement}
 use Rattle.blif_read_gates.proofs.build_covers.Tie as tie
 
 abbrev Inv-loop : tie.InvT-loop
-Inv-loop text tokens n blocks g gates₀ pins₀ used w₀ j₀ gates pins w j = Building (defsAt text tokens n blocks g) gates₀ pins₀ used g j (w .gates) (w .pins) gates pins
+Inv-loop text tokens blocks g gates₀ pins₀ used built₀ j₀ gates pins built j = Building (defsAt text tokens (length tokens) blocks g) gates₀ pins₀ used g j (built .gates) (built .pins) gates pins
 
 abbrev μ-loop : tie.MeasureT-loop
-μ-loop text tokens n blocks g gates₀ pins₀ used w₀ j₀ gates pins w j = g - j
+μ-loop text tokens blocks g gates₀ pins₀ used built₀ j₀ gates pins built j = g - j
 
 loop-holds : tie.Need-loop-holds Inv-loop μ-loop
 loop-holds c = building-start
 
 build-block-requires : tie.Need-build-block-requires Inv-loop μ-loop
 build-block-requires c κs =
-    let before = c .before .before .before .before .before .before .before .before .before in
+    let s = c .before .before .before .before .before .before .before .before .before in
     let l = c .before .before in
-    let s = before in
     let h = l .loop-test .taken in
-    ((h, s .pre .0), building-room (defs-long (s .args .text .now) (s .args .tokens .now) (s .args .n) (s .args .blocks .now) (s .args .g)) (s .pre .1) (l .before .loop .inv) (def-place (s .args .text .now) (s .args .tokens .now) (s .args .n) (s .args .blocks .now) (s .args .g) _ h))
+    (blocks-to (s .pre .0) h, building-room (defs-long (s .args .text .now) (s .args .tokens .now) (length (s .args .tokens .now)) (s .args .blocks .now) (s .args .g)) (s .pre .1) (l .before .loop .inv) (def-place (s .args .text .now) (s .args .tokens .now) (length (s .args .tokens .now)) (s .args .blocks .now) (s .args .g) _ h))
 
 add-j : tie.Need-add-j Inv-loop μ-loop
 add-j c = omega (arith, c .before .before .before .before .before .before .before .loop-test .taken)
@@ -32,12 +33,10 @@ loop-less c = omega (arith, c .before .before .before .before .before .before .b
 
 loop-again : tie.Need-loop-again Inv-loop μ-loop
 loop-again c =
-    let before = c .before .before .before .before .before .before .before .before .before .before .before .before .before .before in
-    let the-before = c .before .before .before .before .before .before .before in
-    let l = the-before in
-    let s = before in
+    let s = c .before .before .before .before .before .before .before .before .before .before .before .before .before .before in
+    let l = c .before .before .before .before .before .before .before in
     let p = c .before .before .before .before .build-block in
-    building-next (defs-long (s .args .text .now) (s .args .tokens .now) (s .args .n) (s .args .blocks .now) (s .args .g)) (s .pre .1) (l .before .loop .inv) (def-place (s .args .text .now) (s .args .tokens .now) (s .args .n) (s .args .blocks .now) (s .args .g) _ (l .loop-test .taken)) (p .ensures) (p .kept .1 .1 .1 .1 .1 .1 .0) (p .kept .1 .1 .1 .1 .1 .1 .1 .0)
+    building-next (defs-long (s .args .text .now) (s .args .tokens .now) (length (s .args .tokens .now)) (s .args .blocks .now) (s .args .g)) (s .pre .1) (l .before .loop .inv) (def-place (s .args .text .now) (s .args .tokens .now) (length (s .args .tokens .now)) (s .args .blocks .now) (s .args .g) _ (l .loop-test .taken)) (p .ensures) (p .kept .1 .1 .1 .1 .0) (p .kept .1 .1 .1 .1 .1 .0)
 
 same-length : tie.Need-same-length Inv-loop μ-loop
 same-length c = c .before .loop .inv .same-gates
@@ -47,9 +46,8 @@ same-length-2 c = c .before .loop .inv .same-pins
 
 returns : tie.Need-returns Inv-loop μ-loop
 returns c =
-    let before = c .before .before .before .before .before .before .before in
-    let s = before in
-    building-done (c .before .loop .w) (defs-long (s .args .text .now) (s .args .tokens .now) (s .args .n) (s .args .blocks .now) (s .args .g)) (s .pre .1) (c .before .loop .inv) (c .loop-test .left)
+    let s = c .before .before .before .before .before .before .before in
+    building-done (c .before .loop .built) (defs-long (s .args .text .now) (s .args .tokens .now) (length (s .args .tokens .now)) (s .args .blocks .now) (s .args .g)) (s .pre .1) (c .before .loop .inv) (c .loop-test .left)
 
 pub build-covers-spec : {M : Type 1} → statement M
 build-covers-spec =

@@ -7,10 +7,10 @@ use Rattle.blif_read_gates.proofs.put_joins.Statement.{statement}
 use Rattle.blif_read_gates.proofs.put_joins.Tie as tie
 
 abbrev Inv-loop : tie.InvT-loop
-Inv-loop pins₀ at next count i₀ pins i = Joining pins₀ pins at next count i
+Inv-loop pins₀ at next count k₀ pins k = Joining pins₀ pins at next count k
 
 abbrev μ-loop : tie.MeasureT-loop
-μ-loop pins₀ at next count i₀ pins i = count - i
+μ-loop pins₀ at next count k₀ pins k = count - k
 
 loop-holds : tie.Need-loop-holds Inv-loop μ-loop
 loop-holds c = joining-start

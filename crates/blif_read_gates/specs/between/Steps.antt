@@ -7,7 +7,6 @@ use mathlib.Core.Option.{some}
 use Prim.Native.Nat.{ℕ, zero, suc, _+_, _-_, _*_, _%_, _≤_, _<_}
 use lib.Dec.{eqb}
 use lib.ListN.{length, getElem?, take, drop}
-use lib.Seq.{slice}
 use Rattle.lists.specs.Lists.{Bytes, all, sumOf}
 use Rattle.lists.specs.between.Lists.{overwriteAt}
 use Rattle.refusals.specs.declared.Checked.the-variants.{Fine}
@@ -94,18 +93,14 @@ pub record LinePut (columns : Bytes) (one : Bool) (source at h : ℕ) (gates pin
   -- the pins' end
   pub end : r ≡ at + length (lineCells one (literalsAt columns source pinsIn))
 
--- the tokens of the row from a cell to another
-abbrev pub rowTokens : Bytes → List ℕ → ℕ → ℕ → List Bytes
-rowTokens text tokens row end = tokensOf text (slice row end tokens)
-
--- the row is a good line of a cover with so many inputs
-pub record GoodRow (text tokens : List ℕ) (row end inputs : ℕ) : Type 0 where
+-- the cells are those of a good line of a cover with so many inputs
+pub record GoodRow (text row : List ℕ) (inputs : ℕ) : Type 0 where
   -- a token is there
-  pub low : row < end
+  pub low : 0 < length row
   -- the tokens are places within the text
-  pub places : Inside text tokens end
+  pub places : Inside text row (length row)
   -- no refusal 12
-  pub good : goodLine inputs (rowTokens text tokens row end) ≡ true
+  pub good : goodLine inputs (tokensOf text row) ≡ true
 
 -- ---- the lines of a cover
 

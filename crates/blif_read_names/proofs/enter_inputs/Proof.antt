@@ -3,6 +3,7 @@ use mathlib.Core.Path.{_∙_}
 use Prim.Native.Nat.{_-_}
 use native.Mathlib.Omega.{arith}
 use borrow.Author.Tests.{not-true, not-false}
+use Rattle.name_index.proofs.IndexLaws.{index-counted, entered-counted}
 use Rattle.blif_read_names.proofs.Entering.{Entering, entering-start, entering-known, entering-next, entering-done}
 use Rattle.blif_read_names.proofs.enter_inputs.Statement.{statement}
 use Rattle.blif_read_names.proofs.enter_inputs.Tie as tie
@@ -22,9 +23,6 @@ cast-from-input c = omega (arith, c .before .loop .inv .counted, c .before .loop
 from-input-requires : tie.Need-from-input-requires Inv-loop μ-loop
 from-input-requires c κs = tt
 
-add-enter-name : tie.Need-add-enter-name Inv-loop μ-loop
-add-enter-name c = omega (arith, c .before .before .before .loop .inv .index-is .few)
-
 mul-enter-name : tie.Need-mul-enter-name Inv-loop μ-loop
 mul-enter-name c = omega (arith, c .before .before .before .loop .inv .places .room, c .before .before .loop-test .taken)
 
@@ -34,7 +32,7 @@ shared-slice-read-enter-name c = omega (arith, c .before .before .before .before
 enter-name-requires : tie.Need-enter-name-requires Inv-loop μ-loop
 enter-name-requires c κs =
     let v = c .before .before .before .before .loop .inv in
-    (v .index-is, (omega (arith, v .counted, v .inputs-few, v .gates-few, v .low, c .before .before .before .loop-test .taken), v .places .inside (c .before .before .before .before .loop .j) (c .before .before .before .loop-test .taken)))
+    (index-counted (v .index-is), (omega (arith, v .index-is .counted, v .counted, v .inputs-few, v .gates-few, v .low, c .before .before .before .loop-test .taken), v .places .inside (c .before .before .before .before .loop .j) (c .before .before .before .loop-test .taken)))
 
 same-length : tie.Need-same-length Inv-loop μ-loop
 same-length c = c .before .before .before .enter-name .kept .1 .0 ∙ c .before .before .before .before .before .before .before .before .loop .inv .kept
@@ -43,7 +41,7 @@ returns : tie.Need-returns Inv-loop μ-loop
 returns c =
     let loop = c .before .before .before .before .before .before .before .before .loop in
     let loop-test = c .before .before .before .before .before .before .before .loop-test in
-    entering-known (loop .inv) (loop-test .taken) (c .before .before .before .enter-name .ensures) (not-true _ (c .if1 .taken))
+    entering-known (loop .inv) (loop-test .taken) (entered-counted (loop .inv .index-is) (c .before .before .before .enter-name .ensures)) (not-true _ (c .if1 .taken))
 
 add-j : tie.Need-add-j Inv-loop μ-loop
 add-j c =
@@ -62,7 +60,7 @@ loop-again c =
     let loop = c .before .before .before .before .before .before .before .before .loop in
     let loop-test = c .before .before .before .before .before .before .before .loop-test in
     let from-input = c .before .before .before .before .before .before .from-input in
-    entering-next (loop .inv) (loop-test .taken) (c .before .before .before .enter-name .ensures) (not-false _ (c .if1 .left)) (from-input .ensures) (c .before .before .before .enter-name .kept .1 .0)
+    entering-next (loop .inv) (loop-test .taken) (entered-counted (loop .inv .index-is) (c .before .before .before .enter-name .ensures)) (not-false _ (c .if1 .left)) (from-input .ensures) (c .before .before .before .enter-name .kept .1 .0)
 
 same-length-2 : tie.Need-same-length-2 Inv-loop μ-loop
 same-length-2 c = c .before .loop .inv .kept
@@ -79,7 +77,6 @@ enter-inputs-spec =
     loop-holds
     cast-from-input
     from-input-requires
-    add-enter-name
     mul-enter-name
     shared-slice-read-enter-name
     enter-name-requires

@@ -2,19 +2,20 @@
 use mathlib.Core.Path.{_∙_}
 use Prim.Native.Nat.{_-_}
 use native.Mathlib.Omega.{arith}
+use lib.ListN.{length}
 use borrow.Author.Needs.{needs}
 use Rattle.blif_text.specs.between.Blocks.{defAt}
 use Rattle.name_index.specs.between.Search.{signalIn}
-use Rattle.name_index.specs.between.Index.{entriesOf}
+use Rattle.name_index.specs.between.Index.{namesIn, entriesOf}
 use Rattle.blif_read_signals.proofs.Placing.{Placing, placing-start, placing-room, placing-stops, placing-next, placing-done, blocks-to}
 use Rattle.blif_read_signals.proofs.place_gates.Statement.{statement}
 use Rattle.blif_read_signals.proofs.place_gates.Tie as tie
 
 abbrev Inv-loop : tie.InvT-loop
-Inv-loop text tokens n index k blocks g gates₀ pins₀ at₀ j₀ gates pins at j = Placing (signalIn (entriesOf text index k)) (defAt text tokens n blocks) g gates₀ pins₀ gates pins j at
+Inv-loop text tokens index blocks g gates₀ pins₀ at₀ j₀ gates pins at j = Placing (signalIn (entriesOf text index (namesIn index))) (defAt text tokens (length tokens) blocks) g gates₀ pins₀ gates pins j at
 
 abbrev μ-loop : tie.MeasureT-loop
-μ-loop text tokens n index k blocks g gates₀ pins₀ at₀ j₀ gates pins at j = g - j
+μ-loop text tokens index blocks g gates₀ pins₀ at₀ j₀ gates pins at j = g - j
 
 loop-holds : tie.Need-loop-holds Inv-loop μ-loop
 loop-holds c =
@@ -29,11 +30,11 @@ place-block-requires c κs =
 
 same-length : tie.Need-same-length Inv-loop μ-loop
 same-length c =
-    c .before .before .before .before .before .before .before .place-block .kept .1 .1 .1 .1 .1 .1 .1 .0 ∙ c .before .before .before .before .before .before .before .before .before .before .before .loop .inv .same-gates
+    c .before .before .before .before .before .before .before .place-block .kept .1 .1 .1 .1 .1 .0 ∙ c .before .before .before .before .before .before .before .before .before .before .before .loop .inv .same-gates
 
 same-length-2 : tie.Need-same-length-2 Inv-loop μ-loop
 same-length-2 c =
-    c .before .before .before .before .before .before .before .place-block .kept .1 .1 .1 .1 .1 .1 .1 .1 .0 ∙ c .before .before .before .before .before .before .before .before .before .before .before .loop .inv .same-pins
+    c .before .before .before .before .before .before .before .place-block .kept .1 .1 .1 .1 .1 .1 .0 ∙ c .before .before .before .before .before .before .before .before .before .before .before .loop .inv .same-pins
 
 returns : tie.Need-returns Inv-loop μ-loop
 returns c =

@@ -1,38 +1,30 @@
 -- `place_latch` finds the input, and lays a flip-flop. Assumes nothing.
-use mathlib.Core.Path.{_≡_, ap, _∙_, subst}
-use Prim.Native.Nat.{ℕ, _+_}
+use mathlib.Core.Path.{_≡_, ap, _∙_}
+use Prim.Native.Nat.{_+_}
 use native.Mathlib.Omega.{arith}
 use lib.ListN.{getD}
 use borrow.Author.Needs.{needs}
-use Rattle.blif_text.specs.between.Places.{InText, tokenOf}
+use Rattle.blif_text.specs.between.Places.{tokenOf}
 use Rattle.name_index.specs.between.Search.{signalIn}
-use Rattle.name_index.specs.between.Index.{entriesOf}
+use Rattle.name_index.specs.between.Index.{namesIn, entriesOf}
 use Rattle.blif_read_signals.proofs.OneGate.{latch-missing, latch-fits, latch-placed}
 use Rattle.blif_read_signals.proofs.place_latch.Statement.{statement}
 use Rattle.blif_read_signals.proofs.place_latch.Tie as tie
-use Rattle.blif_text.proofs.token.Reads as token-reads
-use Rattle.name_index.proofs.find_signal.Reads as find-signal-reads
-use Rattle.network.proofs.lay_gate.Reads as lay-gate-reads
-use Rattle.signal.proofs.Signal.one.Reads as one-reads
-use Rattle.signal.proofs.Signal.zero.Reads as zero-reads
 
 token-requires : tie.Need-token-requires
-token-requires c κs =
-    let h = c .before .before .before .before .before .before .pre .0 .1 in
-    let z : c .before .before .before .before .before .before .args .first + 0 ≡ c .before .before .before .before .before .before .args .first = omega arith in
-    subst (λ (i : ℕ). InText (c .before .before .before .before .before .before .args .text .now) (getD (c .before .before .before .before .before .before .args .tokens .now) i 0)) z (h .inside 0 (omega arith))
+token-requires c κs = c .before .before .before .before .before .before .pre .0 .1 .inside _ (omega arith)
 
 returns : tie.Need-returns
 returns c =
     let s = c .before .before .before .before .before .before .before .before .before .args in
     let name = c .before .before .token .ensures in
-    latch-missing (signalIn (entriesOf (s .text .now) (s .index .now) (s .k))) (tokenOf (s .text .now) (getD (s .tokens .now) (s .first) 0)) (tokenOf (s .text .now) (getD (s .tokens .now) (s .first + 1) 0))
-    (c .before .find-signal .ensures ∙ ap (signalIn (entriesOf (s .text .now) (s .index .now) (s .k))) name) (s .j) (s .at) (s .gates .now) (s .pins .now) (c .if1 .taken)
+    latch-missing (signalIn (entriesOf (s .text .now) (s .index .now) (namesIn (s .index .now)))) (tokenOf (s .text .now) (getD (s .tokens .now) (s .first) 0)) (tokenOf (s .text .now) (getD (s .tokens .now) (s .first + 1) 0))
+    (c .before .find-signal .ensures ∙ ap (signalIn (entriesOf (s .text .now) (s .index .now) (namesIn (s .index .now)))) name) (s .j) (s .at) (s .gates .now) (s .pins .now) (c .if1 .taken)
 
 lay-gate-requires : tie.Need-lay-gate-requires
 lay-gate-requires c κs =
     let s = c .before .before .before .before .before .before .before .before .before .before .before .before .before .args in
-    let sig = signalIn (entriesOf (s .text .now) (s .index .now) (s .k)) in
+    let sig = signalIn (entriesOf (s .text .now) (s .index .now) (namesIn (s .index .now))) in
     let x = tokenOf (s .text .now) (getD (s .tokens .now) (s .first) 0) in
     let y = tokenOf (s .text .now) (getD (s .tokens .now) (s .first + 1) 0) in
     let e : c .before .before .before .before .before .find-signal .result ≡ sig x = c .before .before .before .before .before .find-signal .ensures ∙ ap sig (c .before .before .before .before .before .before .token .ensures) in
@@ -41,7 +33,7 @@ lay-gate-requires c κs =
 returns-2 : tie.Need-returns-2
 returns-2 c =
     let s = c .before .before .before .before .before .before .before .before .before .before .before .before .before .before .before .before .before .before .args in
-    let sig = signalIn (entriesOf (s .text .now) (s .index .now) (s .k)) in
+    let sig = signalIn (entriesOf (s .text .now) (s .index .now) (namesIn (s .index .now))) in
     let x = tokenOf (s .text .now) (getD (s .tokens .now) (s .first) 0) in
     let y = tokenOf (s .text .now) (getD (s .tokens .now) (s .first + 1) 0) in
     let e : c .before .before .before .before .before .before .before .before .before .before .find-signal .result ≡ sig x = c .before .before .before .before .before .before .before .before .before .before .find-signal .ensures ∙ ap sig (c .before .before .before .before .before .before .before .before .before .before .before .token .ensures) in

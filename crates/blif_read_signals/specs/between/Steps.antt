@@ -4,7 +4,7 @@ use mathlib.Core.Bool.{true}
 use mathlib.Core.List.{List, [], _∷_, map}
 use mathlib.Core.Option.{Option, none, some}
 use Prim.Native.Nat.{ℕ, _+_, _*_, _≤_, _<_}
-use lib.ListN.{length, getD}
+use lib.ListN.{length}
 use Rattle.lists.specs.Lists.{Bytes, all}
 use Rattle.lists.specs.between.Lists.{overwriteAt}
 use Rattle.network.specs.Sizes.{maxGates, maxPins}
@@ -13,18 +13,10 @@ use Rattle.gates.specs.declared.Gate.the-variants as G
 use Rattle.gates.specs.declared.NaryType.the-variants as N
 use Rattle.network.specs.Record.{gateWidth}
 use Rattle.network.specs.between.Record.{handRecord}
-use Rattle.blif_text.specs.between.Places.{InText}
 use Rattle.blif_text.specs.Decls.{Def, latch, cover, coverIns, usedNames}
 use Rattle.blif_reading.specs.between.Working.{WorkRoom}
 use Rattle.blif_read_signals.specs.between.Resolve.{isFound, placedTo}
 use Rattle.blif_read_signals.specs.declared.Placed.{Placed}
-
--- names stand in the text, by count cells from token first on
-pub record NamesAt (text tokens : List ℕ) (first count : ℕ) : Type 0 where
-  -- the cells are there
-  pub room : first + count ≤ length tokens
-  -- each is a place within the text
-  pub inside : (i : ℕ) → i < count → InText text (getD tokens (first + i) 0)
 
 -- there is room for gate j's record, and for its pins from cell at on
 pub record GateRoom (gates pinsIn : List ℕ) (j at count : ℕ) : Type 0 where

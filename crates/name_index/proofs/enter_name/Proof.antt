@@ -1,4 +1,4 @@
--- `enter_name` searches the name's tree, and stores an entry and its number where the search ended. Assumes nothing.
+-- `enter_name` searches the name's tree, and stores an entry, its number where the search ended, and the count. Assumes nothing.
 use native.Mathlib.Omega.{arith}
 use lib.ListN.{length-set}
 use borrow.Author.Needs.{needs}
@@ -18,6 +18,9 @@ slice-write-index-3 c = simp length-set (omega arith)
 slice-write-index-4 : tie.Need-slice-write-index-4
 slice-write-index-4 c = simp length-set (omega arith)
 
+same-length-2 : tie.Need-same-length-2
+same-length-2 c = simp length-set
+
 returns-2 : tie.Need-returns-2
 returns-2 c = search (entered-new, needs)
 
@@ -27,6 +30,7 @@ enter-name-spec =
     (tie.spec
     (λ c κs. search needs) (λ c κs. search needs) (λ c. search needs) (λ c. search needs) (λ c. search needs)
     returns (λ c. search needs) (λ c. search needs) (λ c. search needs) (λ c. search needs) (λ c. search needs)
-    (λ c. search needs) slice-write-index-2 (λ c. search needs) (λ c. search needs) slice-write-index-3
-    (λ c. search needs) (λ c. search needs) slice-write-index-4 (λ c. search needs) (λ c. search needs)
-    (λ c. search needs) (λ c. search needs) (λ c. search needs) returns-2)
+    (λ c. search needs) (λ c. search needs) (λ c. search needs) slice-write-index-2 (λ c. search needs)
+    (λ c. search needs) slice-write-index-3 (λ c. search needs) (λ c. search needs) slice-write-index-4
+    (λ c. search needs) (λ c. search needs) (λ c. search needs) (λ c. search needs) (λ c. search needs)
+    (λ c. search needs) (λ c. search needs) same-length-2 returns-2)

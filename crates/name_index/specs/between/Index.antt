@@ -21,9 +21,13 @@ maxNames = 1280
 abbrev pub entryWidth : ℕ
 entryWidth = 4
 
--- the cells of an index: the first entry of each tree, then the entries
+-- the cells of an index: the first entry of each tree, then the entries, and how many there are
 abbrev pub indexCells : ℕ
-indexCells = trees + maxNames * entryWidth
+indexCells = trees + maxNames * entryWidth + 1
+
+-- how many names the index has: its last cell
+abbrev pub namesIn : List ℕ → ℕ
+namesIn cells = getD cells (trees + maxNames * entryWidth) 0
 
 -- the place of entry e's name
 abbrev pub nameAt : List ℕ → ℕ → ℕ
@@ -88,6 +92,8 @@ pub record Leads (cells : List ℕ) (at bits e : ℕ) : Type 0 where
 pub record Index (text cells : List ℕ) (k : ℕ) : Type 0 where
   -- as many cells as an index has
   pub room : indexCells ≤ length cells
+  -- the last cell counts them
+  pub counted : namesIn cells ≡ k
   -- no more names than may be defined
   pub few : k ≤ maxNames
   -- each is within the text
