@@ -13,15 +13,15 @@ ghost use Rattle.blif_declarations.specs.between.Rows.{RowIs, isCube, Li
 ghost use Rattle.blif_declarations.specs.between.Declarations.{NextIs, Declares};
 
 // A row of tokens: its statement, and where the next row starts.
-pub struct Row {
-    pub statement: Statement,
-    pub end: usize,
+struct Row {
+    statement: Statement,
+    end: usize,
 }
 
 // How many cube lines stand at a place, and the place behind them.
-pub struct Lines {
-    pub count: usize,
-    pub end: usize,
+struct Lines {
+    count: usize,
+    end: usize,
 }
 
 // A declaration by its places in the tokens: runs of names, a latch by the place of its first name, a cover with its lines; or
@@ -43,7 +43,7 @@ pub struct Next {
 }
 
 // The row that starts at a place.
-pub fn row_at(text: &[u8], tokens: &[u32], at: usize) -> Row
+fn row_at(text: &[u8], tokens: &[u32], at: usize) -> Row
     requires { ⌜ StmtsAt (now text) (now tokens) (length (now tokens)) at × (at < length (now tokens)) ⌝ }
     ensures { λ r. ⌜ RowIs (now (text .entry)) (now (tokens .entry)) (length (now (tokens .entry))) at (r .end) (r .statement) ⌝ }
 {
@@ -63,7 +63,7 @@ fn is_cube(statement: Statement) -> bool
 }
 
 // The cube lines that stand directly at a place.
-pub fn cover_lines(text: &[u8], tokens: &[u32], at: usize) -> Lines
+fn cover_lines(text: &[u8], tokens: &[u32], at: usize) -> Lines
     requires { ⌜ StmtsAt (now text) (now tokens) (length (now tokens)) at ⌝ }
     ensures { λ r. ⌜ LinesAt (now (text .entry)) (now (tokens .entry)) (length (now (tokens .entry))) at (r .count) (r .end) ⌝ }
 {

@@ -75,18 +75,18 @@ module _ {Name : Type 0} where
 
   -- the name that a latch or a cover defines
   abbrev pub target : Block Name → Name
-  target (Latch l) = l .output
+  target (Latch d) = d .output
   target (Cover xs y ls) = y
 
   -- a latch's output is its held value, a cover's its function of its inputs
   abbrev pub blockBit : (Name → Bool) → Bool → Block Name → Bool
-  blockBit env h (Latch l) = h
+  blockBit env h (Latch d) = h
   blockBit env h (Cover xs y ls) = coverBit ls (map env xs)
 
   -- what a latch holds next: its input's value; of a `.flop`, a reset of one gives zero, else an enable of one takes the input, else
   -- the value is held
   abbrev pub nextHeld : (Name → Bool) → Bool → LatchDef Name → Bool
-  nextHeld env h l = cond (optional env false (l .reset)) false (cond (optional env true (l .enable)) (env (l .input)) h)
+  nextHeld env h d = cond (optional env false (d .reset)) false (cond (optional env true (d .enable)) (env (d .input)) h)
 
   -- the names' values at one clock fit the input row and the latches' held values
   pub record BlifFits (m : Model Name) (row : List Bool) (held env : Name → Bool) : Type 0 where
@@ -104,7 +104,7 @@ module _ {Name : Type 0} where
     -- the outputs in order
     pub answers : out ≡ map env (m .outputs)
     -- each latch takes what it holds next
-    pub steps : (l : LatchDef Name) → List·Memᴰ (Latch l) (m .blocks) → next (l .output) ≡ nextHeld env (held (l .output)) l
+    pub steps : (d : LatchDef Name) → List·Memᴰ (Latch d) (m .blocks) → next (d .output) ≡ nextHeld env (held (d .output)) d
 
   -- the outputs that the model gives for these rows, from all latches at 0
   abbrev pub BlifRuns : Model Name → List (List Bool) → List (List Bool) → Type 0

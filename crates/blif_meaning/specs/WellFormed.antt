@@ -22,11 +22,11 @@ module _ {Name : Type 0} where
 
   -- the names that a latch uses
   abbrev pub latchUses : LatchDef Name → List Name
-  latchUses l = l .input ∷ (optName (l .enable) ++ optName (l .reset))
+  latchUses d = d .input ∷ (optName (d .enable) ++ optName (d .reset))
 
   -- the names that a block uses
   abbrev pub sources : Block Name → List Name
-  sources (Latch l) = latchUses l
+  sources (Latch d) = latchUses d
   sources (Cover xs y ls) = xs
 
   -- the name is an input, or a latch or a cover defines it
@@ -47,7 +47,7 @@ GoodLines n o (l ∷ ls) = (length (l .cols) ≡ n) × (l .out ≡ o) × GoodLin
 
 -- a cover with good lines; a latch is always good
 abbrev pub GoodBlock : {Name : Type 0} → Block Name → Type 0
-GoodBlock (Latch l) = Unit {0}
+GoodBlock (Latch d) = Unit {0}
 GoodBlock (Cover xs y ls) = (o : Bool) × GoodLines (length xs) o ls
 
 -- a model in which every name that is used has just one definition, and every cover a function

@@ -22,11 +22,11 @@ literals (Dash ∷ cs) (s ∷ ss) = literals cs ss
 -- the inverted literal, Buf(zero)"
 abbrev pub literalGate : Bool → List Signal → Gate
 literalGate true [] = Comb Buf (oneS ∷ [])
-literalGate true (l ∷ []) = Comb Buf (l ∷ [])
-literalGate true (l ∷ k ∷ ls) = Comb AndN (l ∷ k ∷ ls)
+literalGate true (s ∷ []) = Comb Buf (s ∷ [])
+literalGate true (s ∷ s′ ∷ ss) = Comb AndN (s ∷ s′ ∷ ss)
 literalGate false [] = Comb Buf (zeroS ∷ [])
-literalGate false (l ∷ []) = Comb Buf (invert l ∷ [])
-literalGate false (l ∷ k ∷ ls) = Comb NandN (l ∷ k ∷ ls)
+literalGate false (s ∷ []) = Comb Buf (invert s ∷ [])
+literalGate false (s ∷ s′ ∷ ss) = Comb NandN (s ∷ s′ ∷ ss)
 
 -- the gate of a row over these inputs
 abbrev pub lineGate : List Signal → Line → Gate
@@ -42,28 +42,28 @@ gateRun k (suc n) = plain (Var k) ∷ gateRun (suc k) n
 abbrev pub coverGate : ℕ → List Signal → List Line → Gate
 coverGate k ss [] = Comb Buf (zeroS ∷ [])
 coverGate k ss (l ∷ []) = lineGate ss l
-coverGate k ss (l ∷ m ∷ ls) = Comb (cond (l .out) OrN AndN) (gateRun k (suc (suc (length ls))))
+coverGate k ss (l ∷ l′ ∷ ls) = Comb (cond (l .out) OrN AndN) (gateRun k (suc (suc (length ls))))
 
 -- "With two or more lines each is a new gate"
 abbrev pub lineGates : List Signal → List Line → List Gate
 lineGates ss [] = []
 lineGates ss (l ∷ []) = []
-lineGates ss (l ∷ m ∷ ls) = map (lineGate ss) (l ∷ m ∷ ls)
+lineGates ss (l ∷ l′ ∷ ls) = map (lineGate ss) (l ∷ l′ ∷ ls)
 
 module _ {Name : Type 0} where
   module _ (signalOf : Name → Signal) where
     -- the gate of a latch: "A latch is Dff(input, one, zero)", where enable and reset are left out
     abbrev pub latchGate : LatchDef Name → Gate
-    latchGate l = Dff (record { dataIn = signalOf (l .input); enable = optional signalOf oneS (l .enable); reset = optional signalOf zeroS (l .reset) })
+    latchGate d = Dff (record { dataIn = signalOf (d .input); enable = optional signalOf oneS (d .enable); reset = optional signalOf zeroS (d .reset) })
 
     -- the gate of a block; k is the number of the next gate of a line
     abbrev pub blockGate : ℕ → Block Name → Gate
-    blockGate k (Latch l) = latchGate l
+    blockGate k (Latch d) = latchGate d
     blockGate k (Cover xs y ls) = coverGate k (map signalOf xs) ls
 
     -- the new gates of a block
     abbrev pub newGates : Block Name → List Gate
-    newGates (Latch l) = []
+    newGates (Latch d) = []
     newGates (Cover xs y ls) = lineGates (map signalOf xs) ls
 
     -- "Each `.latch` and `.names` is a gate in text order"

@@ -31,12 +31,12 @@ added k = if ltb 1 k then k else 0
 
 -- "a `.latch` is one gate"; "a `.names` .. one gate, plus k gates when k is 2 or more"
 unfoldable pub gateCount : Def → ℕ
-gateCount (latch l) = 1
+gateCount (latch d) = 1
 gateCount (cover ns ls) = 1 + added (length ls)
 
 -- "a `.latch` is .. three pins; a `.names` with n names before its last and k cube lines is (k + 1) × (n + 2) pins"
 unfoldable pub pinCount : Def → ℕ
-pinCount (latch l) = 3
+pinCount (latch d) = 3
 pinCount (cover ns ls) = (length ls + 1) * (length ns - 1 + 2)
 
 -- "6 when a size is passed"
@@ -58,7 +58,7 @@ naming seen earlier (model ∷ ds) = refuseIf seen refusal.SecondModel orElse na
 naming seen earlier (end ∷ ds) = refuseIf (not seen) refusal.EndBeforeModel orElse naming seen earlier ds
 naming seen earlier (inputs ns ∷ ds) = refuseIf (definedTwice earlier ns) refusal.DefinedTwice orElse naming seen (earlier ++ ns) ds
 naming seen earlier (outputs ns ∷ ds) = naming seen earlier ds
-naming seen earlier (gate (latch l) ∷ ds) = refuseIf (known (l .output) earlier) refusal.DefinedTwice orElse naming seen (earlier ++ (l .output ∷ [])) ds
+naming seen earlier (gate (latch d) ∷ ds) = refuseIf (known (d .output) earlier) refusal.DefinedTwice orElse naming seen (earlier ++ (d .output ∷ [])) ds
 naming seen earlier (gate (cover [] ls) ∷ ds) = Refused refusal.NamesEmpty
 naming seen earlier (gate (cover (n ∷ ns) ls) ∷ ds) =
     refuseIf (known (coverOut (n ∷ ns)) earlier) refusal.DefinedTwice orElse naming seen (earlier ++ (coverOut (n ∷ ns) ∷ [])) ds
@@ -78,13 +78,13 @@ isColumn c = elem c (48 ∷ 49 ∷ 45 ∷ [])
 -- "12 when a line has neither one nor two tokens, or the wrong number of columns, a column other than 0, 1, dash, or an output
 -- other than 0, 1"
 unfoldable pub goodLine : ℕ → List Bytes → Bool
-goodLine n ts =
-    elem (length ts) (1 ∷ 2 ∷ []) && eqb n (length (columns ts)) && all isColumn (columns ts)
+goodLine width ts =
+    elem (length ts) (1 ∷ 2 ∷ []) && eqb width (length (columns ts)) && all isColumn (columns ts)
     && known (output ts) ((48 ∷ []) ∷ (49 ∷ []) ∷ [])
 
 -- "13 when its lines are all good but differ in output"
 unfoldable pub coverFault : Def → Checked
-coverFault (latch l) = Fine
+coverFault (latch d) = Fine
 coverFault (cover ns ls) =
     refuseIf (not (all (goodLine (length ns - 1)) ls)) refusal.WrongCubeLine
     orElse refuseIf (any isOne ls && not (all isOne ls)) refusal.OutputsDiffer
@@ -106,11 +106,11 @@ declFault ds =
 
 -- "2 when the text is over 32,768 bytes. 3 when it has a byte of 128 or more", then 4 and 5, then 6 to 13
 unfoldable pub readFault : Bytes → Checked
-readFault s =
-    refuseIf (ltb maxText (length s)) refusal.TextTooLong
-    orElse refuseIf (any (leb 128) s) refusal.HighByte
-    orElse firstBad (parsed s)
-    orElse declFault (declsOf s)
+readFault text =
+    refuseIf (ltb maxText (length text)) refusal.TextTooLong
+    orElse refuseIf (any (leb 128) text) refusal.HighByte
+    orElse firstBad (parsed text)
+    orElse declFault (declsOf text)
 
 -- a network, or a refusal
 pub data Result : Type 0 where
@@ -120,8 +120,8 @@ pub data Result : Type 0 where
 -- "14 at a combinational loop among the gates as built"
 unfoldable pub answer : Checked → Option Net → Result
 answer Fine none = refused refusal.CombinationalLoop
-answer Fine (some n) = read n
-answer (Refused r) n = refused r
+answer Fine (some net) = read net
+answer (Refused r) net = refused r
 
 -- the signal of a name that these declarations define
 abbrev pub signalOf : List Decl → Bytes → Signal
@@ -133,4 +133,4 @@ builtFrom ds = build (signalOf ds) (modelOf ds)
 
 -- what reading gives, where the cells suffice: a refusal, or the gates as built, and "Then the network is sorted"
 unfoldable pub readText : Bytes → Result
-readText s = answer (readFault s) (sorted (builtFrom (declsOf s)))
+readText text = answer (readFault text) (sorted (builtFrom (declsOf text)))

@@ -17,7 +17,7 @@ lineOf ts = record { cols = map colOfByte (columns ts); out = isOne ts }
 
 -- the block of a latch or a cover
 abbrev pub blockOf : Def → Block Bytes
-blockOf (latch l) = Latch l
+blockOf (latch d) = Latch d
 blockOf (cover ns ls) = Cover (coverIns ns) (coverOut ns) (map lineOf ls)
 
 -- the model of declarations
@@ -26,4 +26,4 @@ modelOf ds = record { inputs = ins ds; outputs = outs ds; blocks = map blockOf (
 
 -- the model of a text
 abbrev pub modelOfText : Bytes → Model Bytes
-modelOfText s = modelOf (declsOf s)
+modelOfText text = modelOf (declsOf text)

@@ -29,7 +29,7 @@ cubes (Stmt.exdc ∷ ss) = []
 cubes (Stmt.inputs ns ∷ ss) = []
 cubes (Stmt.outputs ns ∷ ss) = []
 cubes (Stmt.names ns ∷ ss) = []
-cubes (Stmt.latch l ∷ ss) = []
+cubes (Stmt.latch d ∷ ss) = []
 cubes (Stmt.cube ts ∷ ss) = ts ∷ cubes ss
 
 -- "`.exdc` stops naming and building"; cube lines "elsewhere .. are not looked at"; "statements after `.end` still count"
@@ -41,12 +41,12 @@ decls (Stmt.exdc ∷ ss) = []
 decls (Stmt.inputs ns ∷ ss) = inputs ns ∷ decls ss
 decls (Stmt.outputs ns ∷ ss) = outputs ns ∷ decls ss
 decls (Stmt.names ns ∷ ss) = gate (cover ns (cubes ss)) ∷ decls ss
-decls (Stmt.latch l ∷ ss) = gate (latch l) ∷ decls ss
+decls (Stmt.latch d ∷ ss) = gate (latch d) ∷ decls ss
 decls (Stmt.cube ts ∷ ss) = decls ss
 
 -- the declarations of a text
 unfoldable pub declsOf : Bytes → List Decl
-declsOf s = decls (stmts (parsed s))
+declsOf text = decls (stmts (parsed text))
 
 -- what a declaration adds to the inputs' names
 unfoldable pub insOf : Decl → List Bytes
@@ -94,12 +94,12 @@ coverIns ns = take (length ns - 1) ns
 
 -- the name that a gate defines
 unfoldable pub defines : Def → Bytes
-defines (latch l) = l .output
+defines (latch d) = d .output
 defines (cover ns ls) = coverOut ns
 
 -- the names that a gate uses
 unfoldable pub usedNames : Def → List Bytes
-usedNames (latch l) = latchUses l
+usedNames (latch d) = latchUses d
 usedNames (cover ns ls) = coverIns ns
 
 -- a cube line's columns: the first of two tokens, or none

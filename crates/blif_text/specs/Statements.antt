@@ -59,7 +59,7 @@ parsedLine (k ∷ ts) = stmtOf k ts ∷ []
 
 -- the statements of a text in order
 unfoldable pub parsed : Bytes → List Parsed
-parsed s = flatMap parsedLine (map tokens (joined (lines s)))
+parsed text = flatMap parsedLine (map tokens (joined (lines text)))
 
 -- the refusal of a statement, if it has one
 abbrev pub refusalOf : Parsed → Checked

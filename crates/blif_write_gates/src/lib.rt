@@ -59,41 +59,41 @@ fn append_unless(out: &mut [u8], at: usize, value: bool, before: &[u8], s: Signa
 }
 
 // Writes a flip-flop that has its enable or its reset, with what it has.
-fn write_flop(out: &mut [u8], d: Signal, e: Signal, r: Signal, g: usize) -> usize
+fn write_flop(out: &mut [u8], input: Signal, enable: Signal, reset: Signal, g: usize) -> usize
     requires { ⌜ g < maxGates ⌝ }
-    ensures { λ n. ⌜ Wrote (flopText (sigOf (d .a)) (sigOf (e .a)) (sigOf (r .a)) g) (now (out .entry)) (now (out .exit)) n ⌝ }
+    ensures { λ r. ⌜ Wrote (flopText (sigOf (input .a)) (sigOf (enable .a)) (sigOf (reset .a)) g) (now (out .entry)) (now (out .exit)) r ⌝ }
 {
-    let mut at = append_name(out, 0, b".flop D=", d);
+    let mut at = append_name(out, 0, b".flop D=", input);
     at = append_gate(out, at, b" Q=", g);
     at = append(out, at, b" init=0");
-    at = append_unless(out, at, true, b" E=", e);
-    at = append_unless(out, at, false, b" R=", r);
+    at = append_unless(out, at, true, b" E=", enable);
+    at = append_unless(out, at, false, b" R=", reset);
     append(out, at, b"\n")
 }
 
 // Writes a flip-flop that always takes its data.
-fn write_plain(out: &mut [u8], d: Signal, g: usize) -> usize
+fn write_plain(out: &mut [u8], input: Signal, g: usize) -> usize
     requires { ⌜ g < maxGates ⌝ }
-    ensures { λ n. ⌜ Wrote (line (latchLine (plainLatch (nameBytes (sigOf (d .a))) (gateName nameBytes g)))) (now (out .entry)) (now (out .exit)) n ⌝ }
+    ensures { λ r. ⌜ Wrote (line (latchLine (plainLatch (nameBytes (sigOf (input .a))) (gateName nameBytes g)))) (now (out .entry)) (now (out .exit)) r ⌝ }
 {
     let mut at = append(out, 0, b".latch");
-    at = append_name(out, at, b" ", d);
+    at = append_name(out, at, b" ", input);
     at = append_gate(out, at, b" ", g);
     append(out, at, b" 0\n")
 }
 
 // Writes a flip-flop.
-pub fn write_stored(out: &mut [u8], d: Signal, e: Signal, r: Signal, g: usize) -> usize
+pub fn write_stored(out: &mut [u8], input: Signal, enable: Signal, reset: Signal, g: usize) -> usize
     requires { ⌜ g < maxGates ⌝ }
-    ensures { λ n. ⌜ Wrote (storedText (sigOf (d .a)) (sigOf (e .a)) (sigOf (r .a)) g) (now (out .entry)) (now (out .exit)) n ⌝ }
+    ensures { λ r. ⌜ Wrote (storedText (sigOf (input .a)) (sigOf (enable .a)) (sigOf (reset .a)) g) (now (out .entry)) (now (out .exit)) r ⌝ }
 {
-    if !is_value(e, true) {
-        return write_flop(out, d, e, r, g);
+    if !is_value(enable, true) {
+        return write_flop(out, input, enable, reset, g);
     }
-    if !is_value(r, false) {
-        return write_flop(out, d, e, r, g);
+    if !is_value(reset, false) {
+        return write_flop(out, input, enable, reset, g);
     }
-    write_plain(out, d, g)
+    write_plain(out, input, g)
 }
 
 // Writes the end of a `.names` line: the gate's name.

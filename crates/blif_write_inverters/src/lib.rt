@@ -12,13 +12,13 @@ ghost use Rattle.network.specs.Sizes.{maxGates, maxInputs};
 ghost use Rattle.blif_write_names.specs.between.Text.{Wrote, Appended};
 ghost use Rattle.blif_write_inverters.specs.between.Marks.{SignalsMarked, inverterAt, gateInverters, inputInverters};
 
-// Sets mark n, if there is one.
-fn set_mark(marks: &mut [u8], n: u32)
-    ensures { λ _. ⌜ now (marks .exit) ≡ set (now (marks .entry)) n 1 ⌝ }
+// Sets the mark of this number, if there is one.
+fn set_mark(marks: &mut [u8], number: u32)
+    ensures { λ _. ⌜ now (marks .exit) ≡ set (now (marks .entry)) number 1 ⌝ }
 {
-    let i = n as usize;
-    if i < marks.len() {
-        marks[i] = 1;
+    let place = number as usize;
+    if place < marks.len() {
+        marks[place] = 1;
     }
 }
 

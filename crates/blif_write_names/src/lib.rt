@@ -11,39 +11,39 @@ ghost use Rattle.signal.specs.Cell.{sigOf};
 ghost use Rattle.blif_writing.specs.Names.{decimal, suffix, nodeBytes, nameBytes};
 ghost use Rattle.blif_write_names.specs.between.Text.{Wrote, lastDigit, fourOf, leading, Appended};
 
-// Copies s to the front of out, which is as long or longer.
-fn copy(out: &mut [u8], s: &[u8])
-    requires { ⌜ length (now s) ≤ length (now out) ⌝ }
-    ensures { λ _. ⌜ now (out .exit) ≡ overwrite (now (s .entry)) (now (out .entry)) ⌝ }
+// Copies bytes to the front of out, which is as long or longer.
+fn copy(out: &mut [u8], bytes: &[u8])
+    requires { ⌜ length (now bytes) ≤ length (now out) ⌝ }
+    ensures { λ _. ⌜ now (out .exit) ≡ overwrite (now (bytes .entry)) (now (out .entry)) ⌝ }
 {
     let mut i = 0;
-    while i < s.len() {
-        out[i] = s[i];
+    while i < bytes.len() {
+        out[i] = bytes[i];
         i += 1;
     }
 }
 
-// Copies s to the front of out, as far as it goes. Gives back its length, or one more than the room.
-fn put_bytes(out: &mut [u8], s: &[u8]) -> usize
-    ensures { λ r. ⌜ Wrote (now (s .entry)) (now (out .entry)) (now (out .exit)) r ⌝ }
+// Copies bytes to the front of out, as far as they go. Gives back their number, or one more than the room.
+fn put_bytes(out: &mut [u8], bytes: &[u8]) -> usize
+    ensures { λ r. ⌜ Wrote (now (bytes .entry)) (now (out .entry)) (now (out .exit)) r ⌝ }
 {
     let room = out.len();
-    if s.len() > room {
-        copy(out, &s[..room]);
+    if bytes.len() > room {
+        copy(out, &bytes[..room]);
         return room + 1;
     }
-    copy(out, s);
-    s.len()
+    copy(out, bytes);
+    bytes.len()
 }
 
-// Writes s at place at of out. Gives back the place after it, or one past the end.
-pub fn append(out: &mut [u8], at: usize, s: &[u8]) -> usize
-    ensures { λ r. ⌜ Appended (now (s .entry)) (now (out .entry)) at (now (out .exit)) r ⌝ }
+// Writes bytes at place at of out. Gives back the place after them, or one past the end.
+pub fn append(out: &mut [u8], at: usize, bytes: &[u8]) -> usize
+    ensures { λ r. ⌜ Appended (now (bytes .entry)) (now (out .entry)) at (now (out .exit)) r ⌝ }
 {
     if at > out.len() {
         return out.len() + 1;
     }
-    at + put_bytes(&mut out[at..], s)
+    at + put_bytes(&mut out[at..], bytes)
 }
 
 // Writes one byte.

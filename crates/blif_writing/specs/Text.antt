@@ -39,12 +39,12 @@ field key (some x) = spaced ((key ++ x) ∷ [])
 
 -- "A latch is `.latch d xN 0`"
 abbrev pub latchLine : LatchDef Bytes → Bytes
-latchLine l = bytes ".latch" ++ spaced (l .input ∷ l .output ∷ bytes "0" ∷ [])
+latchLine d = bytes ".latch" ++ spaced (d .input ∷ d .output ∷ bytes "0" ∷ [])
 
 -- "`.flop D=d Q=xN init=0`, then ` E=e` unless enable is one, then ` R=r` unless reset is zero"
 abbrev pub flopLine : LatchDef Bytes → Bytes
-flopLine l =
-    bytes ".flop" ++ (spaced ((bytes "D=" ++ l .input) ∷ (bytes "Q=" ++ l .output) ∷ bytes "init=0" ∷ []) ++ (field (bytes "E=") (l .enable) ++ field (bytes "R=") (l .reset)))
+flopLine d =
+    bytes ".flop" ++ (spaced ((bytes "D=" ++ d .input) ∷ (bytes "Q=" ++ d .output) ∷ bytes "init=0" ∷ []) ++ (field (bytes "E=") (d .enable) ++ field (bytes "R=") (d .reset)))
 
 -- the name is given
 abbrev pub given : Option Bytes → Bool
@@ -53,11 +53,11 @@ given (some x) = true
 
 -- "a flip-flop with other enable or reset is written `.flop`"
 abbrev pub storedLine : LatchDef Bytes → Bytes
-storedLine l = cond (given (l .enable) || given (l .reset)) (flopLine l) (latchLine l)
+storedLine d = cond (given (d .enable) || given (d .reset)) (flopLine d) (latchLine d)
 
 -- the lines of a block: a latch's one, or `.names` with the names and then the rows
 abbrev pub blockLines : Block Bytes → List Bytes
-blockLines (Latch l) = storedLine l ∷ []
+blockLines (Latch d) = storedLine d ∷ []
 blockLines (Cover xs y ls) = (bytes ".names" ++ spaced (xs ++ (y ∷ []))) ∷ map cubeLine ls
 
 -- the lines of blocks in order

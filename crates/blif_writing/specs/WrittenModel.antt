@@ -36,8 +36,8 @@ colOf false = C0
 
 -- "those with an odd or even number of ones, output 1": the masks at which f is one
 abbrev pub minterms : (List Bool → Bool) → List (List Bool) → List Line
-minterms f [] = []
-minterms f (v ∷ vs) = cond (f v) (coverRow true (map colOf v) ∷ minterms f vs) (minterms f vs)
+minterms holds [] = []
+minterms holds (v ∷ vs) = cond (holds v) (coverRow true (map colOf v) ∷ minterms holds vs) (minterms holds vs)
 
 -- "an .. even number of ones"
 abbrev pub even : List Bool → Bool
@@ -77,8 +77,8 @@ sameNode (Var i) (Var j) = eqb i j
 
 -- the node is used inverted among these signals
 abbrev pub usedAmong : Node → List Signal → Bool
-usedAmong n [] = false
-usedAmong n (s ∷ ss) = (s .inv && sameNode (s .node) n) || usedAmong n ss
+usedAmong node [] = false
+usedAmong node (s ∷ ss) = (s .inv && sameNode (s .node) node) || usedAmong node ss
 
 -- the signals of a gate that are written by name, inverted or not: "inputs of every gate but Buf"
 abbrev pub named : Gate → List Signal
@@ -86,12 +86,12 @@ named x = cond (eqb (formCell x) (formNumber Buf)) [] (pins x)
 
 -- the node is used inverted by these gates
 abbrev pub usedIn : Node → List Gate → Bool
-usedIn n [] = false
-usedIn n (x ∷ xs) = usedAmong n (named x) || usedIn n xs
+usedIn node [] = false
+usedIn node (x ∷ xs) = usedAmong node (named x) || usedIn node xs
 
 -- the node needs an inverter
 abbrev pub inverted : Net → Node → Bool
-inverted net n = usedAmong n (net .outputs) || usedIn n (net .gates)
+inverted net node = usedAmong node (net .outputs) || usedIn node (net .gates)
 
 -- n - 1, .., 1, 0
 abbrev pub downTo : ℕ → List ℕ
@@ -105,7 +105,7 @@ inverters net = filter (inverted net) (map Var (range 0 (length (net .gates))) +
 
 -- the signal is the constant one, or the constant zero
 abbrev pub isConst : Bool → Signal → Bool
-isConst v s = constNode (s .node) && cond v (s .inv) (not (s .inv))
+isConst b s = constNode (s .node) && cond b (s .inv) (not (s .inv))
 
 -- ---- the model
 
@@ -132,27 +132,27 @@ module _ {Name : Type 0} (name : Signal → Name) where
 
   -- the name, unless the signal is that constant
   abbrev pub unless : Bool → Signal → Option Name
-  unless v s = cond (isConst v s) none (some (name s))
+  unless b s = cond (isConst b s) none (some (name s))
 
   -- the latch of flip-flop g: "E=e unless enable is one", "R=r unless reset is zero"
   abbrev pub latchOf : ℕ → FlipFlop → LatchDef Name
-  latchOf g s = record { input = name (s .dataIn); output = gateName g; enable = unless true (s .enable); reset = unless false (s .reset) }
+  latchOf g ff = record { input = name (ff .dataIn); output = gateName g; enable = unless true (ff .enable); reset = unless false (ff .reset) }
 
   -- "latches", in gate order
   abbrev pub latchBlocks : ℕ → List Gate → List (Block Name)
   latchBlocks g [] = []
   latchBlocks g (Comb f ps ∷ xs) = latchBlocks (suc g) xs
-  latchBlocks g (Dff s ∷ xs) = Latch (latchOf g s) ∷ latchBlocks (suc g) xs
+  latchBlocks g (Dff ff ∷ xs) = Latch (latchOf g ff) ∷ latchBlocks (suc g) xs
 
   -- "gates", in gate order
   abbrev pub combBlocks : ℕ → List Gate → List (Block Name)
   combBlocks g [] = []
   combBlocks g (Comb f ps ∷ xs) = combBlock g f ps ∷ combBlocks (suc g) xs
-  combBlocks g (Dff s ∷ xs) = combBlocks (suc g) xs
+  combBlocks g (Dff ff ∷ xs) = combBlocks (suc g) xs
 
   -- "an inverter is `.names s s_n` and `0 1`"
   abbrev pub inverterBlock : Node → Block Name
-  inverterBlock n = Cover (name (plain n) ∷ []) (name (invert (plain n))) (coverRow true (C0 ∷ []) ∷ [])
+  inverterBlock node = Cover (name (plain node) ∷ []) (name (invert (plain node))) (coverRow true (C0 ∷ []) ∷ [])
 
   -- "`vdd`, `gnd`"
   abbrev pub constBlocks : List (Block Name)

@@ -10,7 +10,7 @@ use Rattle.lists.specs.Lists.{if_then_else_, filter, optional}
 use Rattle.signal.specs.Signal.{Signal}
 use Rattle.gates.specs.Gate.{Form, And2, Xor2, And3, Xor3, Maj3, Mux3, AndN, OrN, NandN, NorN, XorN, XnorN, Buf, Gate, Comb, Dff}
 
--- the number of a combinational form
+-- the number of a combinational form: "the form numbers 1 to 14, in this order"
 abbrev pub formNumber : Form → ℕ
 formNumber And2 = 1
 formNumber Xor2 = 2
@@ -33,7 +33,7 @@ flopNumber = 14
 -- the number that a gate's form has in lent cells
 abbrev pub formCell : Gate → ℕ
 formCell (Comb f ps) = formNumber f
-formCell (Dff s) = flopNumber
+formCell (Dff ff) = flopNumber
 
 -- the pin counts that a form can have: two for Binary, three for Ternary, any for Nary ("Nary may have no inputs"), one for Buf
 abbrev pub canHave : Form → ℕ → Bool
@@ -54,7 +54,7 @@ canHave Buf n = eqb n 1
 -- a gate with as many inputs as its form can have
 abbrev pub formed : Gate → Bool
 formed (Comb f ps) = canHave f (length ps)
-formed (Dff s) = true
+formed (Dff ff) = true
 
 -- ---- from a number
 

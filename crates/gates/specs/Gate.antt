@@ -20,11 +20,11 @@ pub record FlipFlop : Type 0 where
   pub reset : Signal
 
 -- a plain flip-flop: it takes the data at each clock
-pub record PlainFlop (s : FlipFlop) : Type 0 where
+pub record PlainFlop (ff : FlipFlop) : Type 0 where
   -- its enable is one
-  pub enableOne : s .enable ≡ oneS
+  pub enableOne : ff .enable ≡ oneS
   -- its reset is zero
-  pub resetZero : s .reset ≡ zeroS
+  pub resetZero : ff .reset ≡ zeroS
 
 -- a gate: a combinational form with its inputs in order, or a flip-flop
 pub data Gate : Type 0 where
@@ -34,12 +34,12 @@ pub data Gate : Type 0 where
 -- a gate's inputs in order
 abbrev pub pins : Gate → List Signal
 pins (Comb f ps) = ps
-pins (Dff s) = s .dataIn ∷ s .enable ∷ s .reset ∷ []
+pins (Dff ff) = ff .dataIn ∷ ff .enable ∷ ff .reset ∷ []
 
 -- "Every form but Dff is combinational"
 abbrev pub isComb : Gate → Bool
 isComb (Comb f ps) = true
-isComb (Dff s) = false
+isComb (Dff ff) = false
 
 -- ---- what a form makes of its inputs' bits
 

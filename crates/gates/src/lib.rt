@@ -5,12 +5,6 @@ ghost use Rattle.gates.specs.between.Forms.{kindOf, kindTakes, kindNumbe
 ghost use Rattle.gates.specs.between.Decode.{pinCount, kindOfGate, kindComb, cellSignal, kindGate, withPins};
 
 // Form numbers, for those who look at a record's form alone.
-pub const NARY_AND: u32 = 7;
-
-pub const NARY_OR: u32 = 8;
-
-pub const NARY_NAND: u32 = 9;
-
 pub const NARY_XOR: u32 = 11;
 
 pub const NARY_XNOR: u32 = 12;
@@ -119,9 +113,9 @@ fn nary_number(t: NaryType) -> u32
     ensures { λ r. ⌜ r ≡ kindNumber (Kind.Nary t) ⌝ }
 {
     match t {
-        NaryType::And => NARY_AND,
-        NaryType::Or => NARY_OR,
-        NaryType::Nand => NARY_NAND,
+        NaryType::And => 7,
+        NaryType::Or => 8,
+        NaryType::Nand => 9,
         NaryType::Nor => 10,
         NaryType::Xor => NARY_XOR,
         NaryType::Xnor => NARY_XNOR,

@@ -31,12 +31,12 @@ pub record Lent : Type 0 where
 
 -- the same, from its parts
 abbrev pub lent : Counts → List ℕ → List ℕ → List ℕ → Lent
-lent n gs ps os = record { counts = n; cells = gs; pinsLent = ps; outsLent = os }
+lent counts gs ps os = record { counts = counts; cells = gs; pinsLent = ps; outsLent = os }
 
 -- "a size over the limits or over its slices" is refused
 unfoldable pub sizesFit : Counts → ℕ → ℕ → ℕ → Bool
-sizesFit n gs ps os =
-    not (overSizes (n .inputs) (n .outputs) (n .gates) (n .pins)) && leb (n .gates * gateWidth) gs && leb (n .pins) ps && leb (n .outputs) os
+sizesFit counts gs ps os =
+    not (overSizes (counts .inputs) (counts .outputs) (counts .gates) (counts .pins)) && leb (counts .gates * gateWidth) gs && leb (counts .pins) ps && leb (counts .outputs) os
 
 -- where gate g's pins start: the pin counts before it, added up
 abbrev pub startAt : List ℕ → ℕ → ℕ

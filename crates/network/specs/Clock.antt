@@ -21,7 +21,7 @@ sigBit row bits s = invertIf (s .inv) (nodeBit row bits (s .node))
 -- "A flip-flop's bit is its held one, a combinational gate's what its form makes of its inputs' bits"
 abbrev pub gateBit : (Signal → Bool) → Bool → Gate → Bool
 gateBit σ h (Comb f ps) = formBit f (map σ ps)
-gateBit σ h (Dff s) = h
+gateBit σ h (Dff ff) = h
 
 -- a choice of bits fits the row and the held bits: each gate has the bit that it should
 abbrev pub Fits : Net → List Bool → (ℕ → Bool) → (ℕ → Bool) → Type 0
@@ -29,12 +29,12 @@ Fits net row held bits = (g : ℕ) (x : Gate) → GateIs net g x → bits g ≡ 
 
 -- "a reset of one gives zero, else an enable of one takes the data, else the value is held"
 abbrev pub stepBit : (Signal → Bool) → Bool → FlipFlop → Bool
-stepBit σ h s = cond (σ (s .reset)) false (cond (σ (s .enable)) (σ (s .dataIn)) h)
+stepBit σ h ff = cond (σ (ff .reset)) false (cond (σ (ff .enable)) (σ (ff .dataIn)) h)
 
 -- "then all flip-flops step together"; "nothing else changes a held bit"
 abbrev pub nextBit : (Signal → Bool) → Bool → Gate → Bool
 nextBit σ h (Comb f ps) = h
-nextBit σ h (Dff s) = stepBit σ h s
+nextBit σ h (Dff ff) = stepBit σ h ff
 
 -- one clock, from held bits and a row to "the outputs' bits in order" and the bits held next
 pub record Clock (net : Net) (held : ℕ → Bool) (row out : List Bool) (next : ℕ → Bool) : Type 0 where

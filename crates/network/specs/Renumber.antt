@@ -13,12 +13,12 @@ use Rattle.network.specs.Net.{Net, GateIs}
 
 -- a flip-flop's signals renumbered
 abbrev pub remapFlop : (ℕ → ℕ) → FlipFlop → FlipFlop
-remapFlop π s = record { dataIn = remap π (s .dataIn); enable = remap π (s .enable); reset = remap π (s .reset) }
+remapFlop π ff = record { dataIn = remap π (ff .dataIn); enable = remap π (ff .enable); reset = remap π (ff .reset) }
 
 -- a gate with its inputs renumbered: gate g is π g now
 abbrev pub remapGate : (ℕ → ℕ) → Gate → Gate
 remapGate π (Comb f ps) = Comb f (map (remap π) ps)
-remapGate π (Dff s) = Dff (remapFlop π s)
+remapGate π (Dff ff) = Dff (remapFlop π ff)
 
 -- the node is kept among n gates: a gate has a new number, which leads back to it
 abbrev pub NodeKept : ℕ → (ℕ → ℕ) → (ℕ → ℕ) → Node → Type 0

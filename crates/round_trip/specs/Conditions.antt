@@ -13,7 +13,7 @@ use Rattle.blif_writing.specs.Text.{textOf}
 
 -- every flip-flop is plain
 abbrev pub PlainFlops : Net → Type 0
-PlainFlops net = (g : ℕ) (s : FlipFlop) → GateIs net g (Dff s) → PlainFlop s
+PlainFlops net = (g : ℕ) (ff : FlipFlop) → GateIs net g (Dff ff) → PlainFlop ff
 
 -- a network "without a loop", whose flip-flops are plain
 pub record PlainNet (net : Net) : Type 0 where

@@ -56,15 +56,15 @@ fn sig_bit(row: &[bool], bits: &[bool], s: Signal) -> bool
 fn ones_of(row: &[bool], bits: &[bool], run: &[u32]) -> usize
     ensures { λ r. ⌜ r ≡ ones (pinBits (now (row .entry)) (now (bits .entry)) (now (run .entry))) ⌝ }
 {
-    let mut n = 0;
+    let mut found = 0;
     let mut i = 0;
     while i < run.len() {
         if sig_bit(row, bits, Signal { a: run[i] }) {
-            n += 1;
+            found += 1;
         }
         i += 1;
     }
-    n
+    found
 }
 
 // Pin i's bit, zero past the run's end.
@@ -87,39 +87,39 @@ fn mux_bit(row: &[bool], bits: &[bool], run: &[u32]) -> bool
     pin_bit(row, bits, run, 2)
 }
 
-// What a Binary gate makes of two bits, of which n are ones.
-fn binary_bit(t: BinaryType, n: usize) -> bool
-    ensures { λ r. ⌜ Makes (binaryForm t) 2 n r ⌝ }
+// What a Binary gate makes of two bits, of which so many are ones.
+fn binary_bit(t: BinaryType, ones: usize) -> bool
+    ensures { λ r. ⌜ Makes (binaryForm t) 2 ones r ⌝ }
 {
     match t {
-        BinaryType::And => n == 2,
-        BinaryType::Xor => n % 2 == 1,
+        BinaryType::And => ones == 2,
+        BinaryType::Xor => ones % 2 == 1,
     }
 }
 
-// What a Ternary gate makes of three bits, of which n are ones; chosen is what a Mux makes of them.
-fn ternary_bit(t: TernaryType, n: usize, chosen: bool) -> bool
-    ensures { λ r. ⌜ MakesOfThree (ternaryForm t) n chosen r ⌝ }
+// What a Ternary gate makes of three bits, of which so many are ones; chosen is what a Mux makes of them.
+fn ternary_bit(t: TernaryType, ones: usize, chosen: bool) -> bool
+    ensures { λ r. ⌜ MakesOfThree (ternaryForm t) ones chosen r ⌝ }
 {
     match t {
-        TernaryType::And => n == 3,
-        TernaryType::Xor => n % 2 == 1,
-        TernaryType::Maj => n >= 2,
+        TernaryType::And => ones == 3,
+        TernaryType::Xor => ones % 2 == 1,
+        TernaryType::Maj => ones >= 2,
         TernaryType::Mux => chosen,
     }
 }
 
-// What a Nary gate makes of count bits, of which n are ones.
-fn nary_bit(t: NaryType, count: usize, n: usize) -> bool
-    ensures { λ r. ⌜ Makes (naryForm t) count n r ⌝ }
+// What a Nary gate makes of count bits, of which so many are ones.
+fn nary_bit(t: NaryType, count: usize, ones: usize) -> bool
+    ensures { λ r. ⌜ Makes (naryForm t) count ones r ⌝ }
 {
     match t {
-        NaryType::And => n == count,
-        NaryType::Or => n != 0,
-        NaryType::Nand => n != count,
-        NaryType::Nor => n == 0,
-        NaryType::Xor => n % 2 == 1,
-        NaryType::Xnor => n % 2 == 0,
+        NaryType::And => ones == count,
+        NaryType::Or => ones != 0,
+        NaryType::Nand => ones != count,
+        NaryType::Nor => ones == 0,
+        NaryType::Xor => ones % 2 == 1,
+        NaryType::Xnor => ones % 2 == 0,
     }
 }
 
@@ -130,12 +130,12 @@ fn kind_bit(k: Kind, row: &[bool], bits: &[bool], run: &[u32], held: bool) -> bo
     if !k.takes(run.len()) {
         return false;
     }
-    let n = ones_of(row, bits, run);
+    let ones = ones_of(row, bits, run);
     match k {
-        Kind::Binary(t) => binary_bit(t, n),
-        Kind::Ternary(t) => ternary_bit(t, n, mux_bit(row, bits, run)),
-        Kind::Nary(t) => nary_bit(t, run.len(), n),
-        Kind::Buf => n == 1,
+        Kind::Binary(t) => binary_bit(t, ones),
+        Kind::Ternary(t) => ternary_bit(t, ones, mux_bit(row, bits, run)),
+        Kind::Nary(t) => nary_bit(t, run.len(), ones),
+        Kind::Buf => ones == 1,
         Kind::Dff => held,
         Kind::Unknown => false,
     }

@@ -5,7 +5,6 @@ use mathlib.Core.Path.{_≡_, refl, sym, ap, ap₂, _∙_}
 use mathlib.Core.Bool.{Bool, true, false, _&&_, Bool·beq, false≢true}
 use mathlib.Core.List.{List, [], _∷_, flatMap, headD}
 use Prim.Native.Nat.{ℕ, _-_, _<_}
-use native.Mathlib.Decide.{ℕ-discrete}
 use native.Mathlib.Omega.{arith}
 use lib.Dec.{eqb, T}
 use lib.ListN.{getD}
@@ -14,10 +13,10 @@ use Rattle.lists.specs.Lists.{same, all, hit}
 use Rattle.lists.proofs.Tests.{and-left, and-right}
 use Rattle.lists.proofs.Same.{same-is}
 use Rattle.refusals.specs.Numbers.{numberOf}
-use Rattle.refusals.proofs.Numbers.{number-one}
+use Rattle.refusals.specs.declared.Refusal.{Refusal}
 use Rattle.signal.specs.Signal.{Node, Const, Input, Var, Signal}
 use Rattle.gates.specs.Gate.{Form, And2, Xor2, And3, Xor3, Maj3, Mux3, AndN, OrN, NandN, NorN, XorN, XnorN, Buf, Gate, Comb, Dff, pins}
-use Rattle.gates.specs.Forms.{formNumber, flopNumber, formCell}
+use Rattle.gates.specs.Forms.{formNumber, flopNumber, formCell, forms}
 use Rattle.network.specs.Net.{Net, netFrom}
 use Rattle.network.specs.Settle.{run}
 use Rattle.refusals.specs.Order.{_orElse_, refuseIf}
@@ -27,9 +26,11 @@ use Rattle.blif_text.specs.Lines.{consFirst, split, dropCR, lines, cut, continu
 use Rattle.blif_text.specs.Keywords.{keywordOf}
 use Rattle.blif_text.specs.Statements.{modelStmt, latchStmt, stmtOf, parsedLine, parsed, firstBad, stmts}
 use Rattle.blif_text.specs.Decls.{usedNames, cubes, decls, insOf, outsOf, defsOf, ins, outs, defs, coverOut, coverIns, defines, columns, output, isOne, declsOf}
+use Rattle.blif_writing.specs.WrittenModel.{sameNode}
 use Rattle.blif_writing.specs.Text.{spaced, line, textOf}
 use Rattle.blif_reading.specs.Read.{added, gateCount, pinCount, tooLarge, definedTwice, naming, undefined, goodLine, coverFault, coverFaults, declFault, readFault, Result, read, refused, answer, builtFrom, readText}
-use Rattle.worked_cases.specs.Cases.{sameList, sameNode, sameSignal, sameGate, sameNet, sameResult, Check, reads, writes, readsBack, runs, netIn, isRead, holds, table}
+use Rattle.worked_cases.specs.Checks.{sameList, sameSignal, sameGate, sameNet, Answer, network, number, agrees, Check, reads, writes, readsBack, runs, netIn, isRead, holds}
+use Rattle.worked_cases.specs.Cases.{table}
 
 -- ---- what a test means
 
@@ -49,7 +50,6 @@ sameBit-is false true e = absurd (false≢true e)
 sameBit-is false false e = refl
 
 sameNode-is : (m n : Node) → sameNode m n ≡ true → m ≡ n
-unfolding sameNode
 sameNode-is Const Const e = refl
 sameNode-is (Input i) (Input j) e = ap Input (eqb-true i j e)
 sameNode-is (Var g) (Var h) e = ap Var (eqb-true g h e)
@@ -65,10 +65,6 @@ unfolding sameSignal
 sameSignal-is s t e =
     ap₂ (λ (n : Node) (b : Bool). record { node = n; inv = b }) (sameNode-is (s .node) (t .node) (and-left (sameNode (s .node) (t .node)) (Bool·beq (s .inv) (t .inv)) e))
     (sameBit-is (s .inv) (t .inv) (and-right (sameNode (s .node) (t .node)) (Bool·beq (s .inv) (t .inv)) e))
-
--- the forms by their numbers, from 1 on
-abbrev forms : List Form
-forms = And2 ∷ Xor2 ∷ And3 ∷ Xor3 ∷ Maj3 ∷ Mux3 ∷ AndN ∷ OrN ∷ NandN ∷ NorN ∷ XorN ∷ XnorN ∷ Buf ∷ []
 
 form-again : (f : Form) → getD forms (formNumber f - 1) Buf ≡ f
 form-again And2 = refl
@@ -137,27 +133,32 @@ sameNet-is a b e =
     let r = sameList-is sameSignal sameSignal-is (a .outputs) (b .outputs) (and-right (i && g) o e) in
     λ j. netFrom (p j) (q j) (r j)
 
--- and so are results
-pub sameResult-is : (p q : Result) → sameResult p q ≡ true → p ≡ q
-unfolding sameResult
-sameResult-is (read a) (read b) e = ap read (sameNet-is a b e)
-sameResult-is (read a) (refused r) e = absurd (false≢true e)
-sameResult-is (refused q) (read b) e = absurd (false≢true e)
-sameResult-is (refused q) (refused r) e = ap refused (number-one q r (eqb-true (numberOf q) (numberOf r) e))
+-- what an answer says of a result
+abbrev pub Says : Result → Answer → Type 0
+Says r (network net) = r ≡ read net
+Says r (number n) = (k : Refusal) × (r ≡ refused k) × (numberOf k ≡ n)
+
+-- a result that agrees with an answer is as it says
+agrees-says : (r : Result) (a : Answer) → agrees r a ≡ true → Says r a
+unfolding agrees
+agrees-says (read a) (network b) e = ap read (sameNet-is a b e)
+agrees-says (read a) (number n) e = absurd (false≢true e)
+agrees-says (refused k) (network b) e = absurd (false≢true e)
+agrees-says (refused k) (number n) e = (k, refl, eqb-true (numberOf k) n e)
 
 -- what a check says
 abbrev pub Means : Check → Type 0
-Means (reads t r) = readText t ≡ r
-Means (writes n t) = textOf n ≡ t
-Means (readsBack n r) = readText (textOf n) ≡ r
+Means (reads t a) = Says (readText t) a
+Means (writes net t) = textOf net ≡ t
+Means (readsBack net a) = Says (readText (textOf net)) a
 Means (runs t rows outs) = (net : Net) × (readText t ≡ read net) × (run net rows ≡ outs)
 
 -- a check that holds says that the definitions give what it names
 pub holds-means : (c : Check) → holds c ≡ true → Means c
 unfolding holds
-holds-means (reads t r) e = sameResult-is (readText t) r e
-holds-means (writes n t) e = same-is (textOf n) t e
-holds-means (readsBack n r) e = sameResult-is (readText (textOf n)) r e
+holds-means (reads t a) e = agrees-says (readText t) a e
+holds-means (writes net t) e = same-is (textOf net) t e
+holds-means (readsBack net a) e = agrees-says (readText (textOf net)) a e
 holds-means (runs t rows outs) e = ran (readText t) refl (and-left _ _ e) (and-right (isRead (readText t)) _ e)
   where
     ran : (r : Result) → readText t ≡ r → isRead r ≡ true → sameList (sameList Bool·beq) (run (netIn r) rows) outs ≡ true
@@ -169,7 +170,7 @@ holds-means (runs t rows outs) e = ran (readText t) refl (and-left _ _ e) (and-r
 
 -- whether a check holds, with every definition open that reading a text and writing a network go through
 unfoldable pub computed : Check → Bool
-unfolding ℕ-discrete flatMap headD same hit uses useCount recorded order sortOrder sorted consFirst split dropCR lines cut continues before joined isBlank nonEmpty tokens modelStmt latchStmt stmtOf keywordOf parsedLine parsed firstBad stmts usedNames cubes decls insOf outsOf defsOf ins outs defs coverOut coverIns defines columns output isOne spaced line _orElse_ refuseIf added gateCount pinCount tooLarge definedTwice naming undefined goodLine coverFault coverFaults declFault declsOf readFault answer builtFrom readText sameList sameNode sameSignal sameGate sameNet sameResult holds
+unfolding flatMap headD same hit uses useCount recorded order sortOrder sorted consFirst split dropCR lines cut continues before joined isBlank nonEmpty tokens modelStmt latchStmt stmtOf keywordOf parsedLine parsed firstBad stmts usedNames cubes decls insOf outsOf defsOf ins outs defs coverOut coverIns defines columns output isOne spaced line _orElse_ refuseIf added gateCount pinCount tooLarge definedTwice naming undefined goodLine coverFault coverFaults declFault declsOf readFault answer builtFrom readText sameList sameSignal sameGate sameNet agrees holds
 computed c = holds c
 
 pub table-holds : T (all (all holds) table)

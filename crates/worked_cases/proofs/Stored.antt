@@ -2,10 +2,10 @@
 use lib.Dec.{T}
 use Rattle.lists.specs.Lists.{all}
 use Rattle.worked_cases.proofs.Cases.{computed}
-use Rattle.worked_cases.specs.Checks.{agrees, holds}
+use Rattle.worked_cases.specs.Checks.{holds}
 use Rattle.worked_cases.specs.Stored.{stored}
 
 -- every text is read and every network written as by Quaigh
 pub stored-hold : T (all holds stored)
-unfolding computed agrees holds stored
+unfolding computed stored
 stored-hold = tt

@@ -14,7 +14,7 @@ returns c =
     let append = c .before .before .before .before .before .before .before .before .before .before .before .before .before .before .before .before .before .append in
     let append-unless = c .before .before .before .before .before .before .before .before .before .before .before .before .append-unless in
     let append-unless2 = c .before .before .before .before .before .before .before .append-unless2 in
-    from-start (as-text (flop-text (sigOf (args .d .a)) (sigOf (args .e .a)) (sigOf (args .r .a)) (args .g)) (and-append (and-append (and-append (and-append (and-append (append-name .ensures) (append-gate .ensures)) (append .ensures)) (append-unless .ensures)) (append-unless2 .ensures)) (c .before .before .append2 .ensures)))
+    from-start (as-text (flop-text (sigOf (args .input .a)) (sigOf (args .enable .a)) (sigOf (args .reset .a)) (args .g)) (and-append (and-append (and-append (and-append (and-append (append-name .ensures) (append-gate .ensures)) (append .ensures)) (append-unless .ensures)) (append-unless2 .ensures)) (c .before .before .append2 .ensures)))
 
 pub write-flop-spec : {M : Type 1} → statement M
 write-flop-spec =

@@ -15,7 +15,7 @@ returns c =
     let append = c .before .before .before .before .before .before .before .before .before .before .before .before .before .before .before .before .before .append in
     let append-name = c .before .before .before .before .before .before .before .before .before .before .before .before .append-name in
     let append-gate = c .before .before .before .before .before .before .before .append-gate in
-    from-start (as-text (plain-text (plainLatch (nameBytes (sigOf (args .d .a))) (gateName nameBytes (args .g)))) (and-append (and-append (and-append (append .ensures) (append-name .ensures)) (append-gate .ensures)) (c .before .before .append2 .ensures)))
+    from-start (as-text (plain-text (plainLatch (nameBytes (sigOf (args .input .a))) (gateName nameBytes (args .g)))) (and-append (and-append (and-append (append .ensures) (append-name .ensures)) (append-gate .ensures)) (c .before .before .append2 .ensures)))
 
 pub write-plain-spec : {M : Type 1} → statement M
 write-plain-spec =

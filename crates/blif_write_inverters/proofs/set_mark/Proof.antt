@@ -6,7 +6,7 @@ use Rattle.blif_write_inverters.proofs.set_mark.Statement.{statement}
 use Rattle.blif_write_inverters.proofs.set_mark.Tie as tie
 
 returns-2 : tie.Need-returns-2
-returns-2 c = sym (set-out (c .before .args .marks .now) (c .before .args .n) 1 (c .if1 .left))
+returns-2 c = sym (set-out (c .before .args .marks .now) (c .before .args .number) 1 (c .if1 .left))
 
 pub set-mark-spec : {M : Type 1} → statement M
 set-mark-spec = tie.close (tie.spec

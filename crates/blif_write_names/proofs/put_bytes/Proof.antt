@@ -9,10 +9,10 @@ use Rattle.blif_write_names.proofs.put_bytes.Statement.{statement}
 use Rattle.blif_write_names.proofs.put_bytes.Tie as tie
 
 slice-aggregate-copy : tie.Need-slice-aggregate-copy
-slice-aggregate-copy c = let s = c .before .before .before .before .before in sym (length-take-le _ (s .args .s .now) (omega (arith, c .before .before .if1 .taken)))
+slice-aggregate-copy c = let s = c .before .before .before .before .before in sym (length-take-le _ (s .args .bytes .now) (omega (arith, c .before .before .if1 .taken)))
 
 copy-requires : tie.Need-copy-requires
-copy-requires c κs = let s = c .before .before .before .before .before in omega (arith, length-take (length (s .args .out .now)) (s .args .s .now))
+copy-requires c κs = let s = c .before .before .before .before .before in omega (arith, length-take (length (s .args .out .now)) (s .args .bytes .now))
 
 returns : tie.Need-returns
 returns c = wrote-cut (c .before .before .before .before .before .if1 .taken) (c .before .before .copy .ensures)

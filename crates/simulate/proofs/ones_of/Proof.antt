@@ -17,8 +17,8 @@ abbrev μ-loop : tie.MeasureT-loop
 loop-holds : tie.Need-loop-holds Inv-loop μ-loop
 loop-holds c = counted-start
 
-add-n : tie.Need-add-n Inv-loop μ-loop
-add-n c = let z = c .before .before .before .before .loop .inv .few in omega (arith, z)
+add-found : tie.Need-add-found Inv-loop μ-loop
+add-found c = let z = c .before .before .before .before .loop .inv .few in omega (arith, z)
 
 loop-again : tie.Need-loop-again Inv-loop μ-loop
 loop-again c =
@@ -34,5 +34,5 @@ pub ones-of-spec : {M : Type 1} → statement M
 ones-of-spec =
     tie.close
     (tie.spec
-    Inv-loop μ-loop loop-holds (λ c. search needs) (λ c. search needs) (λ c κs. search needs) add-n
+    Inv-loop μ-loop loop-holds (λ c. search needs) (λ c. search needs) (λ c κs. search needs) add-found
     (λ c. omega arith) (λ c. omega arith) loop-again returns)
