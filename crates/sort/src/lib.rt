@@ -14,11 +14,11 @@ ghost use Rattle.network.specs.Cells.{lent, netOf};
 ghost use Rattle.network.specs.Sizes.{maxGates};
 ghost use Rattle.network.specs.Record.{gateWidth, runAt};
 ghost use Rattle.network.specs.between.Record.{RecordIn, HasRun};
-ghost use Rattle.sort_order.specs.Order.{uses, sortOrder};
+ghost use Rattle.sort_order.specs.Order.{sortOrder};
 ghost use Rattle.sort_order.specs.Sorted.{sorted};
 ghost use Rattle.sort.specs.between.Into.{sortOutcome, sortInto, sortLent};
 ghost use Rattle.sort_order.specs.between.Sortable.{Sortable};
-ghost use Rattle.sort.specs.between.Steps.{gateNamed, gateIns, formComb, cellGraph, Cells, Raised, Countable, Counted};
+ghost use Rattle.sort.specs.between.Steps.{gateNamed, gateIns, formComb, usesAt, cellGraph, Cells, Raised, Countable, Counted};
 ghost use Rattle.sort.specs.between.Steps.{fromTop, Lowered, Lowers, Walks, FlopsPlaced, Started, Ready, Visited, Begins, Recorded, ordered};
 ghost use Rattle.sort.specs.between.Steps.{Numbers, PlacesTable, RoomFor, GateMoved, Movable, Moved, RenumberedCells};
 
@@ -83,11 +83,10 @@ fn add_uses(pins: &[u32], counts: &mut [u32])
 }
 
 // Counts the uses that one gate makes: a flip-flop makes none.
-fn count_gate(gates: &[u32], pins: &[u32], n: usize, g: usize, counts: &mut [u32])
-    requires { ⌜ Cells (now gates) (now pins) n ⌝ }
-    requires { ⌜ g < n ⌝ }
-    requires { ⌜ Countable (uses (cellGraph (now gates) (now pins) n) g) (now counts) ⌝ }
-    ensures { λ r. ⌜ Raised (uses (cellGraph (now (gates .entry)) (now (pins .entry)) n) g) (now (counts .entry)) (now (counts .exit)) ⌝ }
+fn count_gate(gates: &[u32], pins: &[u32], g: usize, counts: &mut [u32])
+    requires { ⌜ HasRun (now gates) (now pins) g ⌝ }
+    requires { ⌜ Countable (usesAt (now gates) (now pins) g) (now counts) ⌝ }
+    ensures { λ r. ⌜ Raised (usesAt (now (gates .entry)) (now (pins .entry)) g) (now (counts .entry)) (now (counts .exit)) ⌝ }
 {
     if !is_comb(gates, g) {
         return;
@@ -104,7 +103,7 @@ fn count_uses(gates: &[u32], pins: &[u32], n: usize, counts: &mut [u32])
 {
     let mut g = 0;
     while g < n {
-        count_gate(gates, pins, n, g, counts);
+        count_gate(gates, pins, g, counts);
         g += 1;
     }
 }

@@ -9,32 +9,25 @@ use Rattle.sort.proofs.count_gate.Statement.{statement}
 use Rattle.sort.proofs.count_gate.Tie as tie
 
 is-comb-requires : tie.Need-is-comb-requires
-is-comb-requires c κs =
-    let s = c .before .before .before in
-    s .pre .0 .runs _ (s .pre .1 .0) .cells
+is-comb-requires c κs = c .before .before .before .pre .0 .cells
 
 returns : tie.Need-returns
-returns c =
-    let s = c .before .before .before .before .before in
-    raised-none (flop-uses (s .pre .0) (s .pre .1 .0) (sym (c .before .is-comb .ensures) ∙ not-true _ (c .if1 .taken)))
+returns c = raised-none (flop-uses _ _ _ (sym (c .before .is-comb .ensures) ∙ not-true _ (c .if1 .taken)))
 
 gate-pins-requires : tie.Need-gate-pins-requires
-gate-pins-requires c κs =
-    let s = c .before .before .before .before .before in
-    s .pre .0 .runs _ (s .pre .1 .0)
+gate-pins-requires c κs = c .before .before .before .before .before .pre .0
 
 add-uses-requires : tie.Need-add-uses-requires
 add-uses-requires c κs =
     let s = c .before .before .before .before .before .before .before in
     let t = sym (c .before .before .before .is-comb .ensures) ∙ not-false _ (c .before .before .if1 .left) in
-    countable-as (sym (ap gateIns (c .before .gate-pins .ensures) ∙ comb-uses (s .pre .0) (s .pre .1 .0) t)) (s .pre .1 .1)
+    countable-as (sym (ap gateIns (c .before .gate-pins .ensures) ∙ comb-uses _ _ _ t)) (s .pre .1)
 
 returns-2 : tie.Need-returns-2
 returns-2 c =
-    let s = c .before .before .before .before .before .before .before .before .before .before in
     let p = c .before .before .before .before in
     let t = sym (p .before .before .is-comb .ensures) ∙ not-false _ (p .before .if1 .left) in
-    raised-as (ap gateIns (p .gate-pins .ensures) ∙ comb-uses (s .pre .0) (s .pre .1 .0) t) (c .before .before .add-uses .ensures)
+    raised-as (ap gateIns (p .gate-pins .ensures) ∙ comb-uses _ _ _ t) (c .before .before .add-uses .ensures)
 
 pub count-gate-spec : {M : Type 1} → statement M
 count-gate-spec =

@@ -22,12 +22,13 @@ count-gate-requires : tie.Need-count-gate-requires Inv-loop μ-loop
 count-gate-requires c κs =
     let p = c .before .before .before .before .before .before .pre in
     let l = c .before .loop-test .taken in
-    (p .0, (l, counted-asks (p .0) l (c .before .before .loop .inv)))
+    (p .0 .runs _ l, counted-asks (p .0) l (c .before .before .loop .inv))
 
 loop-again : tie.Need-loop-again Inv-loop μ-loop
 loop-again c =
     let a = c .before .before in
-    counted-next (a .before .before .loop-test .taken) (a .before .before .before .loop .inv) (a .count-gate .kept .1 .1 .1 .1 .0) (a .count-gate .ensures)
+    let p = a .before .before .before .before .before .before .before .pre in
+    counted-next (p .0) (a .before .before .loop-test .taken) (a .before .before .before .loop .inv) (a .count-gate .kept .1 .1 .1 .0) (a .count-gate .ensures)
 
 same-length : tie.Need-same-length Inv-loop μ-loop
 same-length c = c .before .loop .inv .long ∙ sym (ap length (c .before .before .before .before .before .pre .1) ∙ length-replicate {A = ℕ} maxGates 0)

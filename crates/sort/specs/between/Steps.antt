@@ -36,6 +36,10 @@ gateIns (c ∷ cs) = gateNamed c ++ gateIns cs
 unfoldable pub formComb : List ℕ → ℕ → Bool
 formComb gates g = kindComb (kindOf (formAt gates g))
 
+-- the gates that gate g's cells name as uses: none where it is a flip-flop
+unfoldable pub usesAt : List ℕ → List ℕ → ℕ → List ℕ
+usesAt gates pins g = cond (formComb gates g) (gateIns (runAt gates pins g)) []
+
 -- which of n gates in cells are combinational
 unfoldable pub cellComb : List ℕ → List ℕ → ℕ → ℕ → Bool
 cellComb gates pins n g = combAt (getElem? (cellGates gates pins 0 n) g)
