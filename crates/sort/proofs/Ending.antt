@@ -6,6 +6,7 @@ use mathlib.Core.Option.{Option, none, some}
 use Prim.Native.Nat.{ℕ, _+_, _-_, _*_, _^_, _≤_, _<_}
 use native.Mathlib.Omega.{arith}
 use lib.ListN.{length, getD, getElem?, take, drop, length-map}
+use lib.Seq.{length-take-le, take-at}
 use Rattle.lists.specs.Lists.{occ, overwrite}
 use Rattle.lists.proofs.Counting.{getD-occ, mem-occ}
 use Rattle.lists.proofs.FirstPlace.{place, place-at}
@@ -32,12 +33,12 @@ use Rattle.sort_order.specs.Order.{sortOrder}
 use Rattle.sort_order.specs.Sorted.{graph, sorted}
 use Rattle.sort.specs.between.Into.{sortOutcome, sortInto}
 use Rattle.sort_order.specs.between.Sortable.{Sortable}
-use Rattle.sort.specs.between.Steps.{ordered, cellGraph, Numbers, PlacesTable, movedGates, movedPins, pinsIn, Movable, RenumberedCells}
+use Rattle.sort.specs.between.Steps.{ordered, cellGraph, Cells, Numbers, PlacesTable, movedGates, movedPins, pinsIn, Movable, RenumberedCells}
 use Rattle.sort_order.proofs.Ordering.{sort-length}
 use Rattle.sort_order.proofs.Sorting.{graph-valid, order-sorted, none-sorted, order-has, order-orders}
 use Rattle.sort_order.proofs.Keeps.{once, kept-pins}
 use Rattle.network.proofs.GateRead.{gate-record, gate-is, cell-gate}
-use Rattle.sort.proofs.Reading.{net-gates, net-outputs, net-size, graph-cells, sortable-cells}
+use Rattle.sort.proofs.Reading.{net-gates, net-outputs, net-size, graph-cells, sortable-cells, gates-room}
 
 -- a list of cells, each a 32-bit number
 abbrev pub WordCells : List ℕ → Type 0
@@ -51,13 +52,21 @@ form-remap : (π : ℕ → ℕ) (x : Gate) → formCell (remapGate π x) ≡ for
 form-remap π (Comb f ps) = refl
 form-remap π (Dff s) = refl
 
--- ---- what `find_order` answers
+-- ---- what `find_order` asks and answers, lent the first n of the cells z
 
-pub found-some : (r : Bool) {l : List ℕ} {o : Option (List ℕ)} → r ≡ true → ordered r l ≡ o → some l ≡ o
-found-some r e q = rw e at q
+module _ (gs ps z : List ℕ) (n : ℕ) (few : n ≤ length z) where
+  lent-length : length (take n z) ≡ n
+  lent-length = length-take-le n z few
 
-pub found-none : (r : Bool) (l : List ℕ) {o : Option (List ℕ)} → r ≡ false → ordered r l ≡ o → none ≡ o
-found-none r l e q = rw e at q
+  pub found-asks : Cells gs ps n → Cells gs ps (length (take n z)) × (length (take n z) * gateWidth ≤ length gs)
+  found-asks h = rw lent-length (h, gates-room h)
+
+  pub found-none : (r : Bool) (l : List ℕ) → r ≡ false → ordered r l ≡ sortOrder (cellGraph gs ps (length (take n z))) → none ≡ sortOrder (cellGraph gs ps n)
+  found-none r l e q = rw (e, lent-length) at q
+
+  pub found-some : (r : Bool) (l : List ℕ) → length l ≡ length (take n z) → r ≡ true → ordered r l ≡ sortOrder (cellGraph gs ps (length (take n z)))
+      → some (take n (l ++ drop n z)) ≡ sortOrder (cellGraph gs ps n)
+  found-some r l k e q = ap some (take-at l (drop n z) n (k ∙ lent-length)) ∙ (rw (e, lent-length) at q)
 
 -- ---- where there is no order, nothing is written
 

@@ -1,13 +1,13 @@
 -- The order that the walk leaves in its cells is the sort's. Assumes nothing.
 use mathlib.Core.Path.{_≡_, sym, ap, _∙_}
-use mathlib.Core.List.{List, _++_, append-assoc}
+use mathlib.Core.List.{List, [], append-nil}
 use mathlib.Core.Option.{none, some}
 use Prim.Native.Nat.{ℕ, _+_}
 use native.Mathlib.Omega.{arith}
 use native.Mathlib.Decide.{ℕ-discrete}
 use lib.Dec.{eqb}
 use lib.ListN.{length, getD, take, drop, length-append}
-use lib.Seq.{take-at}
+use lib.Seq.{drop-length, take-at}
 use borrow.Author.Tests.{eq-eqb, ne-eqb}
 use Rattle.sort_order.specs.Order.{Graph, recorded, order, flopsTo, startTo, useCount, sortOrder}
 use Rattle.sort_order.specs.between.Walk.{ValidGraph}
@@ -26,26 +26,26 @@ module _ (G : Graph) (valid : ValidGraph G) where
   unfolding order
   parts = length-append (flopsTo (G .comb) (G .size)) (recorded G)
 
-  module _ {o₀ m o₁ o₂ : List ℕ} {k at : ℕ} (f : FlopsPlaced (G .comb) (G .size) o₀ m o₁ k) (l : Recorded G o₁ o₂ at) where
+  -- an order with a cell for each gate
+  module _ {o₀ m o₁ o₂ : List ℕ} {k at : ℕ} (n : length o₁ ≡ G .size) (f : FlopsPlaced (G .comb) (G .size) o₀ m o₁ k) (l : Recorded G o₁ o₂ at) where
     -- where the recorded gates start behind the flip-flops, all gates stand in the order
-    found-order : at ≡ k → take (G .size) o₂ ≡ order G
+    found-order : at ≡ k → o₂ ≡ order G
     unfolding order
     found-order q =
         let fl = flopsTo (G .comb) (G .size) in
         let t : take at o₁ ≡ fl = rw (f .front) (take-at fl (drop k o₀) at (sym (q ∙ f .count))) in
-        let n : length (fl ++ recorded G) ≡ G .size = omega (arith, length-append fl (recorded G), l .start, f .count) in
-        let c : o₂ ≡ (fl ++ recorded G) ++ drop (G .size) o₁ = l .cells ∙ rw (t, append-assoc fl (recorded G) (drop (G .size) o₁)) in
-        ap (take (G .size)) c ∙ take-at (fl ++ recorded G) (drop (G .size) o₁) (G .size) n
+        let d : drop (G .size) o₁ ≡ [] = rw (sym n) (drop-length o₁) in
+        l .cells ∙ rw (t, d, append-nil)
 
-    pub found-all : at ≡ k → some (take (G .size) o₂) ≡ sortOrder G
+    pub found-all : at ≡ k → some o₂ ≡ sortOrder G
     found-all q = ap some (found-order q) ∙ sym (sort-full G valid (omega (arith, parts, l .start, f .count)))
 
     pub found-loop : (at ≡ k → ⊥) → none ≡ sortOrder G
     found-loop q = sym (sort-short G valid (omega (arith, parts, l .start, f .count, order-short G valid)))
 
-    pub found-is : ordered (eqb at k) (take (G .size) o₂) ≡ sortOrder G
+    pub found-is : ordered (eqb at k) o₂ ≡ sortOrder G
     found-is = go (ℕ-discrete at k)
       where
-        go : Dec (at ≡ k) → ordered (eqb at k) (take (G .size) o₂) ≡ sortOrder G
+        go : Dec (at ≡ k) → ordered (eqb at k) o₂ ≡ sortOrder G
         go (yes e) = rw (eq-eqb at k e) (found-all e)
         go (no e) = rw (ne-eqb at k e) (found-loop e)

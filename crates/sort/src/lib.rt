@@ -133,13 +133,13 @@ fn lower_uses(pins: &[u32], counts: &mut [u32], stack: &mut [u32], top: usize) -
     requires { ⌜ Walks (now counts) (fromTop top (now stack)) (now pins) ⌝ }
     ensures { λ r. ⌜ Lowered (gateIns (now (pins .entry))) (now (counts .entry)) (fromTop top (now (stack .entry))) (now (counts .exit)) (fromTop r (now (stack .exit))) ⌝ }
 {
-    let mut t = top;
+    let mut new_top = top;
     let mut i = 0;
     while i < pins.len() {
-        t = lower_use(pins[i], counts, stack, t);
+        new_top = lower_use(pins[i], counts, stack, new_top);
         i += 1;
     }
-    t
+    new_top
 }
 
 // Marks gate g and puts it into the order, if it is a flip-flop.
@@ -203,74 +203,67 @@ fn start_stack(marks: &[u8], counts: &[u32], n: usize, stack: &mut [u32]) -> usi
 fn visit(
     gates: &[u32],
     pins: &[u32],
-    n: usize,
     counts: &mut [u32],
     marks: &mut [u8],
     stack: &mut [u32],
     order: &mut [u32],
-    w: Place,
+    place: Place,
 ) -> Place
-    requires { ⌜ Cells (now gates) (now pins) n ⌝ }
-    requires { ⌜ (0 < w .top) × Ready (cellGraph (now gates) (now pins) n) (now counts) (now marks) (now stack) (w .top) (now order) (w .at) ⌝ }
-    ensures { λ r. ⌜ Visited (cellGraph (now (gates .entry)) (now (pins .entry)) n) (getD (now (stack .entry)) (w .top - 1) 0) (now (counts .entry)) (now (marks .entry)) (now (stack .entry)) (w .top) (now (order .entry)) (w .at) (now (counts .exit)) (now (marks .exit)) (now (stack .exit)) (r .top) (now (order .exit)) (r .at) ⌝ }
+    requires { ⌜ Cells (now gates) (now pins) (length (now order)) ⌝ }
+    requires { ⌜ (0 < place .top) × Ready (cellGraph (now gates) (now pins) (length (now order))) (now counts) (now marks) (now stack) (place .top) (now order) (place .at) ⌝ }
+    ensures { λ r. ⌜ Visited (cellGraph (now (gates .entry)) (now (pins .entry)) (length (now (order .entry)))) (getD (now (stack .entry)) (place .top - 1) 0) (now (counts .entry)) (now (marks .entry)) (now (stack .entry)) (place .top) (now (order .entry)) (place .at) (now (counts .exit)) (now (marks .exit)) (now (stack .exit)) (r .top) (now (order .exit)) (r .at) ⌝ }
 {
-    let top = w.top - 1;
+    let top = place.top - 1;
     let v = stack[top] as usize;
     if marks[v] != 0 {
-        return Place { top, at: w.at };
+        return Place { top, at: place.at };
     }
-    let at = w.at - 1;
+    let at = place.at - 1;
     marks[v] = 1;
     order[at] = v as u32;
     let run = gate_pins(gates, pins, v);
-    let t = lower_uses(run, counts, stack, top);
-    Place { top: t, at }
+    let new_top = lower_uses(run, counts, stack, top);
+    Place { top: new_top, at }
 }
 
-// Visits until the stack is empty. Answers where the recorded gates start in the order.
+// Visits until the stack is empty. Answers where the recorded gates start in the order, which has a cell for each gate.
 fn visit_all(
     gates: &[u32],
     pins: &[u32],
-    n: usize,
     counts: &mut [u32],
     marks: &mut [u8],
     stack: &mut [u32],
     top: usize,
     order: &mut [u32],
 ) -> usize
-    requires { ⌜ Cells (now gates) (now pins) n ⌝ }
-    requires { ⌜ Begins (cellGraph (now gates) (now pins) n) (now counts) (now marks) (now stack) top (now order) ⌝ }
-    ensures { λ r. ⌜ Recorded (cellGraph (now (gates .entry)) (now (pins .entry)) n) (now (order .entry)) (now (order .exit)) r ⌝ }
+    requires { ⌜ Cells (now gates) (now pins) (length (now order)) ⌝ }
+    requires { ⌜ Begins (cellGraph (now gates) (now pins) (length (now order))) (now counts) (now marks) (now stack) top (now order) ⌝ }
+    ensures { λ r. ⌜ Recorded (cellGraph (now (gates .entry)) (now (pins .entry)) (length (now (order .entry)))) (now (order .entry)) (now (order .exit)) r ⌝ }
 {
-    let mut w = Place { top, at: n };
-    while w.top != 0 {
-        w = visit(gates, pins, n, counts, marks, stack, order, w);
+    let mut place = Place {
+        top,
+        at: order.len(),
+    };
+    while place.top != 0 {
+        place = visit(gates, pins, counts, marks, stack, order, place);
     }
-    w.at
+    place.at
 }
 
-// Puts the gates' numbers into the order: flip-flops, then the recorded gates backwards. Answers false at a loop.
-fn find_order(gates: &[u32], pins: &[u32], n: usize, order: &mut [u32]) -> bool
-    requires { ⌜ Cells (now gates) (now pins) n ⌝ }
-    requires { ⌜ (n * gateWidth ≤ length (now gates)) × (n ≤ length (now order)) ⌝ }
-    ensures { λ r. ⌜ ordered r (take n (now (order .exit))) ≡ sortOrder (cellGraph (now (gates .entry)) (now (pins .entry)) n) ⌝ }
+// Puts the gates' numbers into the order, a cell for each: flip-flops, then the recorded gates backwards. Answers false at a loop.
+fn find_order(gates: &[u32], pins: &[u32], order: &mut [u32]) -> bool
+    requires { ⌜ Cells (now gates) (now pins) (length (now order)) ⌝ }
+    requires { ⌜ length (now order) * gateWidth ≤ length (now gates) ⌝ }
+    ensures { λ r. ⌜ ordered r (now (order .exit)) ≡ sortOrder (cellGraph (now (gates .entry)) (now (pins .entry)) (length (now (order .entry)))) ⌝ }
 {
+    let n = order.len();
     let mut counts = [0u32; 1024];
     let mut marks = [0u8; 1024];
     let mut stack = [0u32; 1024];
     count_uses(gates, pins, n, &mut counts);
     let k = mark_flops(gates, n, &mut marks, order);
     let top = start_stack(&marks, &counts, n, &mut stack);
-    let at = visit_all(
-        gates,
-        pins,
-        n,
-        &mut counts,
-        &mut marks,
-        &mut stack,
-        top,
-        order,
-    );
+    let at = visit_all(gates, pins, &mut counts, &mut marks, &mut stack, top, order);
     at == k
 }
 
@@ -343,36 +336,36 @@ fn move_gates(
     at
 }
 
-// Renumbers the first n outputs.
-fn move_outputs(table: &[u32], outputs: &mut [u32], n: usize)
-    requires { ⌜ n ≤ length (now outputs) ⌝ }
-    ensures { λ r. ⌜ now (outputs .exit) ≡ overwrite (map (remapCell (now (table .entry))) (take n (now (outputs .entry)))) (now (outputs .entry)) ⌝ }
+// Renumbers the first outs outputs.
+fn move_outputs(table: &[u32], outputs: &mut [u32], outs: usize)
+    requires { ⌜ outs ≤ length (now outputs) ⌝ }
+    ensures { λ r. ⌜ now (outputs .exit) ≡ overwrite (map (remapCell (now (table .entry))) (take outs (now (outputs .entry)))) (now (outputs .entry)) ⌝ }
 {
     let mut i = 0;
-    while i < n {
+    while i < outs {
         outputs[i] = Signal { a: outputs[i] }.remap_order(table).raw();
         i += 1;
     }
 }
 
-// Copies the gates in the new order and renumbers n outputs. Answers how many pins there are.
+// Copies the gates in the new order and renumbers the first outs outputs. Answers how many pins there are.
 fn renumber(
     gates: &[u32],
     pins: &[u32],
     order: &[u32],
-    n: usize,
+    outs: usize,
     outputs: &mut [u32],
     new_gates: &mut [u32],
     new_pins: &mut [u32],
 ) -> usize
     requires { ⌜ Numbers (now order) ⌝ }
     requires { ⌜ Movable (now gates) (now pins) (now order) (now «new_gates») (now «new_pins») ⌝ }
-    requires { ⌜ n ≤ length (now outputs) ⌝ }
-    ensures { λ r. ⌜ RenumberedCells (now (gates .entry)) (now (pins .entry)) (now (order .entry)) n (now (outputs .entry)) (now («new_gates» .entry)) (now («new_pins» .entry)) (now (outputs .exit)) (now («new_gates» .exit)) (now («new_pins» .exit)) r ⌝ }
+    requires { ⌜ outs ≤ length (now outputs) ⌝ }
+    ensures { λ r. ⌜ RenumberedCells (now (gates .entry)) (now (pins .entry)) (now (order .entry)) outs (now (outputs .entry)) (now («new_gates» .entry)) (now («new_pins» .entry)) (now (outputs .exit)) (now («new_gates» .exit)) (now («new_pins» .exit)) r ⌝ }
 {
     let mut table = [0u32; 1024];
     number_gates(order, &mut table);
-    move_outputs(&table, outputs, n);
+    move_outputs(&table, outputs, outs);
     move_gates(gates, pins, &table, order, new_gates, new_pins)
 }
 
@@ -390,7 +383,7 @@ pub fn topo_sort(
 {
     let n = counts.gates;
     let mut order = [0u32; 1024];
-    if !find_order(gates, pins, n, &mut order) {
+    if !find_order(gates, pins, &mut order[..n]) {
         return Sorted::Loop;
     }
     let outs = counts.outputs;

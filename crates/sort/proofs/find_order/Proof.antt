@@ -2,7 +2,7 @@
 use mathlib.Core.Path.{_∙_}
 use Prim.Native.Nat.{ℕ}
 use native.Mathlib.Omega.{arith}
-use lib.ListN.{length-replicate}
+use lib.ListN.{length, length-replicate}
 use borrow.Author.Needs.{needs}
 use Rattle.network.specs.Sizes.{maxGates}
 use Rattle.sort.specs.between.Steps.{cellGraph}
@@ -17,17 +17,19 @@ visit-all-requires c κs =
     let m = t .before .before .before .before .before .before .before in
     let u = m .before .before .before .before in
     let s = u .before .before .before .before .before in
-    let G = cellGraph (s .args .gates .now) (s .args .pins .now) (s .args .n) in
+    let G = cellGraph (s .args .gates .now) (s .args .pins .now) (length (s .args .order .now)) in
     let z = length-replicate {A = ℕ} maxGates 0 in
-    let f = flopped-same (s .pre .0 .combs) (m .mark-flops .ensures) in (
+    let k = m .mark-flops .kept .1 .1 in
+    let f = flopped-same (s .pre .0 .combs) (m .mark-flops .ensures) in
+    rw (k .1 .0) (
       s .pre .0,
       record {
         long =
             record {
               counts = u .count-uses .kept .1 .1 .1 .0 ∙ z;
-              marks = m .mark-flops .kept .1 .1 .0 ∙ z;
+              marks = k .0 ∙ z;
               stack = t .start-stack .kept .1 .1 .1 .0 ∙ z;
-              order = omega (arith, m .mark-flops .kept .1 .1 .1 .0, s .pre .1 .1);
+              order = omega (arith, k .1 .0);
             };
         counted = u .count-uses .ensures;
         marked = flopped-marked G _ _ _ _ f;
@@ -40,8 +42,9 @@ returns c =
     let a = c .before .before .before .before .before in
     let m = a .before .before .before .before .before .before .before .before .before .before .before .before .before in
     let s = m .before .before .before .before .before .before .before .before .before in
-    let G = cellGraph (s .args .gates .now) (s .args .pins .now) (s .args .n) in
-    found-is G (s .pre .0 .valid) (flopped-same (s .pre .0 .combs) (m .mark-flops .ensures)) (a .visit-all .ensures)
+    let G = cellGraph (s .args .gates .now) (s .args .pins .now) (length (s .args .order .now)) in
+    let k = m .mark-flops .kept .1 .1 .1 .0 in
+    found-is G (s .pre .0 .valid) k (flopped-same (s .pre .0 .combs) (m .mark-flops .ensures)) (rw k at (a .visit-all .ensures))
 
 pub find-order-spec : {M : Type 1} → statement M
 find-order-spec =

@@ -8,10 +8,10 @@ use Rattle.sort.proofs.lower_uses.Statement.{statement}
 use Rattle.sort.proofs.lower_uses.Tie as tie
 
 abbrev Inv-loop : tie.InvT-loop
-Inv-loop pins counts₀ stack₀ top t₀ i₀ counts stack t i = Lowering pins counts₀ stack₀ top counts stack t i
+Inv-loop pins counts₀ stack₀ top new-top₀ i₀ counts stack new-top i = Lowering pins counts₀ stack₀ top counts stack new-top i
 
 abbrev μ-loop : tie.MeasureT-loop
-μ-loop pins counts₀ stack₀ top t₀ i₀ counts stack t i = length pins - i
+μ-loop pins counts₀ stack₀ top new-top₀ i₀ counts stack new-top i = length pins - i
 
 loop-holds : tie.Need-loop-holds Inv-loop μ-loop
 loop-holds c =

@@ -9,10 +9,10 @@ use Rattle.sort.proofs.move_outputs.Statement.{statement}
 use Rattle.sort.proofs.move_outputs.Tie as tie
 
 abbrev Inv-loop : tie.InvT-loop
-Inv-loop table outputs₀ n i₀ outputs i = Renaming (remapCell table) n outputs₀ outputs i
+Inv-loop table outputs₀ outs i₀ outputs i = Renaming (remapCell table) outs outputs₀ outputs i
 
 abbrev μ-loop : tie.MeasureT-loop
-μ-loop table outputs₀ n i₀ outputs i = n - i
+μ-loop table outputs₀ outs i₀ outputs i = outs - i
 
 loop-holds : tie.Need-loop-holds Inv-loop μ-loop
 loop-holds c = renaming-start

@@ -2,7 +2,7 @@
 use mathlib.Core.Path.{sym, ap, _∙_}
 use Prim.Native.Nat.{_-_, _≤_, _<_}
 use native.Mathlib.Omega.{arith}
-use lib.ListN.{getD}
+use lib.ListN.{length, getD}
 use borrow.Author.Needs.{needs}
 use denote.Ref.{now}
 use Rattle.network.specs.Sizes.{maxGates}
@@ -12,11 +12,12 @@ use Rattle.sort.proofs.visit.Statement.{statement}
 use Rattle.sort.proofs.visit.Tie as tie
 
 -- what is known of the gate at the top
-known : (s : tie.Start) → (s .args .w .top ≤ s .args .n) × (getD (s .args .stack .now) (s .args .w .top - 1) 0 < s .args .n) × (s .args .n ≤ maxGates)
+known : (s : tie.Start) → (s .args .place .top ≤ length (s .args .order .now)) × (getD (s .args .stack .now) (s .args .place .top - 1) 0 < length (s .args .order .now))
+    × (length (s .args .order .now) ≤ maxGates)
 known s =
     let a = s .args in
     let h = s .pre .0 in
-    let G = cellGraph (a .gates .now) (a .pins .now) (a .n) in (
+    let G = cellGraph (a .gates .now) (a .pins .now) (length (a .order .now)) in (
       top-few G (h .valid) (h .few) _ _ _ _ _ _ (s .pre .1 .0) (s .pre .1 .1),
       v-below G (h .valid) (h .few) _ _ _ _ _ _ (s .pre .1 .0) (s .pre .1 .1),
       h .few,
@@ -67,7 +68,7 @@ lower-uses-requires c κs =
     let before = c .before .before .before .before .before .before .before .before .before .before .before .before .before .before in
     let s = before in
     let l = s .pre .1 .1 .long in
-    let G = cellGraph (s .args .gates .now) (s .args .pins .now) (s .args .n) in (
+    let G = cellGraph (s .args .gates .now) (s .args .pins .now) (length (s .args .order .now)) in (
       (l .counts, l .stack),
       visit-walks G (s .pre .0 .valid) (s .pre .0 .few) _ _ _ _ _ _ (s .pre .1 .0) (s .pre .1 .1) _
           (sym (ap gateIns (c .before .before .gate-pins .ensures) ∙ s .pre .0 .inputs _ (known s .1))) (c .before .before .before .before .if1 .left),
@@ -78,7 +79,7 @@ returns-2 c =
     let a = c .before .before .before .before in
     let g = a .before .before .before in
     let s = g .before .before .before .before .before .before .before .before .before .before .before .before in
-    let G = cellGraph (s .args .gates .now) (s .args .pins .now) (s .args .n) in
+    let G = cellGraph (s .args .gates .now) (s .args .pins .now) (length (s .args .order .now)) in
     visited-comb G (s .pre .0 .valid) (s .pre .0 .few) _ _ _ _ _ _ (s .pre .1 .0) (s .pre .1 .1) (now (g .gate-pins .result)) _ _ _
     (sym (ap gateIns (g .gate-pins .ensures) ∙ s .pre .0 .inputs _ (known s .1))) (g .before .before .if1 .left) (a .lower-uses .ensures)
 

@@ -1,6 +1,7 @@
 -- `visit_all` visits until the stack is empty. Assumes nothing.
 use mathlib.Core.Path.{sym, _∙_}
 use native.Mathlib.Omega.{arith}
+use lib.ListN.{length}
 use Rattle.sort_order.proofs.Walk.{budget}
 use Rattle.sort.specs.between.Steps.{cellGraph, fromTop}
 use Rattle.sort.proofs.Visiting.{Walking, walking-start, walking-next, walking-end, next-budget}
@@ -8,10 +9,11 @@ use Rattle.sort.proofs.visit_all.Statement.{statement}
 use Rattle.sort.proofs.visit_all.Tie as tie
 
 abbrev Inv-loop : tie.InvT-loop
-Inv-loop gates pins n counts₀ marks₀ stack₀ top order₀ w₀ counts marks stack order w = Walking (cellGraph gates pins n) order₀ counts marks stack (w .top) order (w .at)
+Inv-loop gates pins counts₀ marks₀ stack₀ top order₀ place₀ counts marks stack order place =
+    Walking (cellGraph gates pins (length order₀)) order₀ counts marks stack (place .top) order (place .at)
 
 abbrev μ-loop : tie.MeasureT-loop
-μ-loop gates pins n counts₀ marks₀ stack₀ top order₀ w₀ counts marks stack order w = budget (cellGraph gates pins n) counts (fromTop (w .top) stack)
+μ-loop gates pins counts₀ marks₀ stack₀ top order₀ place₀ counts marks stack order place = budget (cellGraph gates pins (length order₀)) counts (fromTop (place .top) stack)
 
 loop-holds : tie.Need-loop-holds Inv-loop μ-loop
 loop-holds c =
@@ -22,7 +24,7 @@ visit-requires : tie.Need-visit-requires Inv-loop μ-loop
 visit-requires c κs =
     let s = c .before .before .before .before .before .before .before .before .before .before .before .before .before in
     let i = c .before .before .before .before .before .before .loop .inv in
-    (s .pre .0, (omega (arith, c .before .before .before .before .if1 .taken), i .ready))
+    rw (i .same) (s .pre .0, (omega (arith, c .before .before .before .before .if1 .taken), i .ready))
 
 loop-less : tie.Need-loop-less Inv-loop μ-loop
 loop-less c =
@@ -30,10 +32,11 @@ loop-less c =
     let a = before in
     let t = a .before .before .before .before .before in
     let s = t .before .before .before .before .before .before .before .before .before in
-    let G = cellGraph (s .args .gates .now) (s .args .pins .now) (s .args .n) in
+    let G = cellGraph (s .args .gates .now) (s .args .pins .now) (length (s .args .order .now)) in
+    let w = t .before .before .loop .inv in
     omega (
       arith,
-      next-budget G (s .pre .0 .valid) (s .pre .0 .few) _ _ _ _ _ _ _ (omega (arith, t .if1 .taken)) (t .before .before .loop .inv) _ _ _ _ _ _ (a .visit .ensures),
+      next-budget G (s .pre .0 .valid) (s .pre .0 .few) _ _ _ _ _ _ _ (omega (arith, t .if1 .taken)) w _ _ _ _ _ _ (rw (w .same) at (a .visit .ensures)),
     )
 
 loop-again : tie.Need-loop-again Inv-loop μ-loop
@@ -42,9 +45,10 @@ loop-again c =
     let a = before in
     let t = a .before .before .before .before .before in
     let s = t .before .before .before .before .before .before .before .before .before in
-    let G = cellGraph (s .args .gates .now) (s .args .pins .now) (s .args .n) in
-    let k = a .visit .kept .1 .1 .1 in
-    walking-next G (s .pre .0 .valid) (s .pre .0 .few) _ _ _ _ _ _ _ (omega (arith, t .if1 .taken)) (t .before .before .loop .inv) _ _ _ _ _ _ (a .visit .ensures)
+    let G = cellGraph (s .args .gates .now) (s .args .pins .now) (length (s .args .order .now)) in
+    let w = t .before .before .loop .inv in
+    let k = a .visit .kept .1 .1 in
+    walking-next G (s .pre .0 .valid) (s .pre .0 .few) _ _ _ _ _ _ _ (omega (arith, t .if1 .taken)) w _ _ _ _ _ _ (rw (w .same) at (a .visit .ensures))
     (k .0) (k .1 .0) (k .1 .1 .0) (k .1 .1 .1 .0)
 
 same-length : tie.Need-same-length Inv-loop μ-loop
