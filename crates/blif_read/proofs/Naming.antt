@@ -18,7 +18,7 @@ use Rattle.blif_text.specs.between.Places.{InText, tokensOf}
 use Rattle.blif_text.specs.between.Walk.{stmtsFrom, Inside}
 use Rattle.blif_text.specs.between.Blocks.{defsAt}
 use Rattle.name_index.specs.between.Search.{Entry, signalIn}
-use Rattle.name_index.specs.between.Index.{namesIn, entriesOf}
+use Rattle.name_index.specs.between.Index.{entryCount, entriesOf}
 use Rattle.blif_reading.specs.Read.{pinCount, tooLarge, naming, undefined, coverFaults, readFault, refused, signalOf, readText}
 use Rattle.blif_reading.specs.between.Working.{GatesIn, placed, placedCount}
 use Rattle.blif_read_names.specs.between.Entries.{entries}
@@ -63,7 +63,7 @@ module _ {text tokens : List ℕ} (c : Sized text tokens) where
         }
 
 -- the index has as many names as are declared
-entries-counted : {ds : List Decl} {text tokens index blocks : List ℕ} {n i g o : ℕ} → Named ds text tokens n index blocks i g o → entriesOf text index (namesIn index) ≡ entries 0 0 ds
+entries-counted : {ds : List Decl} {text tokens index blocks : List ℕ} {n i g o : ℕ} → Named ds text tokens n index blocks i g o → entriesOf text index (entryCount index) ≡ entries 0 0 ds
 entries-counted {text = text} {index = index} t = ap (entriesOf text index) (t .index-is .counted) ∙ t .entries-are
 
 -- the first places are within the text too
@@ -85,12 +85,12 @@ module _ {text tokens index outNames blocks : List ℕ} {i g o : ℕ} (c : Defin
   pub outs-fit : (m : ℕ) → 256 ≤ m → length (take o outNames) ≤ m
   outs-fit m h = omega (arith, length-take-le o outNames (c .tables .outputs-in .room), few-outs)
 
-  module _ {os os′ : List ℕ} {r : Bool} (h : Resolved (map (signalIn (entriesOf text index (namesIn index))) (tokensOf text (take o outNames))) os os′ r) where
+  module _ {os os′ : List ℕ} {r : Bool} (h : Resolved (map (signalIn (entriesOf text index (entryCount index))) (tokensOf text (take o outNames))) os os′ r) where
     abbrev ds : List Decl
     ds = declsOf text
 
     -- the signals asked for are those of the outputs
-    asked : map (signalIn (entriesOf text index (namesIn index))) (tokensOf text (take o outNames)) ≡ map (signalIn (entries 0 0 ds)) (outs ds)
+    asked : map (signalIn (entriesOf text index (entryCount index))) (tokensOf text (take o outNames)) ≡ map (signalIn (entries 0 0 ds)) (outs ds)
     asked = ap₂ (λ (es : List Entry) (xs : List Bytes). map (signalIn es) xs) (entries-counted (c .tables .named)) (c .tables .outputs-are)
 
     -- whether all are defined
@@ -147,7 +147,7 @@ module _ {text tokens index os blocks : List ℕ} {i g o : ℕ} (c : Resolving t
       omega (arith, ap (sumOf placedCount) (c .tables .blocks-are), placed-within (defs (declsOf text)), sizes-within (declsOf text) (c .sized) .pins)
 
   -- whether all uses are defined
-  uses-known : allFound (signalIn (entriesOf text index (namesIn index))) (defsAt text tokens (length tokens) blocks g)
+  uses-known : allFound (signalIn (entriesOf text index (entryCount index))) (defsAt text tokens (length tokens) blocks g)
       ≡ all (λ (x : Bytes). known x (ins (declsOf text) ++ map defines (defs (declsOf text)))) (flatMap usedNames (defs (declsOf text)))
   uses-known =
       ap₂ (λ (es : List Entry) (xs : List Def). allFound (signalIn es) xs) (entries-counted (c .tables)) (c .tables .blocks-are)
@@ -155,7 +155,7 @@ module _ {text tokens index os blocks : List ℕ} {i g o : ℕ} (c : Resolving t
 
   module _ {gates pinsIn : List ℕ} where
     -- one is undefined
-    pub use-refused : {r : Refusal} → PlacedBy (signalIn (entriesOf text index (namesIn index))) (defsAt text tokens (length tokens) blocks g) gates pinsIn (answer.Refused r) → readText text ≡ refused r
+    pub use-refused : {r : Refusal} → PlacedBy (signalIn (entriesOf text index (entryCount index))) (defsAt text tokens (length tokens) blocks g) gates pinsIn (answer.Refused r) → readText text ≡ refused r
     use-refused h =
         let f = refused-found _ _ (h .counted) in
         refuses-refuseIf text (undefined (declsOf text)) refusal.Undefined (coverFaults (defs (declsOf text))) (c .left)
@@ -163,7 +163,7 @@ module _ {text tokens index os blocks : List ℕ} {i g o : ℕ} (c : Resolving t
         ∙ ap refused (sym (f .1))
 
     -- none is
-    pub gates-placed : {used : ℕ} → PlacedBy (signalIn (entriesOf text index (namesIn index))) (defsAt text tokens (length tokens) blocks g) gates pinsIn (answer.Pins used)
+    pub gates-placed : {used : ℕ} → PlacedBy (signalIn (entriesOf text index (entryCount index))) (defsAt text tokens (length tokens) blocks g) gates pinsIn (answer.Pins used)
         → Placing text tokens blocks i g o gates pinsIn os used
     gates-placed {used} h =
         let f = pins-found _ _ (h .counted) in

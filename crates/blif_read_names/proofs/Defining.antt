@@ -16,7 +16,7 @@ use Rattle.blif_declarations.specs.between.Declarations.{NextIs}
 use Rattle.blif_declarations.specs.declared.Declaration.the-variants as next
 use Rattle.blif_declarations.proofs.RowStarts.{names-length}
 use Rattle.name_index.specs.between.Search.{Entry}
-use Rattle.name_index.specs.between.Index.{entriesOf, Index}
+use Rattle.name_index.specs.between.Index.{entryCount, entriesOf, Index}
 use Rattle.refusals.specs.Order.{_orElse_, refuseIf}
 use Rattle.refusals.specs.declared.Refusal.the-variants as refusal
 use Rattle.refusals.specs.declared.Checked.{Checked}
@@ -107,13 +107,15 @@ module _ {text tokens : List ℕ} {n : ℕ} {index out blocks : List ℕ} {v : W
 
     -- "10 when a name is defined twice by inputs"
     pub go-inputs : {run : Run} {index′ : List ℕ} {b : Checked} → NextIs text tokens n (v .at) (next.Inputs run) behind
-        → InputsEntered text tokens (run .first) (run .first + run .count) index (v .inputs) (v .gates) index′ b
+        → InputsEntered text tokens (run .first) (run .first + run .count) index (entryCount index) (v .inputs) index′ b
         → Steps text tokens n index′ out blocks v
         (stepOf b (record { at = behind; seen = v .seen; inputs = v .inputs + run .count; gates = v .gates; outputs = v .outputs }))
-    go-inputs {run} {index′} {b} x e =
+    go-inputs {run} {index′} {b} x entered =
+        let e : InputsEntered text tokens (run .first) (run .first + run .count) index (v .inputs + v .gates) (v .inputs) index′ b =
+        subst (λ (k : ℕ). InputsEntered text tokens (run .first) (run .first + run .count) index k (v .inputs) index′ b) (c .tabled .index-is .counted) entered in
         let ns = names text tokens run in
         let l = decls (stmtsFrom text tokens n behind) in
-        let k : v .inputs + (run .first + run .count - run .first) + v .gates ≡ v .inputs + run .count + v .gates = omega arith in
+        let k : v .inputs + v .gates + (run .first + run .count - run .first) ≡ v .inputs + run .count + v .gates = omega arith in
         let rest = naming (v .seen) (namesIn text index (v .inputs + v .gates) ++ ns) l in
         let q = left-as (x .are) ∙ naming-inputs (v .seen) (namesIn text index (v .inputs + v .gates)) l ns ∙ ap (λ (y : Checked). y orElse rest) (sym (e .refused)) in
         step-on b rest _ (x .low h) q

@@ -20,7 +20,7 @@ use Rattle.blif_declarations.specs.between.Rows.{names}
 use Rattle.blif_declarations.specs.between.Declarations.{NextIs}
 use Rattle.blif_declarations.specs.declared.Declaration.the-variants as next
 use Rattle.blif_declarations.proofs.RowStarts.{names-length}
-use Rattle.name_index.specs.between.Index.{entriesOf}
+use Rattle.name_index.specs.between.Index.{entryCount, entriesOf, Index}
 use Rattle.refusals.specs.Order.{_orElse_, refuseIf}
 use Rattle.refusals.specs.declared.Refusal.the-variants as refusal
 use Rattle.refusals.specs.declared.Checked.{Checked}
@@ -74,20 +74,23 @@ module _ {text tokens : List ℕ} {n : ℕ} {index out blocks : List ℕ} {v : W
   go-gate : {d : Def} {x : Bytes} {a k l at : ℕ} {b : Checked} {index′ blocks′ : List ℕ} → v .at < at → StmtsAt text tokens n at
       → decls (stmtsFrom text tokens n (v .at)) ≡ gate d ∷ decls (stmtsFrom text tokens n at)
       → naming (v .seen) (namesIn text index (v .inputs + v .gates)) (gate d ∷ decls (stmtsFrom text tokens n at))
-      ≡ (b orElse naming (v .seen) (namesIn text index (v .inputs + v .gates) ++ (x ∷ [])) (decls (stmtsFrom text tokens n at)))
+      ≡ (refuseIf (known x (namesIn text index (v .inputs + v .gates))) refusal.DefinedTwice orElse naming (v .seen) (namesIn text index (v .inputs + v .gates) ++ (x ∷ [])) (decls (stmtsFrom text tokens n at)))
       → x ≡ defines d → defFrom text tokens n a k l ≡ d → BlockIn text tokens n a k l
-      → GateDefined text index (v .inputs) (v .gates) x (record { first = a; names = k; lines = l }) blocks index′ blocks′ b → length blocks′ ≡ length blocks
+      → GateDefined text index (entryCount index) (v .gates) x (record { first = a; names = k; lines = l }) blocks index′ blocks′ b → length blocks′ ≡ length blocks
       → Steps text tokens n index′ out blocks′ v (stepOf b (gateWalk (walkAt v at)))
-  go-gate {d} {x} {a} {k} {l} {at} {b} {index′} {blocks′} h r e q y f i s p =
+  go-gate {d} {x} {a} {k} {l} {at} {b} {index′} {blocks′} h r e q y f i defined p =
+      let s : GateDefined text index (v .inputs + v .gates) (v .gates) x (record { first = a; names = k; lines = l }) blocks index′ blocks′ b =
+      subst (λ (m : ℕ). GateDefined text index m (v .gates) x (record { first = a; names = k; lines = l }) blocks index′ blocks′ b) (c .tabled .index-is .counted) defined in
+      let m : v .inputs + v .gates + 1 ≡ v .inputs + (v .gates + 1) = omega arith in
       let t = tabled-as c e in
       let few = sizes-within (decls (stmtsFrom text tokens n 0)) (c .small) in
       let room : v .gates * 3 + 2 < length blocks = omega (arith, gate-few t, defs-few (defs (decls (stmtsFrom text tokens n 0))), few .gates, c .blocks-room) in
-      step-on c b _ _ h (left-as c e ∙ q)
+      step-on c b _ _ h (left-as c e ∙ q ∙ ap (λ (w : Checked). w orElse naming (v .seen) (namesIn text index (v .inputs + v .gates) ++ (x ∷ [])) (decls (stmtsFrom text tokens n at))) (sym (s .refused)))
       (λ z left.
-      let g = s .added z in
+      let g = ap (entriesOf text index′) (sym m) ∙ s .added z in
       on c _ r refl p
       (left ∙ ap (λ (w : List Bytes). naming (v .seen) w (decls (stmtsFrom text tokens n at))) (sym (names-more (entriesOf text index (v .inputs + v .gates)) _ g)))
-      (tabled-gate t y (s .index-is z) g (blocks-more (v .gates) a k l room (t .blocks-in) (s .block-is z) i)
+      (tabled-gate t y (subst (Index text index′) m (s .index-is z)) g (blocks-more (v .gates) a k l room (t .blocks-in) (s .block-is z) i)
       (defs-more (v .gates) a k l room (t .blocks-in) (s .block-is z) ∙ ap (λ (w : Def). defsAt text tokens n blocks (v .gates) ++ (w ∷ [])) f)))
 
   module _ (h : v .at < n) {behind : ℕ} {index′ blocks′ : List ℕ} {w : Step} where
@@ -100,8 +103,7 @@ module _ {text tokens : List ℕ} {n : ℕ} {index out blocks : List ℕ} {v : W
         let l = decls (stmtsFrom text tokens n behind) in
         subst (Steps text tokens n index′ out blocks′ v) (sym (s .walk))
         (go-gate (x .low h) (x .rest) (x .are)
-        (naming-latch (v .seen) (namesIn text index (v .inputs + v .gates)) l (plainLatch d q)
-        ∙ ap (λ (b : Checked). b orElse naming (v .seen) (namesIn text index (v .inputs + v .gates) ++ (q ∷ [])) l) (sym (s .gate .refused)))
+        (naming-latch (v .seen) (namesIn text index (v .inputs + v .gates)) l (plainLatch d q))
         (latch-defines (plainLatch d q)) refl
         (record { latchNames = λ z. x .places; coverNames = omega (arith, x .places); behind = λ z. absurd (omega arith); enough = λ z. absurd (omega arith) })
         (s .gate) p)
@@ -132,18 +134,16 @@ module _ {text tokens : List ℕ} {n : ℕ} {index out blocks : List ℕ} {v : W
       cover-some f p =
           let ns = names text tokens run in
           let l = decls (stmtsFrom text tokens n behind) in
-          let g = s .cover .last f in
           let last = tokenOf text (getD tokens (block .first + block .names - 1) 0) in
           let y : coverOut ns ≡ last = cover-last text tokens run (by-order (block .names) 0 (λ a. absurd (f (omega arith))) (λ a. a)) there in
           subst (Steps text tokens n index′ out blocks′ v) (sym (s .walk))
           (go-gate (x .low h) (x .rest) (x .are)
           (naming-cover (v .seen) (namesIn text index (v .inputs + v .gates)) l ns lines (λ z. f (sym (names-length text tokens run there) ∙ z))
-          ∙ ap (λ (k : Bytes). refuseIf (known k (namesIn text index (v .inputs + v .gates))) refusal.DefinedTwice orElse naming (v .seen) (namesIn text index (v .inputs + v .gates) ++ (k ∷ [])) l) y
-          ∙ ap (λ (b : Checked). b orElse naming (v .seen) (namesIn text index (v .inputs + v .gates) ++ (last ∷ [])) l) (sym (g .refused)))
+          ∙ ap (λ (k : Bytes). refuseIf (known k (namesIn text index (v .inputs + v .gates))) refusal.DefinedTwice orElse naming (v .seen) (namesIn text index (v .inputs + v .gates) ++ (k ∷ [])) l) y)
           (sym y ∙ cover-defines ns lines)
           (cover-from text tokens n (block .first) (block .names) (block .lines) f)
           (record { latchNames = λ z. absurd (f z); coverNames = x .places .few; behind = λ z. x .places .behind; enough = λ z. x .places .enough })
-          g p)
+          (s .cover .last f) p)
 
       -- a cover
       pub go-cover : length blocks′ ≡ length blocks → Steps text tokens n index′ out blocks′ v w

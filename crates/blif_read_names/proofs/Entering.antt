@@ -22,7 +22,8 @@ use Rattle.blif_text.specs.between.Blocks.{blockWidth}
 use Rattle.blif_text.specs.declared.Block.{Block}
 use Rattle.blif_text.proofs.WordLaws.{slice-snoc}
 use Rattle.name_index.specs.between.Search.{Entry, entry}
-use Rattle.name_index.specs.between.Index.{entriesOf, Index, Entered}
+use Rattle.name_index.specs.between.Index.{entryCount, entriesOf, Index, Entered}
+use Rattle.name_index.proofs.IndexLaws.{index-counted}
 use Rattle.refusals.specs.declared.Refusal.the-variants as refusal
 use Rattle.refusals.specs.declared.Checked.the-variants.{Fine, Refused}
 use Rattle.refusals.proofs.Order.{refused-ne-fine, refuseIf-yes, refuseIf-no}
@@ -61,105 +62,109 @@ definedTwice-known earlier x xs e = ap (λ (b : Bool). b || definedTwice (earlie
 -- ---- inputs
 
 -- the names from first to j are entered
-pub record Entering (text tokens : List ℕ) (first end : ℕ) (index₀ : List ℕ) (inputs gates : ℕ) (index : List ℕ) (j i : ℕ) : Type 0 where
+pub record Entering (text tokens : List ℕ) (first end : ℕ) (index₀ : List ℕ) (inputs : ℕ) (index : List ℕ) (j i : ℕ) : Type 0 where
   pub places : Inside text tokens end
   pub low : first ≤ j
   pub high : j ≤ end
   pub counted : i ≡ inputs + (j - first)
   pub inputs-few : inputs + (end - first) ≤ 256
-  pub gates-few : gates ≤ 1024
+  pub room : entryCount index₀ + (end - first) ≤ 1280
   pub kept : length index ≡ length index₀
-  pub index-is : Index text index (i + gates)
-  pub added : entriesOf text index (i + gates) ≡ entriesOf text index₀ (inputs + gates) ++ inputEntries inputs (tokensOf text (slice first j tokens))
-  pub left : definedTwice (namesIn text index₀ (inputs + gates)) (tokensOf text (slice first end tokens)) ≡ definedTwice (namesIn text index (i + gates)) (tokensOf text (slice j end tokens))
+  pub index-is : Index text index (entryCount index)
+  pub entered : entryCount index ≡ entryCount index₀ + (j - first)
+  pub added : entriesOf text index (entryCount index) ≡ entriesOf text index₀ (entryCount index₀) ++ inputEntries inputs (tokensOf text (slice first j tokens))
+  pub left : definedTwice (namesIn text index₀ (entryCount index₀)) (tokensOf text (slice first end tokens)) ≡ definedTwice (namesIn text index (entryCount index)) (tokensOf text (slice j end tokens))
 
 -- before the first
-pub entering-start : {text tokens : List ℕ} {first end : ℕ} {index : List ℕ} {inputs gates : ℕ}
-    → InputsFit text tokens first end index inputs gates → Entering text tokens first end index inputs gates index first inputs
-entering-start {text} {tokens} {first} {end} {index} {inputs} {gates} f =
+pub entering-start : {text tokens : List ℕ} {first end : ℕ} {index : List ℕ} {inputs : ℕ}
+    → InputsFit text tokens first end index inputs → Entering text tokens first end index inputs index first inputs
+entering-start {text} {tokens} {first} {end} {index} {inputs} f =
     record {
       places = f .places;
       low = omega arith;
       high = f .low;
       counted = omega arith;
       inputs-few = f .inputs;
-      gates-few = f .gates;
+      room = f .room;
       kept = refl;
       index-is = f .index-is;
+      entered = omega arith;
       added =
-          sym (ap (λ (x : List ℕ). entriesOf text index (inputs + gates) ++ inputEntries inputs (tokensOf text x)) (slice-empty first tokens)
-          ∙ append-nil (entriesOf text index (inputs + gates)));
+          sym (ap (λ (x : List ℕ). entriesOf text index (entryCount index) ++ inputEntries inputs (tokensOf text x)) (slice-empty first tokens)
+          ∙ append-nil (entriesOf text index (entryCount index)));
       left = refl;
     }
 
-module _ {text tokens : List ℕ} {first end : ℕ} {index₀ : List ℕ} {inputs gates : ℕ} {index : List ℕ} {j i : ℕ}
-    (c : Entering text tokens first end index₀ inputs gates index j i) (h : j < end) where
-  -- the name at j is the next
-  names-next : tokensOf text (slice j end tokens) ≡ tokenOf text (getD tokens j 0) ∷ tokensOf text (slice (j + 1) end tokens)
-  names-next = ap (tokensOf text) (slice-first tokens j end h (c .places .room))
+module _ {text tokens : List ℕ} {first end : ℕ} {index₀ : List ℕ} {inputs : ℕ} {index : List ℕ} {j i : ℕ}
+    (c : Entering text tokens first end index₀ inputs index j i) where
+  module _ (h : j < end) {index′ : List ℕ} {s : ℕ} {r : Bool} (e : Entered text index (entryCount index) (getD tokens j 0) s index′ r) where
+    -- the name at j
+    abbrev x : Bytes
+    x = tokenOf text (getD tokens j 0)
 
-  -- it is known
-  pub entering-known : {index′ : List ℕ} {s : ℕ} {r : Bool} → Entered text index (i + gates) (getD tokens j 0) s index′ r → r ≡ false
-      → InputsEntered text tokens first end index₀ inputs gates index′ (Refused refusal.DefinedTwice)
-  entering-known {index′} {s} {r} e z =
-      let k : known (tokenOf text (getD tokens j 0)) (namesIn text index (i + gates)) ≡ true = not-false _ (sym (e .new) ∙ z) in
+    -- it is the next
+    names-next : tokensOf text (slice j end tokens) ≡ x ∷ tokensOf text (slice (j + 1) end tokens)
+    names-next = ap (tokensOf text) (slice-first tokens j end h (c .places .room))
+
+    -- it is known
+    pub entering-known : r ≡ false → InputsEntered text tokens first end index₀ (entryCount index₀) inputs index′ (Refused refusal.DefinedTwice)
+    entering-known z =
+        let k : known x (namesIn text index (entryCount index)) ≡ true = not-false _ (sym (e .new) ∙ z) in
+        record {
+          refused = refuseIf-yes refusal.DefinedTwice (c .left ∙ ap (definedTwice (namesIn text index (entryCount index))) names-next ∙ definedTwice-known _ _ (tokensOf text (slice (j + 1) end tokens)) k);
+          index-is = λ y. absurd (refused-ne-fine y);
+          added = λ y. absurd (refused-ne-fine y);
+        }
+
+    -- it is new
+    pub entering-next : r ≡ true → s ≡ inputCell i → length index′ ≡ length index → Entering text tokens first end index₀ inputs index′ (j + 1) (i + 1)
+    entering-next z q l =
+        let k : known x (namesIn text index (entryCount index)) ≡ false = not-true _ (sym (e .new) ∙ z) in
+        let m : length (tokensOf text (slice first j tokens)) ≡ j - first =
+        length-map (slice first j tokens) (tokenOf text) ∙ length-slice first j tokens (omega (arith, c .places .room)) in
+        let n : i ≡ inputs + length (tokensOf text (slice first j tokens)) = omega (arith, c .counted) in
+        let u : s ≡ sigCell (plain (Input (inputs + length (tokensOf text (slice first j tokens))))) =
+        q ∙ input-cell i (omega (arith, c .counted, c .inputs-few)) ∙ ap (λ (a : ℕ). sigCell (plain (Input a))) n in
+        let a : entriesOf text index′ (entryCount index′) ≡ entriesOf text index (entryCount index) ++ (entry x s ∷ []) = ap (entriesOf text index′) (e .index z .counted) ∙ e .added z in
+        record {
+          places = c .places;
+          low = omega (arith, c .low);
+          high = omega arith;
+          counted = omega (arith, c .counted, c .low);
+          inputs-few = c .inputs-few;
+          room = c .room;
+          kept = l ∙ c .kept;
+          index-is = index-counted (e .index z);
+          entered = omega (arith, e .index z .counted, c .entered, c .low);
+          added =
+              a
+              ∙ ap₂ (λ (y : List Entry) (t : ℕ). y ++ (entry x t ∷ [])) (c .added) u
+              ∙ append-assoc (entriesOf text index₀ (entryCount index₀)) (inputEntries inputs (tokensOf text (slice first j tokens))) _
+              ∙ ap (λ (y : List Entry). entriesOf text index₀ (entryCount index₀) ++ y) (sym (inputs-snoc (tokensOf text (slice first j tokens)) inputs x)
+              ∙ ap (inputEntries inputs) (sym (ap (tokensOf text) (ap (λ (m : ℕ). slice first m tokens) (add-one j) ∙ slice-snoc tokens first j (c .low) (omega (arith, c .places .room))) ∙ map-append (tokenOf text) (slice first j tokens) _)));
+          left =
+              c .left
+              ∙ ap (definedTwice (namesIn text index (entryCount index))) names-next
+              ∙ definedTwice-new (namesIn text index (entryCount index)) x (tokensOf text (slice (j + 1) end tokens)) k
+              ∙ ap (λ (y : List Bytes). definedTwice y (tokensOf text (slice (j + 1) end tokens)))
+              (sym (ap (map (λ (y : Entry). y .name)) a ∙ map-append (λ (y : Entry). y .name) (entriesOf text index (entryCount index)) (entry x s ∷ [])));
+        }
+
+  -- all are entered
+  pub entering-done : end ≤ j → InputsEntered text tokens first end index₀ (entryCount index₀) inputs index Fine
+  entering-done h =
+      let p : j ≡ end = omega (arith, c .high) in
+      let q : entryCount index ≡ entryCount index₀ + (end - first) = omega (arith, c .entered) in
+      let names = namesIn text index (entryCount index) in
       record {
-        refused = refuseIf-yes refusal.DefinedTwice (c .left ∙ ap (definedTwice (namesIn text index (i + gates))) names-next ∙ definedTwice-known _ _ (tokensOf text (slice (j + 1) end tokens)) k);
-        index-is = λ y. absurd (refused-ne-fine y);
-        added = λ y. absurd (refused-ne-fine y);
+        refused =
+            refuseIf-no refusal.DefinedTwice (c .left ∙ ap (λ (m : ℕ). definedTwice names (tokensOf text (slice m end tokens))) p
+            ∙ ap (λ (y : List ℕ). definedTwice names (tokensOf text y)) (slice-empty end tokens) ∙ definedTwice-none names);
+        index-is = λ z. subst (Index text index) q (c .index-is);
+        added = λ z.
+            sym (ap (entriesOf text index) q) ∙ c .added
+            ∙ ap (λ (m : ℕ). entriesOf text index₀ (entryCount index₀) ++ inputEntries inputs (tokensOf text (slice first m tokens))) p;
       }
-
-  -- it is new
-  pub entering-next : {index′ : List ℕ} {s : ℕ} {r : Bool} → Entered text index (i + gates) (getD tokens j 0) s index′ r → r ≡ true → s ≡ inputCell i
-      → length index′ ≡ length index → Entering text tokens first end index₀ inputs gates index′ (j + 1) (i + 1)
-  entering-next {index′} {s} {r} e z q l =
-      let x = tokenOf text (getD tokens j 0) in
-      let k : known x (namesIn text index (i + gates)) ≡ false = not-true _ (sym (e .new) ∙ z) in
-      let p : i + gates + 1 ≡ i + 1 + gates = omega arith in
-      let m : length (tokensOf text (slice first j tokens)) ≡ j - first =
-      length-map (slice first j tokens) (tokenOf text) ∙ length-slice first j tokens (omega (arith, c .places .room)) in
-      let n : i ≡ inputs + length (tokensOf text (slice first j tokens)) = omega (arith, c .counted) in
-      let u : s ≡ sigCell (plain (Input (inputs + length (tokensOf text (slice first j tokens))))) =
-      q ∙ input-cell i (omega (arith, c .counted, c .inputs-few)) ∙ ap (λ (a : ℕ). sigCell (plain (Input a))) n in
-      let a : entriesOf text index′ (i + 1 + gates) ≡ entriesOf text index (i + gates) ++ (entry x s ∷ []) = ap (entriesOf text index′) (sym p) ∙ e .added z in
-      record {
-        places = c .places;
-        low = omega (arith, c .low);
-        high = omega arith;
-        counted = omega (arith, c .counted, c .low);
-        inputs-few = c .inputs-few;
-        gates-few = c .gates-few;
-        kept = l ∙ c .kept;
-        index-is = subst (Index text index′) p (e .index z);
-        added =
-            a
-            ∙ ap₂ (λ (y : List Entry) (t : ℕ). y ++ (entry x t ∷ [])) (c .added) u
-            ∙ append-assoc (entriesOf text index₀ (inputs + gates)) (inputEntries inputs (tokensOf text (slice first j tokens))) _
-            ∙ ap (λ (y : List Entry). entriesOf text index₀ (inputs + gates) ++ y) (sym (inputs-snoc (tokensOf text (slice first j tokens)) inputs x)
-            ∙ ap (inputEntries inputs) (sym (ap (tokensOf text) (ap (λ (m : ℕ). slice first m tokens) (add-one j) ∙ slice-snoc tokens first j (c .low) (omega (arith, c .places .room))) ∙ map-append (tokenOf text) (slice first j tokens) _)));
-        left =
-            c .left
-            ∙ ap (definedTwice (namesIn text index (i + gates))) names-next
-            ∙ definedTwice-new (namesIn text index (i + gates)) x (tokensOf text (slice (j + 1) end tokens)) k
-            ∙ ap (λ (y : List Bytes). definedTwice y (tokensOf text (slice (j + 1) end tokens)))
-            (sym (ap (map (λ (y : Entry). y .name)) a ∙ map-append (λ (y : Entry). y .name) (entriesOf text index (i + gates)) (entry x s ∷ [])));
-      }
-
--- all are entered
-pub entering-done : {text tokens : List ℕ} {first end : ℕ} {index₀ : List ℕ} {inputs gates : ℕ} {index : List ℕ} {j i : ℕ}
-    → Entering text tokens first end index₀ inputs gates index j i → end ≤ j → InputsEntered text tokens first end index₀ inputs gates index Fine
-entering-done {text} {tokens} {first} {end} {index₀} {inputs} {gates} {index} {j} {i} c h =
-    let p : j ≡ end = omega (arith, c .high) in
-    let q : i + gates ≡ inputs + (end - first) + gates = omega (arith, c .counted) in
-    record {
-      refused =
-          refuseIf-no refusal.DefinedTwice (c .left ∙ ap (λ (m : ℕ). definedTwice (namesIn text index (i + gates)) (tokensOf text (slice m end tokens))) p
-          ∙ ap (λ (x : List ℕ). definedTwice (namesIn text index (i + gates)) (tokensOf text x)) (slice-empty end tokens) ∙ definedTwice-none (namesIn text index (i + gates)));
-      index-is = λ z. subst (Index text index) q (c .index-is);
-      added = λ z.
-          sym (ap (entriesOf text index) q) ∙ c .added
-          ∙ ap (λ (m : ℕ). entriesOf text index₀ (inputs + gates) ++ inputEntries inputs (tokensOf text (slice first m tokens))) p;
-    }
 
 -- ---- outputs
 
@@ -203,10 +208,10 @@ module _ {tokens : List ℕ} {first end : ℕ} {out₀ : List ℕ} {outputs : �
 
 -- ---- a gate
 
-module _ {text index : List ℕ} {i g cell : ℕ} {block : Block} {blocks : List ℕ} {index′ : List ℕ} {s : ℕ} {r : Bool}
-    (f : GateFits text index i g cell block blocks) (e : Entered text index (i + g) cell s index′ r) where
+module _ {text index : List ℕ} {g cell : ℕ} {block : Block} {blocks : List ℕ} {index′ : List ℕ} {s : ℕ} {r : Bool}
+    (f : GateFits text index g cell block blocks) (e : Entered text index (entryCount index) cell s index′ r) where
   -- its name is known
-  pub gate-known : {blocks′ : List ℕ} → r ≡ false → GateDefined text index i g (tokenOf text cell) block blocks index′ blocks′ (Refused refusal.DefinedTwice)
+  pub gate-known : {blocks′ : List ℕ} → r ≡ false → GateDefined text index (entryCount index) g (tokenOf text cell) block blocks index′ blocks′ (Refused refusal.DefinedTwice)
   gate-known z =
       record {
         refused = refuseIf-yes refusal.DefinedTwice (not-false _ (sym (e .new) ∙ z));
@@ -217,14 +222,13 @@ module _ {text index : List ℕ} {i g cell : ℕ} {block : Block} {blocks : List
 
   -- its name is new
   pub gate-new : {blocks′ : List ℕ} → r ≡ true → s ≡ gateCell g → blocks′ ≡ overwriteAt (g * blockWidth) (block .first ∷ block .names ∷ block .lines ∷ []) blocks
-      → GateDefined text index i g (tokenOf text cell) block blocks index′ blocks′ Fine
+      → GateDefined text index (entryCount index) g (tokenOf text cell) block blocks index′ blocks′ Fine
   gate-new z q b =
-      let p : i + g + 1 ≡ i + (g + 1) = omega arith in
       record {
         refused = refuseIf-no refusal.DefinedTwice (not-true _ (sym (e .new) ∙ z));
-        index-is = λ y. subst (Index text index′) p (e .index z);
+        index-is = λ y. e .index z;
         added = λ y.
-            ap (entriesOf text index′) (sym p) ∙ e .added z
-            ∙ ap (λ (t : ℕ). entriesOf text index (i + g) ++ (entry (tokenOf text cell) t ∷ [])) (q ∙ gate-cell g (omega (arith, f .gates)));
+            e .added z
+            ∙ ap (λ (t : ℕ). entriesOf text index (entryCount index) ++ (entry (tokenOf text cell) t ∷ [])) (q ∙ gate-cell g (omega (arith, f .gates)));
         block-is = λ y. b;
       }

@@ -20,8 +20,8 @@ use Rattle.blif_declarations.specs.between.Declarations.{NextIs}
 use Rattle.blif_declarations.specs.declared.Declaration.the-variants as next
 use Rattle.blif_declarations.proofs.RowStarts.{names-length}
 use Rattle.blif_declarations.proofs.NextLaws.{decls-end}
-use Rattle.name_index.specs.between.Index.{indexCells, entriesOf, Index}
-use Rattle.name_index.proofs.IndexLaws.{index-empty}
+use Rattle.name_index.specs.between.Index.{maxNames, indexCells, entryCount, entriesOf, Index}
+use Rattle.name_index.proofs.IndexLaws.{index-empty, index-counted}
 use Rattle.blif_reading.specs.Read.{tooLarge, naming}
 use Rattle.blif_read_names.specs.between.Naming.{namesIn, InputsFit, CoverFits, walkAt, LatchFits, TablesTo, NamingSoFar, Steps, stops, goes}
 use Rattle.blif_read_names.specs.between.Tables.{Tables, DefinedBy}
@@ -48,17 +48,23 @@ module _ {text tokens : List ℕ} {n : ℕ} {index out blocks : List ℕ} {v : W
       let s = sizes-within (decls (stmtsFrom text tokens n 0)) (c .small) in
       omega (arith, gate-few (tabled-as c e), defs-few (defs (decls (stmtsFrom text tokens n 0))), s .gates)
 
+  -- and one name
+  one-free : {d : Def} {l : List Decl} → decls (stmtsFrom text tokens n (v .at)) ≡ gate d ∷ l → entryCount index < maxNames
+  one-free e = omega (arith, c .tabled .index-is .counted, few-names .0, one-more e)
+
   module _ {behind : ℕ} where
     pub inputs-fit : {run : Run} → NextIs text tokens n (v .at) (next.Inputs run) behind
-        → InputsFit text tokens (run .first) (run .first + run .count) index (v .inputs) (v .gates)
+        → InputsFit text tokens (run .first) (run .first + run .count) index (v .inputs)
     inputs-fit {run} x =
         let s = sizes-within (decls (stmtsFrom text tokens n 0)) (c .small) in
+        let few : v .inputs + run .count ≤ 256 =
+        omega (arith, inputs-few (tabled-as c (x .are)), names-length text tokens run (omega (arith, x .places, x .rest .rows .places .room)), s .inputs) in
         record {
-          index-is = c .tabled .index-is;
+          index-is = index-counted (c .tabled .index-is);
           places = inside-less (x .places) (x .rest .rows .places);
           low = omega arith;
-          inputs = omega (arith, inputs-few (tabled-as c (x .are)), names-length text tokens run (omega (arith, x .places, x .rest .rows .places .room)), s .inputs);
-          gates = few-names .1;
+          inputs = omega arith;
+          room = omega (arith, c .tabled .index-is .counted, few-names .1);
         }
 
     -- "256 outputs"
@@ -81,9 +87,9 @@ module _ {text tokens : List ℕ} {n : ℕ} {index out blocks : List ℕ} {v : W
           there = omega (arith, x .places, x .rest .rows .places .room);
           gate =
               record {
-                index-is = c .tabled .index-is;
+                index-is = index-counted (c .tabled .index-is);
+                free = one-free (x .are);
                 inside = x .rest .rows .places .inside (first + 1) (omega (arith, x .places));
-                inputs = few-names .0;
                 gates = one-more (x .are);
                 room = c .blocks-room;
                 first = omega (arith, x .places, c .few);
@@ -93,12 +99,12 @@ module _ {text tokens : List ℕ} {n : ℕ} {index out blocks : List ℕ} {v : W
         }
 
     pub cover-fit : {block : Block} → NextIs text tokens n (v .at) (next.Cover block) behind
-        → CoverFits text tokens index (v .inputs) (v .gates) (block .first) (block .names) blocks × (block .lines ≤ maxTokens)
+        → CoverFits text tokens index (v .gates) (block .first) (block .names) blocks × (block .lines ≤ maxTokens)
     cover-fit x = (
       record {
-        index-is = c .tabled .index-is;
+        index-is = index-counted (c .tabled .index-is);
+        free = one-free (x .are);
         places = inside-less (x .places .few) (x .rest .rows .places);
-        inputs = few-names .0;
         gates = one-more (x .are);
         room = c .blocks-room;
         few = omega (arith, x .places .few, c .few);

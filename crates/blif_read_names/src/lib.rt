@@ -23,7 +23,7 @@ ghost use Rattle.blif_text.specs.between.Places.{maxTokens, tokenOf};
 ghost use Rattle.blif_text.specs.between.Walk.{stmtsFrom, StmtsAt};
 ghost use Rattle.blif_text.specs.between.Blocks.{blockWidth};
 ghost use Rattle.blif_declarations.specs.between.Declarations.{NextIs};
-ghost use Rattle.name_index.specs.between.Index.{indexCells};
+ghost use Rattle.name_index.specs.between.Index.{indexCells, entryCount};
 ghost use Rattle.blif_reading.specs.Read.{tooLarge};
 ghost use Rattle.blif_read_names.specs.between.Naming.{InputsFit, InputsEntered, GateFits, GateDefined, CoverFits, CoverDefined, stepOf, LatchFits, LatchStep, CoverStep, NamingSoFar, Steps};
 ghost use Rattle.blif_read_names.specs.between.Tables.{DefinedBy};
@@ -75,10 +75,9 @@ fn enter_inputs(
     end: usize,
     index: &mut [u32],
     inputs: usize,
-    gates: usize,
 ) -> Checked
-    requires { ⌜ InputsFit (now text) (now tokens) first end (now index) inputs gates ⌝ }
-    ensures { λ r. ⌜ InputsEntered (now (text .entry)) (now (tokens .entry)) first end (now (index .entry)) inputs gates (now (index .exit)) r ⌝ }
+    requires { ⌜ InputsFit (now text) (now tokens) first end (now index) inputs ⌝ }
+    ensures { λ r. ⌜ InputsEntered (now (text .entry)) (now (tokens .entry)) first end (now (index .entry)) (entryCount (now (index .entry))) inputs (now (index .exit)) r ⌝ }
 {
     let mut j = first;
     let mut i = inputs;
@@ -112,13 +111,12 @@ fn define_gate(
     text: &[u8],
     index: &mut [u32],
     blocks: &mut [u32],
-    inputs: usize,
     gates: usize,
     cell: u32,
     block: Block,
 ) -> Checked
-    requires { ⌜ GateFits (now text) (now index) inputs gates cell block (now blocks) ⌝ }
-    ensures { λ r. ⌜ GateDefined (now (text .entry)) (now (index .entry)) inputs gates (tokenOf (now (text .entry)) cell) block (now (blocks .entry)) (now (index .exit)) (now (blocks .exit)) r ⌝ }
+    requires { ⌜ GateFits (now text) (now index) gates cell block (now blocks) ⌝ }
+    ensures { λ r. ⌜ GateDefined (now (text .entry)) (now (index .entry)) (entryCount (now (index .entry))) gates (tokenOf (now (text .entry)) cell) block (now (blocks .entry)) (now (index .exit)) (now (blocks .exit)) r ⌝ }
 {
     let signal = Signal::from_var(gates as u32);
     if !enter_name(text, index, cell, signal.a) {
@@ -134,18 +132,17 @@ fn define_last(
     tokens: &[u32],
     index: &mut [u32],
     blocks: &mut [u32],
-    inputs: usize,
     gates: usize,
     block: Block,
 ) -> Checked
-    requires { ⌜ CoverFits (now text) (now tokens) (now index) inputs gates (block .first) (block .names) (now blocks) × (block .lines ≤ maxTokens) ⌝ }
-    ensures { λ r. ⌜ CoverDefined (now (text .entry)) (now (tokens .entry)) (now (index .entry)) inputs gates block (now (blocks .entry)) (now (index .exit)) (now (blocks .exit)) r ⌝ }
+    requires { ⌜ CoverFits (now text) (now tokens) (now index) gates (block .first) (block .names) (now blocks) × (block .lines ≤ maxTokens) ⌝ }
+    ensures { λ r. ⌜ CoverDefined (now (text .entry)) (now (tokens .entry)) (now (index .entry)) (entryCount (now (index .entry))) gates block (now (blocks .entry)) (now (index .exit)) (now (blocks .exit)) r ⌝ }
 {
     if block.names == 0 {
         return Checked::Refused(Refusal::NamesEmpty);
     }
     let last = block.first + block.names - 1;
-    define_gate(text, index, blocks, inputs, gates, tokens[last], block)
+    define_gate(text, index, blocks, gates, tokens[last], block)
 }
 
 // Defines a latch's gate by its second name, which stands behind the first.
@@ -168,7 +165,7 @@ fn define_latch(
     let name = tokens[first + 1];
     let mut next = w;
     next.gates += 1;
-    let checked = define_gate(text, index, blocks, w.inputs, w.gates, name, block);
+    let checked = define_gate(text, index, blocks, w.gates, name, block);
     step_of(checked, next)
 }
 
@@ -181,12 +178,12 @@ fn define_cover(
     w: Walk,
     block: Block,
 ) -> Step
-    requires { ⌜ CoverFits (now text) (now tokens) (now index) (w .inputs) (w .gates) (block .first) (block .names) (now blocks) × (block .lines ≤ maxTokens) ⌝ }
+    requires { ⌜ CoverFits (now text) (now tokens) (now index) (w .gates) (block .first) (block .names) (now blocks) × (block .lines ≤ maxTokens) ⌝ }
     ensures { λ r. ⌜ CoverStep (now (text .entry)) (now (tokens .entry)) (now (index .entry)) (now (blocks .entry)) (now (index .exit)) (now (blocks .exit)) w block r ⌝ }
 {
     let mut next = w;
     next.gates += 1;
-    let checked = define_last(text, tokens, index, blocks, w.inputs, w.gates, block);
+    let checked = define_last(text, tokens, index, blocks, w.gates, block);
     step_of(checked, next)
 }
 
@@ -216,7 +213,7 @@ fn define_declaration(
         Declaration::Inputs(run) => {
             let end = run.first + run.count;
             after.inputs += run.count;
-            let checked = enter_inputs(text, tokens, run.first, end, index, w.inputs, w.gates);
+            let checked = enter_inputs(text, tokens, run.first, end, index, w.inputs);
             step_of(checked, after)
         }
         Declaration::Outputs(run) => {

@@ -20,7 +20,7 @@ ghost use Rattle.blif_text.specs.between.Places.{tokenOf, tokensOf};
 ghost use Rattle.blif_text.specs.between.Walk.{Inside};
 ghost use Rattle.blif_text.specs.between.Blocks.{defAt, defsAt, Blocks};
 ghost use Rattle.name_index.specs.between.Search.{signalIn};
-ghost use Rattle.name_index.specs.between.Index.{namesIn, entriesOf, Index};
+ghost use Rattle.name_index.specs.between.Index.{entryCount, entriesOf, Index};
 ghost use Rattle.blif_reading.specs.between.Working.{placedCount, WorkRoom};
 ghost use Rattle.blif_read_signals.specs.between.Resolve.{Resolved, PlacedBy};
 ghost use Rattle.blif_read_signals.specs.between.Steps.{GateRoom, andInHand, GatePlaced, DefPlaced};
@@ -33,9 +33,9 @@ pub enum Placed {
 
 // Writes the signals of names, given by their places; answers whether all were found.
 pub fn resolve_names(text: &[u8], index: &[u32], names: &[u32], signals: &mut [u32]) -> bool
-    requires { ⌜ Index (now text) (now index) (namesIn (now index)) ⌝ }
+    requires { ⌜ Index (now text) (now index) (entryCount (now index)) ⌝ }
     requires { ⌜ Inside (now text) (now names) (length (now names)) × (length (now names) ≤ length (now signals)) ⌝ }
-    ensures { λ r. ⌜ Resolved (map (signalIn (entriesOf (now (text .entry)) (now (index .entry)) (namesIn (now (index .entry))))) (tokensOf (now (text .entry)) (now (names .entry)))) (now (signals .entry)) (now (signals .exit)) r ⌝ }
+    ensures { λ r. ⌜ Resolved (map (signalIn (entriesOf (now (text .entry)) (now (index .entry)) (entryCount (now (index .entry))))) (tokensOf (now (text .entry)) (now (names .entry)))) (now (signals .entry)) (now (signals .exit)) r ⌝ }
 {
     let mut i = 0;
     while i < names.len() {
@@ -60,10 +60,10 @@ fn place_latch(
     pins: &mut [u32],
     at: usize,
 ) -> Placed
-    requires { ⌜ Index (now text) (now index) (namesIn (now index)) × Inside (now text) (now tokens) (first + 1) ⌝ }
+    requires { ⌜ Index (now text) (now index) (entryCount (now index)) × Inside (now text) (now tokens) (first + 1) ⌝ }
     requires { ⌜ GateRoom (now gates) (now pins) j at 3 ⌝ }
     ensures { λ r.
-        let sig = signalIn (entriesOf (now (text .entry)) (now (index .entry)) (namesIn (now (index .entry)))) in
+        let sig = signalIn (entriesOf (now (text .entry)) (now (index .entry)) (entryCount (now (index .entry)))) in
         let d = latch (plainLatch (tokenOf (now (text .entry)) (getD (now (tokens .entry)) first 0)) (tokenOf (now (text .entry)) (getD (now (tokens .entry)) (first + 1) 0))) in
         ⌜ DefPlaced sig d j at (now (gates .entry)) (now (pins .entry)) (now (gates .exit)) (now (pins .exit)) r ⌝ }
 {
@@ -85,10 +85,10 @@ fn place_cover(
     pins: &mut [u32],
     at: usize,
 ) -> Placed
-    requires { ⌜ Index (now text) (now index) (namesIn (now index)) × Inside (now text) (now names) (length (now names)) ⌝ }
+    requires { ⌜ Index (now text) (now index) (entryCount (now index)) × Inside (now text) (now names) (length (now names)) ⌝ }
     requires { ⌜ GateRoom (now gates) (now pins) j at (length (now names)) ⌝ }
     ensures { λ r.
-        let sig = signalIn (entriesOf (now (text .entry)) (now (index .entry)) (namesIn (now (index .entry)))) in
+        let sig = signalIn (entriesOf (now (text .entry)) (now (index .entry)) (entryCount (now (index .entry)))) in
         let used = tokensOf (now (text .entry)) (now (names .entry)) in
         ⌜ GatePlaced sig (andInHand at (length (now (names .entry)))) used (map sig used) j at (now (gates .entry)) (now (pins .entry)) (now (gates .exit)) (now (pins .exit)) r ⌝ }
 {
@@ -112,9 +112,9 @@ fn place_block(
     pins: &mut [u32],
     at: usize,
 ) -> Placed
-    requires { ⌜ Index (now text) (now index) (namesIn (now index)) × Blocks (now text) (now tokens) (length (now tokens)) (now blocks) (j + 1) ⌝ }
+    requires { ⌜ Index (now text) (now index) (entryCount (now index)) × Blocks (now text) (now tokens) (length (now tokens)) (now blocks) (j + 1) ⌝ }
     requires { ⌜ GateRoom (now gates) (now pins) j at (placedCount (defAt (now text) (now tokens) (length (now tokens)) (now blocks) j)) ⌝ }
-    ensures { λ r. ⌜ DefPlaced (signalIn (entriesOf (now (text .entry)) (now (index .entry)) (namesIn (now (index .entry))))) (defAt (now (text .entry)) (now (tokens .entry)) (length (now (tokens .entry))) (now (blocks .entry)) j) j at (now (gates .entry)) (now (pins .entry)) (now (gates .exit)) (now (pins .exit)) r ⌝ }
+    ensures { λ r. ⌜ DefPlaced (signalIn (entriesOf (now (text .entry)) (now (index .entry)) (entryCount (now (index .entry))))) (defAt (now (text .entry)) (now (tokens .entry)) (length (now (tokens .entry))) (now (blocks .entry)) j) j at (now (gates .entry)) (now (pins .entry)) (now (gates .exit)) (now (pins .exit)) r ⌝ }
 {
     let block = block_at(blocks, j);
     if block.names == 0 {
@@ -135,9 +135,9 @@ pub fn place_gates(
     gates: &mut [u32],
     pins: &mut [u32],
 ) -> Placed
-    requires { ⌜ Index (now text) (now index) (namesIn (now index)) × Blocks (now text) (now tokens) (length (now tokens)) (now blocks) g ⌝ }
+    requires { ⌜ Index (now text) (now index) (entryCount (now index)) × Blocks (now text) (now tokens) (length (now tokens)) (now blocks) g ⌝ }
     requires { ⌜ WorkRoom (now gates) (now pins) × (g ≤ maxGates) × (sumOf placedCount (defsAt (now text) (now tokens) (length (now tokens)) (now blocks) g) ≤ maxPins) ⌝ }
-    ensures { λ r. ⌜ PlacedBy (signalIn (entriesOf (now (text .entry)) (now (index .entry)) (namesIn (now (index .entry))))) (defsAt (now (text .entry)) (now (tokens .entry)) (length (now (tokens .entry))) (now (blocks .entry)) g) (now (gates .exit)) (now (pins .exit)) r ⌝ }
+    ensures { λ r. ⌜ PlacedBy (signalIn (entriesOf (now (text .entry)) (now (index .entry)) (entryCount (now (index .entry))))) (defsAt (now (text .entry)) (now (tokens .entry)) (length (now (tokens .entry))) (now (blocks .entry)) g) (now (gates .exit)) (now (pins .exit)) r ⌝ }
 {
     let mut at = 0;
     let mut j = 0;

@@ -1,6 +1,6 @@
 -- The index as a whole: empty, searched, and with one name more. Assumes nothing.
 use mathlib.Core.Path.{_≡_, sym, ap, ap₂, subst, _∙_}
-use mathlib.Core.Bool.{Bool, true, false, not, false≢true}
+use mathlib.Core.Bool.{true, false, not, false≢true}
 use mathlib.Core.List.{List, [], _∷_, _++_, map}
 use Prim.Native.Nat.{ℕ, suc, _+_, _*_, _-_, _%_, _≤_, _<_}
 use native.Mathlib.Omega.{arith}
@@ -13,7 +13,7 @@ use Rattle.lists.proofs.Same.{same-is}
 use Rattle.lists.proofs.Tests.{by-order}
 use Rattle.blif_text.specs.between.Places.{InText, tokenOf}
 use Rattle.name_index.specs.between.Search.{Entry, entry, signalIn}
-use Rattle.name_index.specs.between.Index.{trees, maxNames, entryWidth, indexCells, namesIn, nameAt, signalAt, branch, entryAt, entriesOf, hashAt, rootOf, wayOf, Leads, Index, Entered}
+use Rattle.name_index.specs.between.Index.{trees, maxNames, entryWidth, indexCells, entryCount, nameAt, signalAt, branch, entryAt, entriesOf, hashAt, rootOf, wayOf, Leads, Index, Entered}
 use Rattle.name_index.specs.between.Steps.{Sought}
 use Rattle.name_index.proofs.TreeLaws.{TreeCell, root, cell-before, cell-apart, sought-cell, leads-kept, passes-lead}
 use Rattle.name_index.proofs.EntryLaws.{map-range-last, map-range-same, signal-none, signal-at, known-none, known-at}
@@ -35,12 +35,8 @@ index-empty text =
 
 -- ---- its count
 
-pub index-counted : {text cells : List ℕ} {k : ℕ} → Index text cells k → Index text cells (namesIn cells)
+pub index-counted : {text cells : List ℕ} {k : ℕ} → Index text cells k → Index text cells (entryCount cells)
 index-counted {text} {cells} x = subst (Index text cells) (sym (x .counted)) x
-
-pub entered-counted : {text cells : List ℕ} {k cell signal : ℕ} {cells′ : List ℕ} {r : Bool} → Index text cells k
-    → Entered text cells (namesIn cells) cell signal cells′ r → Entered text cells k cell signal cells′ r
-entered-counted {text} {cells} {cell = cell} {signal} {cells′} {r} x e = subst (λ (k : ℕ). Entered text cells k cell signal cells′ r) (x .counted) e
 
 -- ---- a search
 
@@ -85,7 +81,7 @@ record Stored (cells : List ℕ) (k at cell signal : ℕ) (cells′ : List ℕ) 
   its-signal : signalAt cells′ k ≡ signal
   ends : (bits : ℕ) → getD cells′ (branch k bits) 0 ≡ 0
   linked : getD cells′ at 0 ≡ suc k
-  count : namesIn cells′ ≡ k + 1
+  count : entryCount cells′ ≡ k + 1
   kept : (j : ℕ) → j < trees + k * entryWidth → (j ≡ at → ⊥) → getD cells′ j 0 ≡ getD cells j 0
 
 stored : (cells : List ℕ) (k at cell signal : ℕ) → indexCells ≤ length cells → k < maxNames → at < trees + k * entryWidth

@@ -5,7 +5,7 @@ ghost use mathlib.Core.Path.{_≡_};
 ghost use Prim.Native.Nat.{_<_};
 ghost use Rattle.blif_text.specs.between.Places.{InText};
 ghost use Rattle.name_index.specs.between.Search.{signalIn};
-ghost use Rattle.name_index.specs.between.Index.{maxNames, namesIn, entriesOf, hashOf, Index, Entered};
+ghost use Rattle.name_index.specs.between.Index.{maxNames, entryCount, entriesOf, hashOf, Index, Entered};
 ghost use Rattle.name_index.specs.between.Steps.{Sought};
 
 pub const INDEX_CELLS: usize = 6145;
@@ -36,8 +36,8 @@ fn hash_of(name: &[u8]) -> usize
 
 // The cell that holds one more than the number of the entry of this name, or the empty one where it belongs.
 fn seek(text: &[u8], index: &[u32], name: &[u8]) -> usize
-    requires { ⌜ Index (now text) (now index) (namesIn (now index)) ⌝ }
-    ensures { λ r. ⌜ Sought (now (text .entry)) (now (index .entry)) (namesIn (now (index .entry))) (now (name .entry)) r ⌝ }
+    requires { ⌜ Index (now text) (now index) (entryCount (now index)) ⌝ }
+    ensures { λ r. ⌜ Sought (now (text .entry)) (now (index .entry)) (entryCount (now (index .entry))) (now (name .entry)) r ⌝ }
 {
     let h = hash_of(name);
     let mut at = h % TREES;
@@ -56,8 +56,8 @@ fn seek(text: &[u8], index: &[u32], name: &[u8]) -> usize
 
 // The signal of a name, or zero.
 pub fn find_signal(text: &[u8], index: &[u32], name: &[u8]) -> u32
-    requires { ⌜ Index (now text) (now index) (namesIn (now index)) ⌝ }
-    ensures { λ r. ⌜ r ≡ signalIn (entriesOf (now (text .entry)) (now (index .entry)) (namesIn (now (index .entry)))) (now (name .entry)) ⌝ }
+    requires { ⌜ Index (now text) (now index) (entryCount (now index)) ⌝ }
+    ensures { λ r. ⌜ r ≡ signalIn (entriesOf (now (text .entry)) (now (index .entry)) (entryCount (now (index .entry)))) (now (name .entry)) ⌝ }
 {
     let held = index[seek(text, index, name)] as usize;
     if held == 0 {
@@ -68,9 +68,9 @@ pub fn find_signal(text: &[u8], index: &[u32], name: &[u8]) -> u32
 
 // Enters the name at a place with its signal behind the others, unless it is known; answers whether it is new.
 pub fn enter_name(text: &[u8], index: &mut [u32], cell: u32, signal: u32) -> bool
-    requires { ⌜ Index (now text) (now index) (namesIn (now index)) ⌝ }
-    requires { ⌜ (namesIn (now index) < maxNames) × InText (now text) cell ⌝ }
-    ensures { λ r. ⌜ Entered (now (text .entry)) (now (index .entry)) (namesIn (now (index .entry))) cell signal (now (index .exit)) r ⌝ }
+    requires { ⌜ Index (now text) (now index) (entryCount (now index)) ⌝ }
+    requires { ⌜ (entryCount (now index) < maxNames) × InText (now text) cell ⌝ }
+    ensures { λ r. ⌜ Entered (now (text .entry)) (now (index .entry)) (entryCount (now (index .entry))) cell signal (now (index .exit)) r ⌝ }
 {
     let name = token(text, cell);
     let at = seek(text, index, name);

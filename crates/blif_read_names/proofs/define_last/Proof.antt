@@ -15,8 +15,8 @@ define-gate-requires c κs =
     let f = s .pre .0 in
     record {
       index-is = f .index-is;
+      free = f .free;
       inside = f .places .inside (s .args .block .first + s .args .block .names - 1) (omega (arith, c .before .before .before .before .if1 .left));
-      inputs = f .inputs;
       gates = f .gates;
       room = f .room;
       first = omega (arith, f .few);

@@ -3,16 +3,15 @@ use mathlib.Core.Path.{_∙_}
 use Prim.Native.Nat.{_-_}
 use native.Mathlib.Omega.{arith}
 use borrow.Author.Tests.{not-true, not-false}
-use Rattle.name_index.proofs.IndexLaws.{index-counted, entered-counted}
 use Rattle.blif_read_names.proofs.Entering.{Entering, entering-start, entering-known, entering-next, entering-done}
 use Rattle.blif_read_names.proofs.enter_inputs.Statement.{statement}
 use Rattle.blif_read_names.proofs.enter_inputs.Tie as tie
 
 abbrev Inv-loop : tie.InvT-loop
-Inv-loop text tokens first end index₀ inputs gates j₀ i₀ index j i = Entering text tokens first end index₀ inputs gates index j i
+Inv-loop text tokens first end index₀ inputs j₀ i₀ index j i = Entering text tokens first end index₀ inputs index j i
 
 abbrev μ-loop : tie.MeasureT-loop
-μ-loop text tokens first end index₀ inputs gates j₀ i₀ index j i = end - j
+μ-loop text tokens first end index₀ inputs j₀ i₀ index j i = end - j
 
 loop-holds : tie.Need-loop-holds Inv-loop μ-loop
 loop-holds c = entering-start (c .before .before .before .pre)
@@ -32,7 +31,7 @@ shared-slice-read-enter-name c = omega (arith, c .before .before .before .before
 enter-name-requires : tie.Need-enter-name-requires Inv-loop μ-loop
 enter-name-requires c κs =
     let v = c .before .before .before .before .loop .inv in
-    (index-counted (v .index-is), (omega (arith, v .index-is .counted, v .counted, v .inputs-few, v .gates-few, v .low, c .before .before .before .loop-test .taken), v .places .inside (c .before .before .before .before .loop .j) (c .before .before .before .loop-test .taken)))
+    (v .index-is, (omega (arith, v .entered, v .room, v .low, c .before .before .before .loop-test .taken), v .places .inside (c .before .before .before .before .loop .j) (c .before .before .before .loop-test .taken)))
 
 same-length : tie.Need-same-length Inv-loop μ-loop
 same-length c = c .before .before .before .enter-name .kept .1 .0 ∙ c .before .before .before .before .before .before .before .before .loop .inv .kept
@@ -41,7 +40,7 @@ returns : tie.Need-returns Inv-loop μ-loop
 returns c =
     let loop = c .before .before .before .before .before .before .before .before .loop in
     let loop-test = c .before .before .before .before .before .before .before .loop-test in
-    entering-known (loop .inv) (loop-test .taken) (entered-counted (loop .inv .index-is) (c .before .before .before .enter-name .ensures)) (not-true _ (c .if1 .taken))
+    entering-known (loop .inv) (loop-test .taken) (c .before .before .before .enter-name .ensures) (not-true _ (c .if1 .taken))
 
 add-j : tie.Need-add-j Inv-loop μ-loop
 add-j c =
@@ -50,7 +49,9 @@ add-j c =
     omega (arith, loop .inv .places .room, loop-test .taken)
 
 add-i : tie.Need-add-i Inv-loop μ-loop
-add-i c = omega (arith, c .before .before .before .before .before .before .before .before .loop .inv .index-is .few)
+add-i c =
+    let v = c .before .before .before .before .before .before .before .before .loop .inv in
+    omega (arith, v .counted, v .inputs-few, v .high)
 
 loop-less : tie.Need-loop-less Inv-loop μ-loop
 loop-less c = omega (arith, c .before .before .before .before .before .before .before .loop-test .taken)
@@ -60,7 +61,7 @@ loop-again c =
     let loop = c .before .before .before .before .before .before .before .before .loop in
     let loop-test = c .before .before .before .before .before .before .before .loop-test in
     let from-input = c .before .before .before .before .before .before .from-input in
-    entering-next (loop .inv) (loop-test .taken) (entered-counted (loop .inv .index-is) (c .before .before .before .enter-name .ensures)) (not-false _ (c .if1 .left)) (from-input .ensures) (c .before .before .before .enter-name .kept .1 .0)
+    entering-next (loop .inv) (loop-test .taken) (c .before .before .before .enter-name .ensures) (not-false _ (c .if1 .left)) (from-input .ensures) (c .before .before .before .enter-name .kept .1 .0)
 
 same-length-2 : tie.Need-same-length-2 Inv-loop μ-loop
 same-length-2 c = c .before .loop .inv .kept

@@ -22,7 +22,7 @@ use Rattle.blif_text.specs.between.Walk.{stmtsFrom, Inside, StmtsAt}
 use Rattle.blif_text.specs.between.Blocks.{blockWidth, defsAt, Blocks}
 use Rattle.blif_text.specs.declared.Block.{Block}
 use Rattle.name_index.specs.between.Search.{Entry, entry}
-use Rattle.name_index.specs.between.Index.{entriesOf, Index}
+use Rattle.name_index.specs.between.Index.{maxNames, entryCount, entriesOf, Index}
 use Rattle.blif_reading.specs.Read.{tooLarge, definedTwice, naming}
 use Rattle.blif_read_names.specs.between.Entries.{inputEntries, entries}
 use Rattle.blif_read_names.specs.declared.Walk.{Walk}
@@ -33,36 +33,36 @@ use Rattle.blif_read_names.specs.declared.Step.the-variants as step
 abbrev pub namesIn : Bytes → List ℕ → ℕ → List Bytes
 namesIn text index k = map (λ (e : Entry). e .name) (entriesOf text index k)
 
--- the names from first to end can be entered behind those of i inputs and g gates
-pub record InputsFit (text tokens : List ℕ) (first end : ℕ) (index : List ℕ) (i g : ℕ) : Type 0 where
+-- the names from first to end can be entered, the first as input i
+pub record InputsFit (text tokens : List ℕ) (first end : ℕ) (index : List ℕ) (i : ℕ) : Type 0 where
   -- the index so far
-  pub index-is : Index text index (i + g)
+  pub index-is : Index text index (entryCount index)
   -- the tokens are places within the text
   pub places : Inside text tokens end
   -- they go upwards
   pub low : first ≤ end
   -- "256 inputs"
   pub inputs : i + (end - first) ≤ maxInputs
-  -- "1,024 gates"
-  pub gates : g ≤ maxGates
+  -- the index has room for them
+  pub room : entryCount index + (end - first) ≤ maxNames
 
--- the names from first to end are entered as inputs, or one "is defined twice"
-pub record InputsEntered (text tokens : List ℕ) (first end : ℕ) (index : List ℕ) (i g : ℕ) (index′ : List ℕ) (r : Checked) : Type 0 where
+-- the names from first to end are entered behind k others as inputs from number i on, or one "is defined twice"
+pub record InputsEntered (text tokens : List ℕ) (first end : ℕ) (index : List ℕ) (k i : ℕ) (index′ : List ℕ) (r : Checked) : Type 0 where
   -- "10 when a name is defined twice"
-  pub refused : r ≡ refuseIf (definedTwice (namesIn text index (i + g)) (tokensOf text (slice first end tokens))) refusal.DefinedTwice
+  pub refused : r ≡ refuseIf (definedTwice (namesIn text index k) (tokensOf text (slice first end tokens))) refusal.DefinedTwice
   -- the index has them now
-  pub index-is : r ≡ Fine → Index text index′ (i + (end - first) + g)
+  pub index-is : r ≡ Fine → Index text index′ (k + (end - first))
   -- behind the others
-  pub added : r ≡ Fine → entriesOf text index′ (i + (end - first) + g) ≡ entriesOf text index (i + g) ++ inputEntries i (tokensOf text (slice first end tokens))
+  pub added : r ≡ Fine → entriesOf text index′ (k + (end - first)) ≡ entriesOf text index k ++ inputEntries i (tokensOf text (slice first end tokens))
 
 -- gate g can be defined by the name at a cell
-pub record GateFits (text index : List ℕ) (i g cell : ℕ) (block : Block) (blocks : List ℕ) : Type 0 where
+pub record GateFits (text index : List ℕ) (g cell : ℕ) (block : Block) (blocks : List ℕ) : Type 0 where
   -- the index so far
-  pub index-is : Index text index (i + g)
+  pub index-is : Index text index (entryCount index)
+  -- it has room for one name more
+  pub free : entryCount index < maxNames
   -- the name is within the text
   pub inside : InText text cell
-  -- "256 inputs"
-  pub inputs : i ≤ maxInputs
   -- "1,024 gates"
   pub gates : g < maxGates
   -- the record is there
@@ -74,25 +74,25 @@ pub record GateFits (text index : List ℕ) (i g cell : ℕ) (block : Block) (bl
   -- its lines
   pub lines : block .lines ≤ maxTokens
 
--- gate g is defined by the name x and its block, or the name "is defined twice"
-pub record GateDefined (text index : List ℕ) (i g : ℕ) (x : Bytes) (block : Block) (blocks index′ blocks′ : List ℕ) (r : Checked) : Type 0 where
+-- gate g is defined by its block and the name x, which is entered behind k others, or "is defined twice"
+pub record GateDefined (text index : List ℕ) (k g : ℕ) (x : Bytes) (block : Block) (blocks index′ blocks′ : List ℕ) (r : Checked) : Type 0 where
   -- "10 when a name is defined twice"
-  pub refused : r ≡ refuseIf (known x (namesIn text index (i + g))) refusal.DefinedTwice
+  pub refused : r ≡ refuseIf (known x (namesIn text index k)) refusal.DefinedTwice
   -- the index has it now
-  pub index-is : r ≡ Fine → Index text index′ (i + (g + 1))
+  pub index-is : r ≡ Fine → Index text index′ (k + 1)
   -- behind the others
-  pub added : r ≡ Fine → entriesOf text index′ (i + (g + 1)) ≡ entriesOf text index (i + g) ++ (entry x (sigCell (plain (Var g))) ∷ [])
+  pub added : r ≡ Fine → entriesOf text index′ (k + 1) ≡ entriesOf text index k ++ (entry x (sigCell (plain (Var g))) ∷ [])
   -- and its record is written
   pub block-is : r ≡ Fine → blocks′ ≡ overwriteAt (g * blockWidth) (block .first ∷ block .names ∷ block .lines ∷ []) blocks
 
 -- gate g can be defined by a cover of these names
-pub record CoverFits (text tokens index : List ℕ) (i g first names : ℕ) (blocks : List ℕ) : Type 0 where
+pub record CoverFits (text tokens index : List ℕ) (g first names : ℕ) (blocks : List ℕ) : Type 0 where
   -- the index so far
-  pub index-is : Index text index (i + g)
+  pub index-is : Index text index (entryCount index)
+  -- it has room for one name more
+  pub free : entryCount index < maxNames
   -- the tokens are places within the text
   pub places : Inside text tokens (first + names)
-  -- "256 inputs"
-  pub inputs : i ≤ maxInputs
   -- "1,024 gates"
   pub gates : g < maxGates
   -- the record is there
@@ -100,13 +100,13 @@ pub record CoverFits (text tokens index : List ℕ) (i g first names : ℕ) (blo
   -- its names
   pub few : first + names ≤ maxTokens
 
--- gate g is defined by a cover's last name, or "`.names` is empty"
-pub record CoverDefined (text tokens index : List ℕ) (i g : ℕ) (block : Block) (blocks index′ blocks′ : List ℕ) (r : Checked) : Type 0 where
+-- gate g is defined by a cover's last name, behind k others, or "`.names` is empty"
+pub record CoverDefined (text tokens index : List ℕ) (k g : ℕ) (block : Block) (blocks index′ blocks′ : List ℕ) (r : Checked) : Type 0 where
   -- "9 when `.names` is empty"
   pub empty : block .names ≡ 0 → r ≡ Refused refusal.NamesEmpty
   -- its last name defines it
   pub last : (block .names ≡ 0 → ⊥)
-      → GateDefined text index i g (tokenOf text (getD tokens (block .first + block .names - 1) 0)) block blocks index′ blocks′ r
+      → GateDefined text index k g (tokenOf text (getD tokens (block .first + block .names - 1) 0)) block blocks index′ blocks′ r
 
 -- the block of a latch by its first name
 abbrev pub latchBlock : ℕ → Block
@@ -130,7 +130,7 @@ pub record LatchFits (text tokens index blocks : List ℕ) (w : Walk) (first : �
   -- its second name is there
   pub there : first + 1 < length tokens
   -- and can define a gate
-  pub gate : GateFits text index (w .inputs) (w .gates) (getD tokens (first + 1) 0) (latchBlock first) blocks
+  pub gate : GateFits text index (w .gates) (getD tokens (first + 1) 0) (latchBlock first) blocks
 
 -- a latch is passed
 pub record LatchStep (text tokens index blocks index′ blocks′ : List ℕ) (w : Walk) (first : ℕ) (s : Step) : Type 0 where
@@ -139,7 +139,7 @@ pub record LatchStep (text tokens index blocks index′ blocks′ : List ℕ) (w
   -- else the walk goes on behind it
   pub walk : s ≡ stepOf checked (gateWalk w)
   -- its second name defines a gate
-  pub gate : GateDefined text index (w .inputs) (w .gates) (tokenOf text (getD tokens (first + 1) 0)) (latchBlock first) blocks index′ blocks′ checked
+  pub gate : GateDefined text index (entryCount index) (w .gates) (tokenOf text (getD tokens (first + 1) 0)) (latchBlock first) blocks index′ blocks′ checked
 
 -- a cover and its lines are passed
 pub record CoverStep (text tokens index blocks index′ blocks′ : List ℕ) (w : Walk) (block : Block) (s : Step) : Type 0 where
@@ -148,7 +148,7 @@ pub record CoverStep (text tokens index blocks index′ blocks′ : List ℕ) (w
   -- else the walk goes on behind the lines
   pub walk : s ≡ stepOf checked (gateWalk w)
   -- its last name defines a gate
-  pub cover : CoverDefined text tokens index (w .inputs) (w .gates) block blocks index′ blocks′ checked
+  pub cover : CoverDefined text tokens index (entryCount index) (w .gates) block blocks index′ blocks′ checked
 
 -- the tables so far: those of the declarations ds before `left`, with i inputs, g gates and o outputs
 pub record TablesTo (ds left : List Decl) (text tokens : List ℕ) (n : ℕ) (index outNames blocks : List ℕ) (i g o : ℕ) : Type 0 where

@@ -6,13 +6,13 @@ use lib.ListN.{length}
 use borrow.Author.Needs.{needs}
 use Rattle.blif_text.specs.between.Blocks.{defAt}
 use Rattle.name_index.specs.between.Search.{signalIn}
-use Rattle.name_index.specs.between.Index.{namesIn, entriesOf}
+use Rattle.name_index.specs.between.Index.{entryCount, entriesOf}
 use Rattle.blif_read_signals.proofs.Placing.{Placing, placing-start, placing-room, placing-stops, placing-next, placing-done, blocks-to}
 use Rattle.blif_read_signals.proofs.place_gates.Statement.{statement}
 use Rattle.blif_read_signals.proofs.place_gates.Tie as tie
 
 abbrev Inv-loop : tie.InvT-loop
-Inv-loop text tokens index blocks g gates₀ pins₀ at₀ j₀ gates pins at j = Placing (signalIn (entriesOf text index (namesIn index))) (defAt text tokens (length tokens) blocks) g gates₀ pins₀ gates pins j at
+Inv-loop text tokens index blocks g gates₀ pins₀ at₀ j₀ gates pins at j = Placing (signalIn (entriesOf text index (entryCount index))) (defAt text tokens (length tokens) blocks) g gates₀ pins₀ gates pins j at
 
 abbrev μ-loop : tie.MeasureT-loop
 μ-loop text tokens index blocks g gates₀ pins₀ at₀ j₀ gates pins at j = g - j

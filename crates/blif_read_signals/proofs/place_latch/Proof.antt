@@ -6,7 +6,7 @@ use lib.ListN.{getD}
 use borrow.Author.Needs.{needs}
 use Rattle.blif_text.specs.between.Places.{tokenOf}
 use Rattle.name_index.specs.between.Search.{signalIn}
-use Rattle.name_index.specs.between.Index.{namesIn, entriesOf}
+use Rattle.name_index.specs.between.Index.{entryCount, entriesOf}
 use Rattle.blif_read_signals.proofs.OneGate.{latch-missing, latch-fits, latch-placed}
 use Rattle.blif_read_signals.proofs.place_latch.Statement.{statement}
 use Rattle.blif_read_signals.proofs.place_latch.Tie as tie
@@ -18,13 +18,13 @@ returns : tie.Need-returns
 returns c =
     let s = c .before .before .before .before .before .before .before .before .before .args in
     let name = c .before .before .token .ensures in
-    latch-missing (signalIn (entriesOf (s .text .now) (s .index .now) (namesIn (s .index .now)))) (tokenOf (s .text .now) (getD (s .tokens .now) (s .first) 0)) (tokenOf (s .text .now) (getD (s .tokens .now) (s .first + 1) 0))
-    (c .before .find-signal .ensures ∙ ap (signalIn (entriesOf (s .text .now) (s .index .now) (namesIn (s .index .now)))) name) (s .j) (s .at) (s .gates .now) (s .pins .now) (c .if1 .taken)
+    latch-missing (signalIn (entriesOf (s .text .now) (s .index .now) (entryCount (s .index .now)))) (tokenOf (s .text .now) (getD (s .tokens .now) (s .first) 0)) (tokenOf (s .text .now) (getD (s .tokens .now) (s .first + 1) 0))
+    (c .before .find-signal .ensures ∙ ap (signalIn (entriesOf (s .text .now) (s .index .now) (entryCount (s .index .now)))) name) (s .j) (s .at) (s .gates .now) (s .pins .now) (c .if1 .taken)
 
 lay-gate-requires : tie.Need-lay-gate-requires
 lay-gate-requires c κs =
     let s = c .before .before .before .before .before .before .before .before .before .before .before .before .before .args in
-    let sig = signalIn (entriesOf (s .text .now) (s .index .now) (namesIn (s .index .now))) in
+    let sig = signalIn (entriesOf (s .text .now) (s .index .now) (entryCount (s .index .now))) in
     let x = tokenOf (s .text .now) (getD (s .tokens .now) (s .first) 0) in
     let y = tokenOf (s .text .now) (getD (s .tokens .now) (s .first + 1) 0) in
     let e : c .before .before .before .before .before .find-signal .result ≡ sig x = c .before .before .before .before .before .find-signal .ensures ∙ ap sig (c .before .before .before .before .before .before .token .ensures) in
@@ -33,7 +33,7 @@ lay-gate-requires c κs =
 returns-2 : tie.Need-returns-2
 returns-2 c =
     let s = c .before .before .before .before .before .before .before .before .before .before .before .before .before .before .before .before .before .before .args in
-    let sig = signalIn (entriesOf (s .text .now) (s .index .now) (namesIn (s .index .now))) in
+    let sig = signalIn (entriesOf (s .text .now) (s .index .now) (entryCount (s .index .now))) in
     let x = tokenOf (s .text .now) (getD (s .tokens .now) (s .first) 0) in
     let y = tokenOf (s .text .now) (getD (s .tokens .now) (s .first + 1) 0) in
     let e : c .before .before .before .before .before .before .before .before .before .before .find-signal .result ≡ sig x = c .before .before .before .before .before .before .before .before .before .before .find-signal .ensures ∙ ap sig (c .before .before .before .before .before .before .before .before .before .before .before .token .ensures) in

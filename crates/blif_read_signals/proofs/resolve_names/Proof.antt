@@ -3,13 +3,13 @@ use Prim.Native.Nat.{_-_}
 use native.Mathlib.Omega.{arith}
 use lib.ListN.{length}
 use Rattle.name_index.specs.between.Search.{signalIn}
-use Rattle.name_index.specs.between.Index.{namesIn, entriesOf}
+use Rattle.name_index.specs.between.Index.{entryCount, entriesOf}
 use Rattle.blif_read_signals.proofs.Resolving.{Resolving, resolving-start, resolving-next, resolving-stops, resolving-done}
 use Rattle.blif_read_signals.proofs.resolve_names.Statement.{statement}
 use Rattle.blif_read_signals.proofs.resolve_names.Tie as tie
 
 abbrev Inv-loop : tie.InvT-loop
-Inv-loop text index names signals₀ i₀ signals i = Resolving (signalIn (entriesOf text index (namesIn index))) text names signals₀ signals i
+Inv-loop text index names signals₀ i₀ signals i = Resolving (signalIn (entriesOf text index (entryCount index))) text names signals₀ signals i
 
 abbrev μ-loop : tie.MeasureT-loop
 μ-loop text index names signals₀ i₀ signals i = length names - i

@@ -2,16 +2,16 @@
 use Prim.Native.Nat.{_+_, _*_, _-_}
 use borrow.Author.Needs.{needs}
 use native.Mathlib.Omega.{arith}
-use Rattle.name_index.specs.between.Index.{namesIn}
+use Rattle.name_index.specs.between.Index.{entryCount}
 use Rattle.name_index.proofs.TreeLaws.{Seeking, seeking-start, seeking-there, seeking-room, seeking-inside, seeking-less, seeking-found, seeking-next, seeking-done}
 use Rattle.name_index.proofs.seek.Statement.{statement}
 use Rattle.name_index.proofs.seek.Tie as tie
 
 abbrev Inv-loop : tie.InvT-loop
-Inv-loop text index name h at₀ bits₀ at bits = Seeking text index (namesIn index) name at bits
+Inv-loop text index name h at₀ bits₀ at bits = Seeking text index (entryCount index) name at bits
 
 abbrev μ-loop : tie.MeasureT-loop
-μ-loop text index name h at₀ bits₀ at bits = 1024 + namesIn index * 4 - at
+μ-loop text index name h at₀ bits₀ at bits = 1024 + entryCount index * 4 - at
 
 loop-holds : tie.Need-loop-holds Inv-loop μ-loop
 loop-holds c = search (seeking-start, needs)

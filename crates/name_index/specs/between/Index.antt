@@ -26,8 +26,8 @@ abbrev pub indexCells : ℕ
 indexCells = trees + maxNames * entryWidth + 1
 
 -- how many names the index has: its last cell
-abbrev pub namesIn : List ℕ → ℕ
-namesIn cells = getD cells (trees + maxNames * entryWidth) 0
+abbrev pub entryCount : List ℕ → ℕ
+entryCount cells = getD cells (trees + maxNames * entryWidth) 0
 
 -- the place of entry e's name
 abbrev pub nameAt : List ℕ → ℕ → ℕ
@@ -93,7 +93,7 @@ pub record Index (text cells : List ℕ) (k : ℕ) : Type 0 where
   -- as many cells as an index has
   pub room : indexCells ≤ length cells
   -- the last cell counts them
-  pub counted : namesIn cells ≡ k
+  pub counted : entryCount cells ≡ k
   -- no more names than may be defined
   pub few : k ≤ maxNames
   -- each is within the text
