@@ -10,22 +10,22 @@ use Rattle.blif_text.specs.Statements.{firstBad, stmts}
 use Rattle.blif_text.specs.Decls.{decls}
 use Rattle.blif_text.specs.between.Rows.{rowStmt}
 use Rattle.blif_text.specs.between.Places.{InText, grouped}
-use Rattle.blif_text.specs.between.Walk.{rowsFrom, stmtsFrom, Inside, RowsAt, StmtsAt}
+use Rattle.blif_text.specs.between.Walk.{rowsFrom, stmtsFrom, Inside, StmtsAt}
 
 module _ (text cells : List ℕ) (n : ℕ) (h : n ≤ length cells) where
   -- as many
-  pub length-front : length (take n cells) ≡ n
+  length-front : length (take n cells) ≡ n
   length-front = length-take-le n cells h
 
   -- the same cells
-  pub cell-front : (i : ℕ) → i < n → getD (take n cells) i 0 ≡ getD cells i 0
+  cell-front : (i : ℕ) → i < n → getD (take n cells) i 0 ≡ getD cells i 0
   cell-front i l = getD-take n cells i 0 l
 
   slice-front : (at : ℕ) → slice at (length (take n cells)) (take n cells) ≡ slice at n cells
   slice-front at = ap (λ (m : ℕ). slice at m (take n cells)) length-front ∙ ap (drop at) (take-take n n cells (omega arith))
 
   -- the same rows
-  pub rows-front : (at : ℕ) → rowsFrom text (take n cells) (length (take n cells)) at ≡ rowsFrom text cells n at
+  rows-front : (at : ℕ) → rowsFrom text (take n cells) (length (take n cells)) at ≡ rowsFrom text cells n at
   rows-front at = ap (λ (x : List ℕ). grouped text x .rows) (slice-front at)
 
   -- the same statements
@@ -33,7 +33,7 @@ module _ (text cells : List ℕ) (n : ℕ) (h : n ≤ length cells) where
   stmts-front at = ap (λ (x : List (List Bytes)). stmts (map rowStmt x)) (rows-front at)
 
   -- the same declarations
-  pub decls-front : (at : ℕ) → decls (stmtsFrom text (take n cells) (length (take n cells)) at) ≡ decls (stmtsFrom text cells n at)
+  decls-front : (at : ℕ) → decls (stmtsFrom text (take n cells) (length (take n cells)) at) ≡ decls (stmtsFrom text cells n at)
   decls-front at = ap decls (stmts-front at)
 
   -- places within the text
@@ -46,20 +46,11 @@ module _ (text cells : List ℕ) (n : ℕ) (h : n ≤ length cells) where
             subst (InText text) (sym (cell-front i k)) (p .inside i k);
       }
 
-  -- rows that stand among the first n
-  pub rows-back : {at : ℕ} → Inside text cells n → RowsAt text (take n cells) (length (take n cells)) at → RowsAt text cells n at
-  rows-back {at} p c =
-      record {
-        high = omega (arith, c .high, length-front);
-        places = p;
-        none-loose = sym (ap (λ (x : List ℕ). grouped text x .loose) (slice-front at)) ∙ c .none-loose;
-      }
-
 -- ---- of a walk
 
 module _ {text cells : List ℕ} {n at : ℕ} (c : StmtsAt text cells n at) where
   -- as many cells
-  pub walk-count : n ≡ length (take n cells)
+  walk-count : n ≡ length (take n cells)
   walk-count = sym (length-front text cells n (c .rows .places .room))
 
   -- no more than there may be

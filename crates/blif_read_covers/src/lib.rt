@@ -119,14 +119,13 @@ pub fn check_covers(text: &[u8], tokens: &[u32], blocks: &[u32], g: usize) -> Ch
     ensures { λ r. ⌜ r ≡ coverFaults (defsAt (now (text .entry)) (now (tokens .entry)) (length (now (tokens .entry))) (now (blocks .entry)) g) ⌝ }
 {
     let mut j: usize = 0;
-    let fault: Checked = 'pass: loop {
+    'pass: loop {
         if j >= g {
             break 'pass Checked::Fine;
         }
         let block = block_at(blocks, j);
-        let names = block.names;
         let lines = line_count(block);
-        let mut at = block.first + names;
+        let mut at = block.first + block.names;
         let mut met = NO_OUTPUT;
         let mut k: usize = 0;
         while k < lines {
@@ -134,7 +133,7 @@ pub fn check_covers(text: &[u8], tokens: &[u32], blocks: &[u32], g: usize) -> Ch
             let row = &tokens[at..end];
             let columns = line_columns(text, row);
             let output = output_of(token(text, row[row.len() - 1]));
-            if !line_fits(row.len(), columns.len(), names, output) {
+            if !line_fits(row.len(), columns.len(), block.names, output) {
                 break 'pass Checked::Refused(Refusal::WrongCubeLine);
             }
             let mut i: usize = 0;
@@ -152,6 +151,5 @@ pub fn check_covers(text: &[u8], tokens: &[u32], blocks: &[u32], g: usize) -> Ch
             break 'pass Checked::Refused(Refusal::OutputsDiffer);
         }
         j += 1;
-    };
-    fault
+    }
 }

@@ -2,7 +2,7 @@
 use mathlib.Core.Path.{_≡_, sym, ap, _∙_, subst}
 use mathlib.Core.Bool.{true, not}
 use mathlib.Core.List.{List}
-use Prim.Native.Nat.{ℕ, zero, suc, _+_, _-_, _≤_, _<_}
+use Prim.Native.Nat.{ℕ, zero, suc, _+_, _-_, _≤_}
 use native.Mathlib.Omega.{arith}
 use lib.ListN.{length, take}
 use lib.Seq.{slice, length-take-le}
@@ -24,10 +24,6 @@ use Rattle.blif_read_gates.proofs.GateLaws.{kept-none}
 -- the cells of block j's record are these
 abbrev pub Cells : List ℕ → ℕ → ℕ → ℕ → ℕ → Type 0
 Cells blocks j first names lines = (first ≡ firstName blocks j) × (names ≡ nameCount blocks j) × (lines ≡ lineCount blocks j)
-
--- the blocks up to block j
-pub blocks-to : {text tokens : List ℕ} {n : ℕ} {blocks : List ℕ} {g j : ℕ} → Blocks text tokens n blocks g → j < g → Blocks text tokens n blocks (j + 1)
-blocks-to b h = record { few = b .few; places = b .places; room = omega (arith, b .room); each = λ i l. b .each i (omega arith) }
 
 -- the definition by these cells
 def-is : (text tokens : List ℕ) (n : ℕ) (blocks : List ℕ) (j first names lines : ℕ) → Cells blocks j first names lines

@@ -158,23 +158,23 @@ fn is_one(text: &[u8], row: &[u32]) -> bool
     equal(blif_text::token(text, row[row.len() - 1]), b"1")
 }
 
-// Puts the gate of the line with these tokens into a record. Answers the pins' end.
+// Lays the gate of the line with these tokens as gate h. Answers the pins' end.
 fn put_row(
     text: &[u8],
     row: &[u32],
     sources: Sources,
     gates: &mut [u32],
-    gate: usize,
+    h: usize,
     pins: &mut [u32],
     at: usize,
 ) -> usize
     requires { ⌜ GoodRow (now text) (now row) (sources .count) ⌝ }
-    requires { ⌜ LineRoom (sources .count) (sources .first) at gate (now gates) (now pins) ⌝ }
-    ensures { λ r. ⌜ LinePut (columns (tokensOf (now (text .entry)) (now (row .entry)))) (isOne (tokensOf (now (text .entry)) (now (row .entry)))) (sources .first) at gate (now (gates .entry)) (now (pins .entry)) (now (gates .exit)) (now (pins .exit)) r ⌝ }
+    requires { ⌜ LineRoom (sources .count) (sources .first) at h (now gates) (now pins) ⌝ }
+    ensures { λ r. ⌜ LinePut (columns (tokensOf (now (text .entry)) (now (row .entry)))) (isOne (tokensOf (now (text .entry)) (now (row .entry)))) (sources .first) at h (now (gates .entry)) (now (pins .entry)) (now (gates .exit)) (now (pins .exit)) r ⌝ }
 {
     let columns = line_columns(text, row);
     let one = is_one(text, row);
-    put_line(columns, one, gates, gate, pins, sources.first, at)
+    put_line(columns, one, gates, h, pins, sources.first, at)
 }
 
 // Writes the signals of the gates next, next + 1, .. from pin at on.

@@ -23,12 +23,11 @@ use Rattle.network.specs.Record.{gateWidth, recordOf}
 use Rattle.network.specs.between.Record.{handRecord}
 use Rattle.network.proofs.RecordCells.{record-in, hand-dff, hand-nary, length-handRecord}
 use Rattle.blif_text.specs.Decls.{Def, latch, cover, coverIns, usedNames}
-use Rattle.blif_text.specs.between.Blocks.{Blocks}
 use Rattle.blif_meaning.specs.WellFormed.{optName}
 use Rattle.blif_reading.specs.between.Working.{GateIn, placed, placedCount, WorkRoom}
 use Rattle.blif_reading.proofs.WorkingLaws.{record-kept, run-kept, used-more, gate-written}
 use Rattle.blif_read_signals.specs.between.Resolve.{isFound, allFound, placedTo, Signals, PlacedBy}
-use Rattle.blif_read_signals.specs.between.Steps.{GateRoom, placedInHand, optCell, placedRun, DefPlaced}
+use Rattle.blif_read_signals.specs.between.Steps.{GateRoom, placedInHand, placedRun, DefPlaced}
 use Rattle.blif_read_signals.specs.declared.Placed.{Placed}
 use Rattle.blif_read_signals.specs.declared.Placed.the-variants as answer
 use Rattle.refusals.specs.declared.Refusal.{Refusal}
@@ -46,7 +45,7 @@ found-cells sig signalOf s (x ∷ ns) f =
 
 -- and so is one that may be left out
 found-cell : (sig : Bytes → ℕ) (signalOf : Bytes → Signal) → Signals sig signalOf → (t : Signal) (o : Option Bytes) → all isFound (map sig (optName o)) ≡ true
-    → optCell sig (sigCell t) o ≡ sigCell (optional signalOf t o)
+    → optional sig (sigCell t) o ≡ sigCell (optional signalOf t o)
 found-cell sig signalOf s t none f = refl
 found-cell sig signalOf s t (some x) f = s x (and-left (isFound (sig x)) true f)
 
@@ -67,7 +66,7 @@ run-is sig signalOf s (cover ns ls) f = found-cells sig signalOf s (coverIns ns)
 -- its record is that of the gate in hand
 record-is : (sig : Bytes → ℕ) (signalOf : Bytes → Signal) (at : ℕ) (d : Def) → handRecord at (placedInHand sig at d) ≡ recordOf at (placed signalOf d)
 record-is sig signalOf at (latch l) =
-    hand-dff at (record { a = sig (l .input) }) (record { a = optCell sig 1 (l .enable) }) (record { a = optCell sig 0 (l .reset) })
+    hand-dff at (record { a = sig (l .input) }) (record { a = optional sig 1 (l .enable) }) (record { a = optional sig 0 (l .reset) })
     (record { dataIn = signalOf (l .input); enable = optional signalOf oneS (l .enable); reset = optional signalOf zeroS (l .reset) })
 record-is sig signalOf at (cover ns ls) =
     hand-nary at N.And (record { first = at; count = length (coverIns ns) }) (map signalOf (coverIns ns)) (sym (length-map (coverIns ns) signalOf))
@@ -224,7 +223,3 @@ module _ {sig : Bytes → ℕ} {def : ℕ → Def} {g : ℕ} {gates₀ pinsIn₀
             let w : x ≡ placed signalOf (def i) = cc in
             rw (w, ← all-counted) (c .gates-in signalOf s i (omega arith));
       }
-
--- the blocks up to this one
-pub blocks-to : {text tokens : List ℕ} {n : ℕ} {blocks : List ℕ} {g : ℕ} (j : ℕ) → j < g → Blocks text tokens n blocks g → Blocks text tokens n blocks (j + 1)
-blocks-to j h b = record { few = b .few; places = b .places; room = omega (arith, b .room); each = λ i u. b .each i (omega arith) }

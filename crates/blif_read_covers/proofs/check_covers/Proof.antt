@@ -9,16 +9,16 @@ use Rattle.blif_read_covers.proofs.check_covers.Statement.{statement}
 use Rattle.blif_read_covers.proofs.check_covers.Tie as tie
 
 abbrev Inv-loop2 : tie.InvT-loop2
-Inv-loop2 text tokens blocks g j names lines at met k end columns output i₀ i = Columns text tokens (length tokens) blocks g j names lines k end met columns output i
+Inv-loop2 text tokens blocks g j block lines at met k end columns output i₀ i = Columns text tokens (length tokens) blocks g j (block .names) lines k end met columns output i
 
 abbrev μ-loop2 : tie.MeasureT-loop2
-μ-loop2 text tokens blocks g j names lines at met k end columns output i₀ i = length columns - i
+μ-loop2 text tokens blocks g j block lines at met k end columns output i₀ i = length columns - i
 
 abbrev Inv-loop : tie.InvT-loop
-Inv-loop text tokens blocks g j names lines at₀ met₀ k₀ at met k = Lines text tokens (length tokens) blocks g j names lines at met k
+Inv-loop text tokens blocks g j block lines at₀ met₀ k₀ at met k = Lines text tokens (length tokens) blocks g j (block .names) lines at met k
 
 abbrev μ-loop : tie.MeasureT-loop
-μ-loop text tokens blocks g j names lines at₀ met₀ k₀ at met k = lines - k
+μ-loop text tokens blocks g j block lines at₀ met₀ k₀ at met k = lines - k
 
 abbrev Inv-pass : tie.InvT-pass
 Inv-pass text tokens blocks g j₀ j = Covers text tokens (length tokens) blocks g j

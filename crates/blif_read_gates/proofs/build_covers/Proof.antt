@@ -3,7 +3,7 @@ use Prim.Native.Nat.{_-_}
 use native.Mathlib.Omega.{arith}
 use lib.ListN.{length}
 use Rattle.blif_text.specs.between.Blocks.{defsAt}
-use Rattle.blif_read_gates.proofs.BlockLaws.{blocks-to}
+use Rattle.blif_text.proofs.BlockLaws.{blocks-to}
 use Rattle.blif_read_gates.proofs.Building.{Building, building-start, building-room, building-next, building-done}
 use Rattle.blif_read_gates.proofs.Counting.{defs-long, def-place}
 use Rattle.blif_read_gates.proofs.build_covers.Statement.{statement}

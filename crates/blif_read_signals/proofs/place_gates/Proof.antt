@@ -5,9 +5,10 @@ use native.Mathlib.Omega.{arith}
 use lib.ListN.{length}
 use borrow.Author.Needs.{needs}
 use Rattle.blif_text.specs.between.Blocks.{defAt}
+use Rattle.blif_text.proofs.BlockLaws.{blocks-to}
 use Rattle.name_index.specs.between.Search.{signalIn}
 use Rattle.name_index.specs.between.Index.{entryCount, entriesOf}
-use Rattle.blif_read_signals.proofs.Placing.{Placing, placing-start, placing-room, placing-stops, placing-next, placing-done, blocks-to}
+use Rattle.blif_read_signals.proofs.Placing.{Placing, placing-start, placing-room, placing-stops, placing-next, placing-done}
 use Rattle.blif_read_signals.proofs.place_gates.Statement.{statement}
 use Rattle.blif_read_signals.proofs.place_gates.Tie as tie
 
@@ -26,7 +27,7 @@ place-block-requires : tie.Need-place-block-requires Inv-loop μ-loop
 place-block-requires c κs =
     let s = c .before .before .before .before .before .before .before .before .before .before .pre .0 in
     let h = c .before .before .loop-test .taken in
-    ((s .0, blocks-to (c .before .before .before .loop .j) h (s .1)), placing-room (c .before .before .before .loop .inv) h)
+    ((s .0, blocks-to (s .1) h), placing-room (c .before .before .before .loop .inv) h)
 
 same-length : tie.Need-same-length Inv-loop μ-loop
 same-length c =

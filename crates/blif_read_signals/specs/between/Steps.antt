@@ -2,10 +2,9 @@
 use mathlib.Core.Path.{_≡_}
 use mathlib.Core.Bool.{true}
 use mathlib.Core.List.{List, [], _∷_, map}
-use mathlib.Core.Option.{Option, none, some}
 use Prim.Native.Nat.{ℕ, _+_, _*_, _≤_, _<_}
 use lib.ListN.{length}
-use Rattle.lists.specs.Lists.{Bytes, all}
+use Rattle.lists.specs.Lists.{Bytes, all, optional}
 use Rattle.lists.specs.between.Lists.{overwriteAt}
 use Rattle.network.specs.Sizes.{maxGates, maxPins}
 use Rattle.gates.specs.declared.Gate as code
@@ -36,11 +35,6 @@ pub record GatePlaced (sig : Bytes → ℕ) (x : code.Gate) (names : List Bytes)
   -- the run
   pub runs : all isFound (map sig names) ≡ true → pinsIn′ ≡ overwriteAt at run pinsIn
 
--- the cell of a name that may be left out
-abbrev pub optCell : (Bytes → ℕ) → ℕ → Option Bytes → ℕ
-optCell sig c none = c
-optCell sig c (some x) = sig x
-
 -- the Nary And in hand of so many pins from cell `at` on
 abbrev pub andInHand : ℕ → ℕ → code.Gate
 andInHand at count = G.Nary N.And (record { first = at; count = count })
@@ -48,12 +42,12 @@ andInHand at count = G.Nary N.And (record { first = at; count = count })
 -- the gate in hand that is first placed for a definition, its pins from cell `at` on: a Dff, whose enable is one and whose reset zero where
 -- they are left out, or a Nary And
 abbrev pub placedInHand : (Bytes → ℕ) → ℕ → Def → code.Gate
-placedInHand sig at (latch l) = G.Dff (record { a = sig (l .input) }) (record { a = optCell sig 1 (l .enable) }) (record { a = optCell sig 0 (l .reset) })
+placedInHand sig at (latch l) = G.Dff (record { a = sig (l .input) }) (record { a = optional sig 1 (l .enable) }) (record { a = optional sig 0 (l .reset) })
 placedInHand sig at (cover ns ls) = andInHand at (length (coverIns ns))
 
 -- the cells of its pins
 abbrev pub placedRun : (Bytes → ℕ) → Def → List ℕ
-placedRun sig (latch l) = sig (l .input) ∷ optCell sig 1 (l .enable) ∷ optCell sig 0 (l .reset) ∷ []
+placedRun sig (latch l) = sig (l .input) ∷ optional sig 1 (l .enable) ∷ optional sig 0 (l .reset) ∷ []
 placedRun sig (cover ns ls) = map sig (coverIns ns)
 
 -- the gate of a definition was placed
