@@ -21,7 +21,7 @@ use Rattle.network.specs.between.Record.{CellIs, HasRun}
 use Rattle.network.proofs.GateRead.{has-run, gate-is, run-pins}
 use Rattle.network.proofs.Records.{cut-run}
 use Rattle.blif_writing.specs.WrittenModel.{named, exclusive, maxExclusive, tooWide, wide}
-use Rattle.blif_write.specs.between.Parts.{latchText, coverText, HeldAt}
+use Rattle.blif_write.specs.between.Parts.{latchText, coverText, HeldAt, wideAt}
 use Rattle.blif_write_inverters.specs.between.Marks.{SignalsMarked}
 use Rattle.blif_write_inverters.proofs.Marking.{as-marked}
 
@@ -77,10 +77,8 @@ module _ {cells ps : List ℕ} {g : ℕ} (c : HeldAt cells ps g) where
   count-is =
       omega (arith, length-take (countAt cells g) (drop (firstAt cells g) ps), length-drop (firstAt cells g) ps, run-pins cells ps g (c .gate) (c .is), held-run .within)
 
-  pub wide-told : {form count : ℕ} {b : Bool} → form ≡ formAt cells g → CellIs (countAt cells g) count → b ≡ tooWide form count
-      → b ≡ wide (orBuf (gateAt cells ps g))
-  wide-told h k e =
-      e ∙ ap₂ tooWide (h ∙ sym (tells .number)) (k .cell ∙ count-is) ∙ ap wide (as-held cells ps g (c .is))
+  pub wide-held : wideAt cells g ≡ wide (orBuf (gateAt cells ps g))
+  wide-held = ap₂ tooWide (sym (tells .number)) count-is ∙ ap wide (as-held cells ps g (c .is))
 
   pub latch-none : {form : ℕ} → form ≡ formAt cells g → (form ≡ flopNumber → ⊥) → [] ≡ latchText g (orBuf (gateAt cells ps g))
   latch-none e h = no-latch g (c .gate) (λ q. h (e ∙ sym (tells .number) ∙ q)) ∙ ap (latchText g) (as-held cells ps g (c .is))

@@ -1,11 +1,12 @@
 -- The gates in lent cells, one after the other: their latches, their covers, and a test of each. Assumes nothing.
-use mathlib.Core.Path.{_≡_, refl, sym, _∙_, ap}
-use mathlib.Core.Bool.{Bool, false, _||_}
+use mathlib.Core.Path.{_≡_, refl, sym, _∙_, ap, ap₂}
+use mathlib.Core.Bool.{Bool, true, false, _||_}
 use mathlib.Core.List.{List, [], _∷_, _++_, map, flatMap}
 use mathlib.Core.Option.{none, some}
-use Prim.Native.Nat.{ℕ, suc, _+_, _-_, _≤_, _<_}
+use Prim.Native.Nat.{ℕ, zero, suc, _+_, _-_, _≤_, _<_}
 use native.Mathlib.Omega.{arith}
-use Rattle.lists.specs.Lists.{Bytes, any}
+use native.Mathlib.Nat.{sub-zero}
+use Rattle.lists.specs.Lists.{Bytes, any, range}
 use Rattle.lists.proofs.Places.{place-mem, flatMap-append}
 use Rattle.lists.proofs.Range.{any-none, range-cons, range-end}
 use Rattle.gates.specs.Gate.{Gate, Comb, Dff}
@@ -15,16 +16,16 @@ use Rattle.gates.specs.declared.Gate.the-variants as G
 use Rattle.gates.specs.declared.Decoded.{Decoded}
 use Rattle.gates.specs.declared.Decoded.the-variants.{Good, Bad}
 use Rattle.network.specs.Cells.{orBuf, cellGates}
-use Rattle.network.specs.Record.{gateAt}
-use Rattle.network.specs.between.Record.{decodedAt}
+use Rattle.network.specs.Record.{formAt, countAt, gateAt}
+use Rattle.network.specs.between.Record.{decodedAt, CellIs}
 use Rattle.network.proofs.GateRead.{decoded-is, cell-gate}
 use Rattle.blif_writing.specs.Names.{nameBytes}
-use Rattle.blif_writing.specs.WrittenModel.{combBlock, combBlocks, latchBlocks, wide}
+use Rattle.blif_writing.specs.WrittenModel.{combBlock, combBlocks, latchBlocks, tooWide, wide}
 use Rattle.blif_writing.specs.Text.{line, blockLines, allLines}
 use Rattle.blif_write_names.proofs.Parts.{Parts}
-use Rattle.blif_write.specs.between.Parts.{latchText, coverText, latchesText, coversText, HeldAt}
+use Rattle.blif_write.specs.between.Parts.{latchText, coverText, latchesText, coversText, HeldAt, Readable, wideAt, wideTo}
 use Rattle.blif_write.proofs.Covers.{block-alone}
-use Rattle.blif_write.proofs.Told.{held-is}
+use Rattle.blif_write.proofs.Told.{held-is, wide-held}
 
 -- ---- gates read one after the other
 
@@ -88,8 +89,34 @@ not-wide {cells} {ps} {n} {g} c w h =
 
 -- ---- a test of each gate
 
--- a test of gate g, then of the gates behind it
-pub wide-next : (cells ps : List ℕ) {n g : ℕ} {b c : Bool} → g < n → b ≡ wide (orBuf (gateAt cells ps g)) → b ≡ c
-    → any wide (cellGates cells ps g (n - g)) ≡ (c || any wide (cellGates cells ps (g + 1) (n - (g + 1))))
-wide-next cells ps {n} {g} h w t =
-    ap (any wide) (cells-next cells ps h) ∙ ap (λ (z : Bool). z || any wide (cellGates cells ps (g + 1) (n - (g + 1)))) (sym w ∙ t)
+-- no record before gate g's is wide: what is left tests as the whole does
+pub record Narrow (cells : List ℕ) (n g : ℕ) : Type 0 where
+  pub rest : any (wideAt cells) (range g (n - g)) ≡ wideTo cells n
+
+pub narrow-start : {cells : List ℕ} {n : ℕ} → Narrow cells n 0
+narrow-start = record { rest = rw sub-zero }
+
+module _ {cells : List ℕ} {n g : ℕ} (c : Narrow cells n g) where
+  module _ {form count : ℕ} {b : Bool} (h : g < n) (f : form ≡ formAt cells g) (k : CellIs (countAt cells g) count) (e : b ≡ tooWide form count) where
+    -- gate g's record is tested, then those behind it
+    record-next : (b || any (wideAt cells) (range (g + 1) (n - (g + 1)))) ≡ wideTo cells n
+    record-next =
+        ap (λ (z : Bool). z || any (wideAt cells) (range (g + 1) (n - (g + 1)))) (e ∙ ap₂ tooWide f (k .cell))
+        ∙ sym (ap (any (wideAt cells)) (range-cons n g h)) ∙ c .rest
+
+    pub narrow-stops : b ≡ true → true ≡ wideTo cells n
+    narrow-stops t = rw t at record-next
+
+    pub narrow-next : b ≡ false → Narrow cells n (g + 1)
+    narrow-next t = record { rest = rw t at record-next }
+
+  pub narrow-done : n ≤ g → false ≡ wideTo cells n
+  narrow-done h = sym (ap (any (wideAt cells)) (range-end n g h)) ∙ c .rest
+
+-- where the gates can be read, their records tell whether one is wide
+wide-from : {cells ps : List ℕ} (k g : ℕ) → ((i : ℕ) → i < g + k → HeldAt cells ps i) → any (wideAt cells) (range g k) ≡ any wide (cellGates cells ps g k)
+wide-from zero g f = refl
+wide-from (suc k) g f = ap₂ (λ (a b : Bool). a || b) (wide-held (f g (omega arith))) (wide-from k (suc g) (λ i h. f i (omega arith)))
+
+pub wide-read : {cells ps : List ℕ} {n : ℕ} → Readable cells ps n → wideTo cells n ≡ any wide (cellGates cells ps 0 n)
+wide-read {n = n} c = wide-from n 0 (λ i h. c .read i (omega arith))

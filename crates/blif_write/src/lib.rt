@@ -16,21 +16,21 @@ use signal::Signal;
 ghost use mathlib.Core.Path.{_≡_};
 ghost use mathlib.Core.Bool.{true, false};
 ghost use mathlib.Core.List.{[], _++_, map};
-ghost use Prim.Native.Nat.{_≤_, _<_, min};
+ghost use Prim.Native.Nat.{_*_, _≤_, _<_, min};
 ghost use lib.ListN.{length};
 ghost use Rattle.lists.specs.Lists.{any};
 ghost use Rattle.signal.specs.Cell.{sigOf};
 ghost use Rattle.gates.specs.between.Decode.{runWithin, gateIn};
 ghost use Rattle.network.specs.Cells.{orBuf, cellGates, cellNet, lent};
 ghost use Rattle.network.specs.Sizes.{maxGates, maxInputs};
-ghost use Rattle.network.specs.Record.{gateAt};
+ghost use Rattle.network.specs.Record.{gateWidth, gateAt};
 ghost use Rattle.blif_text.specs.Lines.{maxText};
 ghost use Rattle.blif_writing.specs.Names.{nameBytes};
 ghost use Rattle.blif_writing.specs.WrittenModel.{inputNames, named, tooWide, wide};
 ghost use Rattle.blif_writing.specs.Text.{spaced, textOf};
 ghost use Rattle.blif_write_names.specs.between.Text.{Wrote, Appended};
 ghost use Rattle.blif_write.specs.Into.{writeOutcome, refusedText, writeInto};
-ghost use Rattle.blif_write.specs.between.Parts.{latchText, coverText, latchesText, coversText, headText, HeldAt, Readable, invertersText, Writable};
+ghost use Rattle.blif_write.specs.between.Parts.{latchText, coverText, latchesText, coversText, headText, HeldAt, Readable, wideTo, invertersText, Writable};
 ghost use Rattle.blif_write_inverters.specs.between.Marks.{SignalsMarked, namedIn};
 
 // How many inputs an Xor or Xnor of the Nary form may have to be written.
@@ -191,9 +191,9 @@ fn is_wide(form: u32, count: usize) -> bool
 }
 
 // Whether one of n gates has too many inputs to be written.
-fn any_wide(gates: &[u32], pins: &[u32], n: usize) -> bool
-    requires { ⌜ Readable (now gates) (now pins) n ⌝ }
-    ensures { λ r. ⌜ r ≡ any wide (cellGates (now (gates .entry)) (now (pins .entry)) 0 n) ⌝ }
+fn any_wide(gates: &[u32], n: usize) -> bool
+    requires { ⌜ n * gateWidth ≤ length (now gates) ⌝ }
+    ensures { λ r. ⌜ r ≡ wideTo (now (gates .entry)) n ⌝ }
 {
     let mut g = 0;
     while g < n {
@@ -338,7 +338,7 @@ pub fn write_blif(
     if !network::check_layout(counts, gates, pins, outputs) {
         return refuse(out, Refusal::NotANetwork);
     }
-    if any_wide(gates, pins, counts.gates) {
+    if any_wide(gates, counts.gates) {
         return refuse(out, Refusal::WideExclusive);
     }
     write_network(counts, gates, pins, outputs, out)

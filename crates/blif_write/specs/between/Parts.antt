@@ -1,19 +1,19 @@
 -- The parts of the text of a lent network (document 01, "The text"). Assumes nothing: these are definitions.
 use mathlib.Core.Path.{_≡_}
-use mathlib.Core.Bool.{true, false}
+use mathlib.Core.Bool.{Bool, true, false}
 use mathlib.Core.List.{List, [], _∷_, map, flatMap}
 use mathlib.Core.Option.{some}
 use Prim.Native.Nat.{ℕ, _≤_, _<_}
-use Rattle.lists.specs.Lists.{Bytes, any}
+use Rattle.lists.specs.Lists.{Bytes, any, range}
 use Rattle.signal.specs.Signal.{Signal}
 use Rattle.gates.specs.Gate.{Gate}
 use Rattle.network.specs.Net.{Net}
 use Rattle.network.specs.Cells.{Lent, isNetwork, netOf}
 use Rattle.network.specs.Sizes.{maxGates}
-use Rattle.network.specs.Record.{gateAt}
+use Rattle.network.specs.Record.{formAt, countAt, gateAt}
 use Rattle.blif_meaning.specs.Model.{Block}
 use Rattle.blif_writing.specs.Names.{nameBytes}
-use Rattle.blif_writing.specs.WrittenModel.{inputNames, wide, latchBlocks, combBlocks, inverterBlock, inverters}
+use Rattle.blif_writing.specs.WrittenModel.{inputNames, tooWide, wide, latchBlocks, combBlocks, inverterBlock, inverters}
 use Rattle.blif_writing.specs.Text.{line, allLines, headLines}
 
 -- the lines of blocks, each with its end
@@ -53,6 +53,14 @@ pub record Readable (cells ps : List ℕ) (n : ℕ) : Type 0 where
   pub few : n ≤ maxGates
   -- each can
   pub read : (g : ℕ) → g < n → HeldAt cells ps g
+
+-- gate g's record has a form and a pin count that 21 refuses
+abbrev pub wideAt : List ℕ → ℕ → Bool
+wideAt cells g = tooWide (formAt cells g) (countAt cells g)
+
+-- so has one of the first n records
+abbrev pub wideTo : List ℕ → ℕ → Bool
+wideTo cells n = any (wideAt cells) (range 0 n)
 
 -- ---- inputs and outputs
 
