@@ -6,7 +6,7 @@ use mathlib.Core.List.{List, [], _∷_, map, List·Memᴰ}
 use mathlib.Core.Option.{Option, none, some}
 use Prim.Native.Nat.{ℕ}
 use lib.ListN.{getD, getElem?}
-use Rattle.lists.specs.Lists.{optional}
+use Rattle.lists.specs.Lists.{optional, any}
 use Rattle.network.specs.Clock.{Runs}
 
 -- a column of a row: "{0, 1, –} is used in the n-bit wide input plane"
@@ -59,8 +59,7 @@ cubeBit (c ∷ cs) (b ∷ bs) = colBit c b && cubeBit cs bs
 
 -- "and then all rows are ORed"
 abbrev pub cubesBit : List Line → List Bool → Bool
-cubesBit [] bs = false
-cubesBit (l ∷ ls) bs = cubeBit (l .cols) bs || cubesBit ls bs
+cubesBit ls bs = any (λ l. cubeBit (l .cols) bs) ls
 
 -- "The ON-set is specified with 1's in the output plane, and the OFF-set is specified with 0's in the output plane"; a cover without
 -- rows is "the constant 0"

@@ -4,7 +4,7 @@ use mathlib.Core.Bool.{Bool, true, false, cond}
 use mathlib.Core.List.{List, [], _∷_, _++_, map}
 use Prim.Native.Nat.{ℕ, zero, suc, _+_}
 use lib.ListN.{length}
-use Rattle.lists.specs.Lists.{optional}
+use Rattle.lists.specs.Lists.{optional, range}
 use Rattle.signal.specs.Signal.{Var, Signal, plain, zeroS, oneS, invert}
 use Rattle.gates.specs.Gate.{OrN, AndN, NandN, Buf, Gate, Comb, Dff}
 use Rattle.network.specs.Net.{Net}
@@ -34,8 +34,7 @@ lineGate ss l = literalGate (l .out) (literals (l .cols) ss)
 
 -- gates k, k + 1, .. as signals, n of them
 abbrev pub gateRun : ℕ → ℕ → List Signal
-gateRun k zero = []
-gateRun k (suc n) = plain (Var k) ∷ gateRun (suc k) n
+gateRun k n = map (λ g. plain (Var g)) (range k n)
 
 -- the cover's own gate: "A cover without lines is Buf(zero)"; of two or more, whose gates start at number k, "the cover's gate joins
 -- them: Or for 1"; "Two or more lines with output 0 are joined by And"

@@ -6,7 +6,7 @@ use mathlib.Core.Option.{Option, none, some}
 use Prim.Native.Nat.{ℕ, zero, suc}
 use lib.Dec.{eqb, ltb}
 use lib.ListN.{length, replicate}
-use Rattle.lists.specs.Lists.{range, filter, elem}
+use Rattle.lists.specs.Lists.{range, filter, elem, any}
 use Rattle.signal.specs.Signal.{Node, Const, Input, Var, Signal, plain, zeroS, oneS, invert, constNode}
 use Rattle.gates.specs.Gate.{odd, Form, And2, Xor2, And3, Xor3, Maj3, Mux3, AndN, OrN, NandN, NorN, XorN, XnorN, Buf, FlipFlop, Gate, Comb, Dff, pins}
 use Rattle.gates.specs.Forms.{formNumber, formCell}
@@ -77,8 +77,7 @@ sameNode (Var i) (Var j) = eqb i j
 
 -- the node is used inverted among these signals
 abbrev pub usedAmong : Node → List Signal → Bool
-usedAmong node [] = false
-usedAmong node (s ∷ ss) = (s .inv && sameNode (s .node) node) || usedAmong node ss
+usedAmong node ss = any (λ s. s .inv && sameNode (s .node) node) ss
 
 -- the signals of a gate that are written by name, inverted or not: "inputs of every gate but Buf"
 abbrev pub named : Gate → List Signal
@@ -86,8 +85,7 @@ named x = cond (eqb (formCell x) (formNumber Buf)) [] (pins x)
 
 -- the node is used inverted by these gates
 abbrev pub usedIn : Node → List Gate → Bool
-usedIn node [] = false
-usedIn node (x ∷ xs) = usedAmong node (named x) || usedIn node xs
+usedIn node xs = any (λ x. usedAmong node (named x)) xs
 
 -- the node needs an inverter
 abbrev pub inverted : Net → Node → Bool

@@ -3,6 +3,7 @@ use mathlib.Core.Path.{_≡_}
 use mathlib.Core.Bool.{Bool, true, false, not, _&&_, _||_, cond}
 use mathlib.Core.List.{List, [], _∷_}
 use lib.ListN.{getD}
+use Rattle.lists.specs.Lists.{all, any}
 use Rattle.signal.specs.Signal.{Signal, zeroS, oneS, invertIf}
 
 -- the combinational forms with their types, in document 01's order: "Binary (And, Xor), Ternary (And, Xor, Maj, Mux),
@@ -45,13 +46,11 @@ isComb (Dff ff) = false
 
 -- all ones; of nothing it is one
 abbrev pub allOf : List Bool → Bool
-allOf [] = true
-allOf (b ∷ bs) = b && allOf bs
+allOf bs = all (λ b. b) bs
 
 -- a one among them; of nothing it is zero
 abbrev pub anyOf : List Bool → Bool
-anyOf [] = false
-anyOf (b ∷ bs) = b || anyOf bs
+anyOf bs = any (λ b. b) bs
 
 -- "Xor an odd number" of ones
 abbrev pub odd : List Bool → Bool

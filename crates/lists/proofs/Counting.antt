@@ -1,15 +1,17 @@
 -- How often a number stands in a list, and sums over the numbers below n. Assumes nothing.
 use Prim.Native.Nat.{ℕ, zero, suc, _+_, _≤_, _<_}
 use native.Mathlib.Omega.{arith}
-use native.Mathlib.Nat.{eq-or-lt-of-le, le-of-suc-le-suc}
+use native.Mathlib.Nat.{zero-add, eq-or-lt-of-le, le-of-suc-le-suc}
 use native.Mathlib.Decide.{ℕ-discrete}
 use mathlib.Core.Logic.{_⊎_, inl, inr, ⊎-elim}
-use mathlib.Core.List.{List, [], _∷_, _++_, List·Memᴰ, List·Memᴰ·head, List·Memᴰ·tail}
+use mathlib.Core.List.{List, [], _∷_, _++_, map, List·Memᴰ, List·Memᴰ·head, List·Memᴰ·tail}
 use mathlib.Core.Path.{_≡_, refl, sym, ap, _∙_}
 use borrow.Author.Tests.{eq-eqb, ne-eqb}
-use lib.ListN.{length, getD, length-append, List·getD-append, set}
+use lib.ListN.{length, getD, length-append, length-map, List·getD-append, set}
 use lib.Seq.{getD-at, getD-set-same, getD-set-other}
-use Rattle.lists.specs.Lists.{hit, occ, sumOf, sumTo, listTo}
+use Rattle.lists.specs.Lists.{hit, occ, sumOf, sumTo, range}
+use Rattle.lists.proofs.Places.{getD-place}
+use Rattle.lists.proofs.Range.{length-range, map-range}
 
 pub hit-eq : {v x : ℕ} → v ≡ x → hit v x ≡ 1
 unfolding hit
@@ -177,17 +179,11 @@ getD-occ (x ∷ l) (suc i) h = omega (arith, getD-occ l i (omega arith))
 
 -- ---- lists by a rule
 
-pub length-listTo : (k : ℕ) (f : ℕ → ℕ) → length (listTo k f) ≡ k
-length-listTo zero f = refl
-length-listTo (suc k) f = omega (arith, length-append (listTo k f) (f k ∷ []), length-listTo k f)
+pub length-table : (f : ℕ → ℕ) (k : ℕ) → length (map f (range 0 k)) ≡ k
+length-table f k = length-map (range 0 k) f ∙ length-range 0 k
 
-pub getD-listTo : (k : ℕ) (f : ℕ → ℕ) (v : ℕ) → v < k → getD (listTo k f) v 0 ≡ f v
-getD-listTo zero f v l = absurd (omega arith)
-getD-listTo (suc k) f v l =
-    ⊎-elim
-    (λ e. rw e (getD-at (listTo k f) (f k) [] 0 k (length-listTo k f)))
-    (λ w. List·getD-append (listTo k f) (f k ∷ []) 0 v (rw length-listTo w) ∙ getD-listTo k f v w)
-    (last-or l)
+pub getD-table : (f : ℕ → ℕ) (k v : ℕ) → v < k → getD (map f (range 0 k)) v 0 ≡ f v
+getD-table f k v l = getD-place 0 (map f (range 0 k)) v (f (0 + v)) (map-range f 0 k v l) ∙ ap f (zero-add v)
 
 -- ---- sums over a list
 

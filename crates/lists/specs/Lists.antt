@@ -77,19 +77,13 @@ abbrev pub sumTo : ℕ → (ℕ → ℕ) → ℕ
 sumTo zero f = 0
 sumTo (suc k) f = sumTo k f + f k
 
--- f 0, f 1, .., f (k - 1)
-abbrev pub listTo : ℕ → (ℕ → ℕ) → List ℕ
-listTo zero f = []
-listTo (suc k) f = listTo k f ++ f k ∷ []
-
 -- 1 where the two numbers are the same, else 0
 unfoldable pub hit : ℕ → ℕ → ℕ
 hit v x = cond (eqb v x) 1 0
 
 -- how often v stands in the list
 abbrev pub occ : ℕ → List ℕ → ℕ
-occ v [] = 0
-occ v (x ∷ l) = hit v x + occ v l
+occ v l = sumOf (hit v) l
 
 -- the list t laid over the front of o, cut where o ends: what a function that fills a slice from its front leaves of it
 abbrev pub overwrite : List ℕ → List ℕ → List ℕ

@@ -1,19 +1,19 @@
 -- Without a loop just one choice of bits fits a clock, and a run has just one list of outputs: `settle` and `run`. Assumes nothing.
 use mathlib.Core.Path.{_≡_, refl, sym, ap, ap₂, _∙_, subst}
 use mathlib.Core.List.{List, [], _∷_, List·Memᴰ, List·Memᴰ·head, List·Memᴰ·tail, List·Memᴰ·not-nil, List·Memᴰ·cases-cons}
-use mathlib.Core.Bool.{Bool}
+use mathlib.Core.Bool.{Bool, false}
 use mathlib.Core.Option.{Option, none, some}
 use mathlib.Core.Logic.{⊎-elim}
 use Prim.Native.Nat.{ℕ, zero, suc, _≤_, _<_}
 use native.Mathlib.Omega.{arith}
 use native.Mathlib.Decide.{ℕ-discrete}
 use lib.ListN.{length, getElem?}
-use Rattle.lists.specs.Lists.{Dup, here, there}
+use Rattle.lists.specs.Lists.{Dup, here, there, optional}
 use Rattle.signal.specs.Signal.{Node, Const, Input, Var, Signal, invertIf}
 use Rattle.gates.specs.Gate.{Form, Gate, Comb, Dff, pins, formBit}
 use Rattle.network.specs.Net.{Net, GateIs, ValidNode, Valid, Feeds, Path, last, more, Loop}
 use Rattle.network.specs.Clock.{Fits, Clock, nodeBit, sigBit, gateBit, nextBit, Runs, done, tick}
-use Rattle.network.specs.Settle.{bitAt, round, settle, nextOf, runFrom}
+use Rattle.network.specs.Settle.{round, settle, nextOf, runFrom}
 use Rattle.lists.proofs.Places.{place-lt, lt-place, map-on}
 use Rattle.lists.proofs.Twice.{Below, pigeons}
 use Rattle.network.proofs.Runs.{nextOf-is, runs-nil, runs-cons}
@@ -145,7 +145,7 @@ settles net rk row held zero g u = absurd (omega arith)
 settles net rk row held (suc k) g u = go (getElem? (net .gates) g) refl (settles net rk row held k)
   where
     go : (o : Option Gate) → getElem? (net .gates) g ≡ o → ((h : ℕ) → rk .rank h < k → round net row held (suc k) h ≡ round net row held k h)
-        → bitAt (sigBit row (round net row held (suc k))) (held g) o ≡ bitAt (sigBit row (round net row held k)) (held g) o
+        → optional (gateBit (sigBit row (round net row held (suc k))) (held g)) false o ≡ optional (gateBit (sigBit row (round net row held k)) (held g)) false o
     go none p ih = refl
     go (some x) p ih =
         gate-agrees row (round net row held (suc k)) (round net row held k) (held g) x (λ f s h e m q.
@@ -154,7 +154,7 @@ settles net rk row held (suc k) g u = go (getElem? (net .gates) g) refl (settles
 pub settle-fits : (net : Net) → Ranked net → (row : List Bool) (held : ℕ → Bool) → Fits net row held (settle net row held)
 settle-fits net rk row held g x p =
     sym (settles net rk row held (suc (length (net .gates))) g (let u : rk .rank g ≤ length (net .gates) = rk .most g in omega arith))
-    ∙ ap (bitAt (sigBit row (settle net row held)) (held g)) p
+    ∙ ap (optional (gateBit (sigBit row (settle net row held)) (held g)) false) p
 
 -- equal on the network's gates
 abbrev pub Same : Net → (ℕ → Bool) → (ℕ → Bool) → Type 0

@@ -6,11 +6,12 @@ use mathlib.Core.Option.{Option, none, some}
 use Prim.Native.Nat.{ℕ, zero, suc, _+_, _≤_, _<_}
 use native.Mathlib.Omega.{arith}
 use lib.ListN.{length, getD, getElem?}
+use Rattle.lists.specs.Lists.{optional}
 use Rattle.signal.specs.Signal.{Signal}
 use Rattle.gates.specs.Gate.{Gate}
 use Rattle.network.specs.Net.{Net, GateIs}
 use Rattle.network.specs.Clock.{nextBit, Runs, done, tick}
-use Rattle.network.specs.Settle.{nextAt, nextOf}
+use Rattle.network.specs.Settle.{nextOf}
 
 -- every tick of the first is one of the second, from related states to related states
 abbrev pub Simulates : {S T : Type 0} (R : S → T → Type 0) (F : S → List Bool → List Bool → S → Type 0) (G : T → List Bool → List Bool → T → Type 0) → Type 0
@@ -24,7 +25,7 @@ runs-along R F G sim s t rows outs r (tick {t = s′} {row = row} {out = out} {r
     tick (x .1) (runs-along R F G sim s′ (x .0) rs os (x .2) more)
 
 pub nextOf-is : (net : Net) (σ : Signal → Bool) (held : ℕ → Bool) (g : ℕ) (x : Gate) → GateIs net g x → nextOf net σ held g ≡ nextBit σ (held g) x
-nextOf-is net σ held g x e = ap (nextAt σ (held g)) e
+nextOf-is net σ held g x e = ap (optional (nextBit σ (held g)) (held g)) e
 
 pub runs-nil : {S : Type 0} {F : S → List Bool → List Bool → S → Type 0} {s : S} {os : List (List Bool)} → Runs F s [] os → [] ≡ os
 runs-nil done = refl

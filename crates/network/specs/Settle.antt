@@ -4,36 +4,25 @@ use mathlib.Core.Path.{_≡_}
 use mathlib.Core.Bool.{Bool, false}
 use mathlib.Core.List.{List, [], _∷_, map}
 use mathlib.Core.Logic.{_↔_}
-use mathlib.Core.Option.{Option, none, some}
 use Prim.Native.Nat.{ℕ, zero, suc}
 use lib.ListN.{length, getElem?}
+use Rattle.lists.specs.Lists.{optional}
 use Rattle.signal.specs.Signal.{Signal}
-use Rattle.gates.specs.Gate.{Gate}
 use Rattle.network.specs.Net.{Net}
 use Rattle.network.specs.Clock.{sigBit, gateBit, nextBit, zeroBits, NetRuns}
-
--- the bit of a gate, or false where there is none
-abbrev pub bitAt : (Signal → Bool) → Bool → Option Gate → Bool
-bitAt σ h none = false
-bitAt σ h (some x) = gateBit σ h x
 
 -- the bits after k rounds, in each of which every gate is worked out from the round before
 abbrev pub round : Net → List Bool → (ℕ → Bool) → ℕ → ℕ → Bool
 round net row held zero g = false
-round net row held (suc k) g = bitAt (sigBit row (round net row held k)) (held g) (getElem? (net .gates) g)
+round net row held (suc k) g = optional (gateBit (sigBit row (round net row held k)) (held g)) false (getElem? (net .gates) g)
 
 -- the bits of a clock: one round more than there are gates
 abbrev pub settle : Net → List Bool → (ℕ → Bool) → ℕ → Bool
 settle net row held = round net row held (suc (length (net .gates)))
 
--- what a gate, if there is one, holds next
-abbrev pub nextAt : (Signal → Bool) → Bool → Option Gate → Bool
-nextAt σ h none = h
-nextAt σ h (some x) = nextBit σ h x
-
 -- the bits held next
 abbrev pub nextOf : Net → (Signal → Bool) → (ℕ → Bool) → ℕ → Bool
-nextOf net σ held g = nextAt σ (held g) (getElem? (net .gates) g)
+nextOf net σ held g = optional (nextBit σ (held g)) (held g) (getElem? (net .gates) g)
 
 -- a row of outputs for each row of inputs, from any held bits
 abbrev pub runFrom : Net → (ℕ → Bool) → List (List Bool) → List (List Bool)

@@ -7,6 +7,7 @@ use Prim.Native.Nat.{ℕ, zero, suc, _+_, _≤_, _<_}
 use native.Mathlib.Omega.{arith}
 use lib.Dec.{eqb}
 use lib.ListN.{length, getD, take, getElem?, replicate, length-replicate}
+use Rattle.lists.specs.Lists.{optional}
 use Rattle.lists.proofs.Places.{place-lt}
 use Rattle.lists.proofs.Tests.{by-order, by-test}
 use Rattle.signal.specs.Signal.{Signal}
@@ -14,7 +15,7 @@ use Rattle.signal.specs.Cell.{sigOf}
 use Rattle.gates.specs.Gate.{Gate}
 use Rattle.network.specs.Net.{Net, GateIs, Loop}
 use Rattle.network.specs.Clock.{sigBit, gateBit, Fits, nextBit, Clock}
-use Rattle.network.specs.Settle.{bitAt, round, settle}
+use Rattle.network.specs.Settle.{round, settle}
 use Rattle.network.specs.Cells.{lent, netOf, orBuf, cellGates}
 use Rattle.network.specs.Sizes.{maxGates}
 use Rattle.network.specs.Record.{gateAt}
@@ -115,7 +116,7 @@ module _ (counts : Counts) (most : ℕ) (cells pins outs : List ℕ) (row held :
   settle-past : (net : Net) (g : ℕ) → length (net .gates) ≤ g → settle net row (bitsOf held) g ≡ false
   settle-past net g l = go (getElem? (net .gates) g) refl
     where
-      go : (o : Option Gate) → getElem? (net .gates) g ≡ o → bitAt (sigBit row (round net row (bitsOf held) (length (net .gates)))) (bitsOf held g) o ≡ false
+      go : (o : Option Gate) → getElem? (net .gates) g ≡ o → optional (gateBit (sigBit row (round net row (bitsOf held) (length (net .gates)))) (bitsOf held g)) false o ≡ false
       go none e = refl
       go (some x) e = absurd (omega (arith, place-lt (net .gates) g x e, l))
 

@@ -1,13 +1,14 @@
 -- The network that the cells hold, gate by gate. Assumes nothing.
 use mathlib.Core.Path.{_≡_, refl, sym, ap, _∙_, subst}
-use mathlib.Core.Bool.{Bool, true, _&&_, cond}
-use mathlib.Core.List.{List, map}
+use mathlib.Core.Bool.{Bool, true, _&&_, cond, false}
+use mathlib.Core.List.{List, map, []}
 use mathlib.Core.Option.{Option, none, some}
 use Prim.Native.Nat.{ℕ, zero, suc, _+_, _*_, _≤_, _<_}
 use native.Mathlib.Omega.{arith}
 use lib.Dec.{leb, ltb}
 use lib.ListN.{length, getElem?, take}
 use borrow.Author.Tests.{ltb-true, leb-true}
+use Rattle.lists.specs.Lists.{optional}
 use Rattle.lists.proofs.Tests.{by-test, and-left, and-right}
 use Rattle.signal.specs.Cell.{sigOf}
 use Rattle.gates.specs.Gate.{Gate, pins, isComb}
@@ -21,7 +22,7 @@ use Rattle.network.specs.Cells.{cellGates, lent, netOf}
 use Rattle.network.specs.Record.{gateWidth, formAt, firstAt, countAt, runAt, gateAt, pinCells}
 use Rattle.network.specs.between.Record.{HasRun}
 use Rattle.sort_order.specs.Order.{Graph, useCount}
-use Rattle.sort_order.specs.Sorted.{gateNums, combAt, insAt, graph}
+use Rattle.sort_order.specs.Sorted.{gateNums, graph}
 use Rattle.sort_order.specs.between.Sortable.{Sortable}
 use Rattle.sort_order.specs.between.Walk.{ValidGraph}
 use Rattle.sort.specs.between.Steps.{gateIns, formComb, cellComb, cellIns, cellGraph, Cells}
@@ -59,8 +60,8 @@ module _ (n : Counts) (gs ps os : List ℕ) where
   graph-cells = λ i.
       record {
         size = cell-count gs ps (n .gates) i;
-        comb = λ g. combAt (getElem? (cellGates gs ps 0 (n .gates)) g);
-        ins = λ g. insAt (getElem? (cellGates gs ps 0 (n .gates)) g);
+        comb = λ g. optional isComb false (getElem? (cellGates gs ps 0 (n .gates)) g);
+        ins = λ g. optional (λ (x : Gate). gateNums (pins x)) [] (getElem? (cellGates gs ps 0 (n .gates)) g);
       }
 
   module _ {a b : ℕ} (s : Sortable (lent n gs ps os) a b) where
@@ -68,13 +69,13 @@ module _ (n : Counts) (gs ps os : List ℕ) where
     unfolding cellComb
     cell-comb g l =
         let r = s .readable g l in
-        form-comb gs ps g (r .0) (r .1) ∙ sym (ap combAt (cell-gate gs ps (n .gates) g (r .0) l (r .1)))
+        form-comb gs ps g (r .0) (r .1) ∙ sym (ap (optional isComb false) (cell-gate gs ps (n .gates) g (r .0) l (r .1)))
 
     cell-ins : (g : ℕ) → g < n .gates → gateIns (runAt gs ps g) ≡ cellIns gs ps (n .gates) g
     unfolding cellIns
     cell-ins g l =
         let r = s .readable g l in
-        run-nums gs ps g (r .0) (r .1) ∙ sym (ap insAt (cell-gate gs ps (n .gates) g (r .0) l (r .1)))
+        run-nums gs ps g (r .0) (r .1) ∙ sym (ap (optional (λ (x : Gate). gateNums (pins x)) []) (cell-gate gs ps (n .gates) g (r .0) l (r .1)))
 
     pub sortable-cells : Cells gs ps (n .gates)
     sortable-cells =

@@ -1,14 +1,14 @@
 -- One visit, and all visits. Assumes nothing.
 use mathlib.Core.Path.{_≡_, refl, sym, ap, ap₂, _∙_}
 use mathlib.Core.Bool.{Bool, true, false, cond}
-use mathlib.Core.List.{List, [], _∷_, _++_, append-assoc}
+use mathlib.Core.List.{List, [], _∷_, _++_, append-assoc, map}
 use mathlib.Core.Logic.{⊎-elim}
 use Prim.Native.Nat.{ℕ, zero, suc, _+_, _-_, _≤_, _<_}
 use native.Mathlib.Omega.{arith}
 use lib.ListN.{length, getD, take, drop, set, length-set, take-append-drop}
 use lib.Seq.{drop-cons, getD-set-same, getD-set-other, drop-set-lt, take-set-le, take-take}
-use Rattle.lists.specs.Lists.{occ, listTo}
-use Rattle.lists.proofs.Counting.{hit-or, once-short, length-listTo, getD-listTo}
+use Rattle.lists.specs.Lists.{occ, range}
+use Rattle.lists.proofs.Counting.{hit-or, once-short, length-table, getD-table}
 use Rattle.network.specs.Sizes.{maxGates}
 use Rattle.sort_order.specs.Order.{Graph, uses, pushed, lowered, kept, countsAfter, stackAfter, walk, recorded, useCount}
 use Rattle.sort_order.specs.between.Walk.{ValidGraph, WalkState}
@@ -258,8 +258,8 @@ walking-start G valid o c m st top b few =
     let same : (v : ℕ) → v < G .size → getD c v 0 ≡ useCount G v = λ v _. b .counted .each v in
     let e = b .first in
     let g : WalkState G c (fromTop top st) [] [] = rw e (good-start G c same long) in
-    let c′ = listTo (G .size) (useCount G) in
-    let h : WalkState G c′ (fromTop top st) [] [] = rw e (good-start G c′ (λ v b. getD-listTo (G .size) (useCount G) v b) (omega (arith, length-listTo (G .size) (useCount G)))) in
+    let c′ = map (useCount G) (range 0 (G .size)) in
+    let h : WalkState G c′ (fromTop top st) [] [] = rw e (good-start G c′ (λ v b. getD-table (useCount G) (G .size) v b) (omega (arith, length-table (useCount G) (G .size)))) in
     record {
       ready = record { done = []; long = b .long; good = g; marked = b .marked; room = omega arith };
       same = refl;

@@ -6,12 +6,13 @@ use mathlib.Core.Logic.{⊎-elim}
 use Prim.Native.Nat.{ℕ, suc, _≤_, _<_}
 use native.Mathlib.Omega.{arith}
 use lib.ListN.{length, getD, getElem?, length-map}
-use Rattle.lists.specs.Lists.{occ, sumOf, sumTo}
+use mathlib.Core.Bool.{false}
+use Rattle.lists.specs.Lists.{occ, sumOf, sumTo, optional}
 use Rattle.lists.proofs.Counting.{hit-or, zero-or, sum-head, sum-mono, sum-perm, mem-occ}
 use Rattle.lists.proofs.FirstPlace.{place, place-at, find-place}
 use Rattle.lists.proofs.Places.{place-getD, place-lt}
 use Rattle.signal.specs.Signal.{Node, Const, Input, Var, Signal, remap}
-use Rattle.gates.specs.Gate.{Form, Buf, Gate, Comb, Dff, pins}
+use Rattle.gates.specs.Gate.{Form, Buf, Gate, Comb, Dff, pins, isComb}
 use Rattle.gates.specs.Forms.{canHave, formed}
 use Rattle.network.specs.Net.{Net, GateIs, Valid, Formed}
 use Rattle.network.specs.Record.{pinCells}
@@ -19,7 +20,7 @@ use Rattle.network.specs.Renumber.{remapGate, placeOf, gateOr, permuted}
 use Rattle.network.proofs.PinCells.{pins-next}
 use Rattle.network.proofs.Renumbering.{renumbered-valid, pins-remap, node-from, comb-from}
 use Rattle.sort_order.specs.Order.{uses, useCount, sortOrder}
-use Rattle.sort_order.specs.Sorted.{nodeGate, gateNums, combAt, insAt, graph}
+use Rattle.sort_order.specs.Sorted.{nodeGate, gateNums, graph}
 use Rattle.sort_order.proofs.Walk.{uses-comb, uses-ins}
 use Rattle.sort_order.proofs.Ordering.{sort-permutes, sort-length, sort-inputs, order-once, some-full}
 use Rattle.sort_order.proofs.Sorting.{point-nums, graph-valid, order-has, order-renumbers}
@@ -54,8 +55,8 @@ uses-fit net v g h =
     ⊎-elim
     (λ z. omega (arith, z))
     (λ p.
-    let e : uses (graph net) g ≡ insAt (getElem? (net .gates) g) = uses-comb (graph net) g (uses-ins (graph net) g v p .0) in
-    let q : insAt (getElem? (net .gates) g) ≡ gateNums (pins (gateOr net g)) = ap insAt (place-getD (Comb Buf []) (net .gates) g h) in
+    let e : uses (graph net) g ≡ optional (λ (x : Gate). gateNums (pins x)) [] (getElem? (net .gates) g) = uses-comb (graph net) g (uses-ins (graph net) g v p .0) in
+    let q : optional (λ (x : Gate). gateNums (pins x)) [] (getElem? (net .gates) g) ≡ gateNums (pins (gateOr net g)) = ap (optional (λ (x : Gate). gateNums (pins x)) []) (place-getD (Comb Buf []) (net .gates) g h) in
     omega (arith, ap (occ v) (e ∙ q), occ-nums v (pins (gateOr net g))))
     (zero-or (occ v (uses (graph net) g)))
 
@@ -96,8 +97,8 @@ module _ (net : Net) (valid : Valid net) (l : List ℕ) (e : sortOrder (graph ne
       let il : i < length l = subst (λ (k : ℕ). i < k) (length-map l (λ (o : ℕ). remapGate (placeOf l) (gateOr net o))) (place-lt (permuted l net .gates) i (Comb f ps) is) in
       let gl : g < length (net .gates) = place-lt (net .gates) g (fr .was) (fr .wasAt) in
       let was : getElem? (net .gates) g ≡ some (Comb f (c .0)) = fr .wasAt ∙ ap some (c .1) in
-      let o : 0 < occ (n .0) (insAt (getElem? (net .gates) g)) =
-      subst (λ (x : Option Gate). 0 < occ (n .0) (insAt x)) (sym was) (mem-occ (n .0) (gateNums (c .0)) (point-nums (n .0) (c .0) (t .0) (t .1) (n .1))) in
+      let o : 0 < occ (n .0) (optional (λ (x : Gate). gateNums (pins x)) [] (getElem? (net .gates) g)) =
+      subst (λ (x : Option Gate). 0 < occ (n .0) (optional (λ (x : Gate). gateNums (pins x)) [] x)) (sym was) (mem-occ (n .0) (gateNums (c .0)) (point-nums (n .0) (c .0) (t .0) (t .1) (n .1))) in
       let b : n .0 < length (net .gates) = gv g (n .0) gl o in
       let one : occ (n .0) l ≡ 1 = sort-permutes G gv l e (n .0) b in
       omega (
@@ -105,7 +106,7 @@ module _ (net : Net) (valid : Valid net) (l : List ℕ) (e : sortOrder (graph ne
         n .2,
         new-place (n .0) l (omega arith),
         place-at l i il once,
-        sort-inputs G gv l e (n .0) g gl (ap combAt was) o,
+        sort-inputs G gv l e (n .0) g gl (ap (optional isComb false) was) o,
       )
 
   pub kept-valid : Valid (permuted l net)

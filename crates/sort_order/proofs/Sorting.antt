@@ -1,23 +1,23 @@
 -- Without a loop the sort gives an order of all gates, which renumbers; at a loop it gives none. Assumes nothing.
 use mathlib.Core.Path.{_≡_, refl, sym, ap, _∙_, subst}
 use mathlib.Core.List.{List, [], _∷_, List·Memᴰ, List·Memᴰ·head, List·Memᴰ·tail, List·Memᴰ·not-nil, List·Memᴰ·cases-cons}
-use mathlib.Core.Bool.{true, false≢true}
+use mathlib.Core.Bool.{true, false≢true, false}
 use mathlib.Core.Option.{Option, none, some, Option·none-ne-some}
 use mathlib.Core.Logic.{_↔_, ⊎-elim}
 use Prim.Native.Nat.{ℕ, _<_}
 use native.Mathlib.Omega.{arith}
 use lib.ListN.{length, getD, getElem?}
-use Rattle.lists.specs.Lists.{occ}
+use Rattle.lists.specs.Lists.{occ, optional}
 use Rattle.lists.proofs.Counting.{occ-mem, mem-occ}
 use Rattle.lists.proofs.Places.{place-lt}
 use Rattle.signal.specs.Signal.{Node, Const, Input, Var, Signal}
-use Rattle.gates.specs.Gate.{Form, Gate, Comb, Dff, pins}
+use Rattle.gates.specs.Gate.{Form, Gate, Comb, Dff, pins, isComb}
 use Rattle.network.specs.Net.{Net, Valid, ValidNode, Feeds, Path, last, Loop}
 use Rattle.network.specs.Renumber.{permuted, placeOf, Renumbered}
 use Rattle.network.proofs.OneChoice.{path-snoc}
 use Rattle.network.proofs.Permuting.{Orders, permuted-renumbers}
 use Rattle.sort_order.specs.Order.{sortOrder}
-use Rattle.sort_order.specs.Sorted.{nodeGate, gateNums, combAt, insAt, graph, sortedBy, sorted}
+use Rattle.sort_order.specs.Sorted.{nodeGate, gateNums, graph, sortedBy, sorted}
 use Rattle.sort_order.specs.between.Walk.{ValidGraph}
 use Rattle.sort_order.proofs.Ordering.{some-full, order-below, sort-permutes}
 use Rattle.sort_order.proofs.Rings as rings
@@ -46,11 +46,11 @@ point-nums d _ s (List·Memᴰ·tail {x = t} {xs = ss} m) q = go (t .node) (poin
     go (Input i) w = w
     go (Var g) w = List·Memᴰ·tail w
 
-ins-point : (d : ℕ) (o : Option Gate) → 0 < occ d (insAt o) → (x : Gate) × (o ≡ some x) × ((s : Signal) × List·Memᴰ s (pins x) × (s .node ≡ Var d))
+ins-point : (d : ℕ) (o : Option Gate) → 0 < occ d (optional (λ (x : Gate). gateNums (pins x)) [] o) → (x : Gate) × (o ≡ some x) × ((s : Signal) × List·Memᴰ s (pins x) × (s .node ≡ Var d))
 ins-point d none u = absurd (omega arith)
 ins-point d (some x) u = (x, refl, nums-point d (pins x) (occ-mem d (gateNums (pins x)) u))
 
-comb-is : (o : Option Gate) → combAt o ≡ true → (f : Form) × (ps : List Signal) × (o ≡ some (Comb f ps))
+comb-is : (o : Option Gate) → optional isComb false o ≡ true → (f : Form) × (ps : List Signal) × (o ≡ some (Comb f ps))
 comb-is none e = absurd (false≢true e)
 comb-is (some (Comb f ps)) e = (f, ps, refl)
 comb-is (some (Dff s)) e = absurd (false≢true e)
@@ -80,9 +80,9 @@ module _ (net : Net) (valid : Valid net) where
   feeds-to : (d g : ℕ) → Feeds net d g → rings.Feeds (graph net) d g
   feeds-to d g f = record {
     below = place-lt (net .gates) g (Comb (f .formB) (f .pinsB)) (f .isB);
-    from = ap combAt (f .isA);
-    to = ap combAt (f .isB);
-    input = subst (λ (o : Option Gate). 0 < occ d (insAt o)) (sym (f .isB)) (mem-occ d (gateNums (f .pinsB)) (point-nums d (f .pinsB) (f .by) (f .among) (f .points)));
+    from = ap (optional isComb false) (f .isA);
+    to = ap (optional isComb false) (f .isB);
+    input = subst (λ (o : Option Gate). 0 < occ d (optional (λ (x : Gate). gateNums (pins x)) [] o)) (sym (f .isB)) (mem-occ d (gateNums (f .pinsB)) (point-nums d (f .pinsB) (f .by) (f .among) (f .points)));
   }
 
   chain-cons : {a b c : ℕ} → rings.Feeds (graph net) a b → rings.Chain (graph net) b c → rings.Chain (graph net) a c

@@ -1,14 +1,14 @@
 -- The sort's theorems, as a reviewer would read them (document 01, src/network/network.rs). Assumes nothing.
 use mathlib.Core.Path.{_≡_, refl, sym, subst}
 use mathlib.Core.Bool.{Bool}
-use mathlib.Core.List.{List, [], List·Memᴰ}
+use mathlib.Core.List.{List, [], List·Memᴰ, map}
 use mathlib.Core.Option.{none, some}
 use mathlib.Core.Logic.{_↔_}
 use Prim.Native.Nat.{ℕ, _≤_, _<_}
 use native.Mathlib.Omega.{arith}
 use lib.ListN.{length, getD}
-use Rattle.lists.specs.Lists.{occ, listTo}
-use Rattle.lists.proofs.Counting.{length-listTo, getD-listTo}
+use Rattle.lists.specs.Lists.{occ, range}
+use Rattle.lists.proofs.Counting.{length-table, getD-table}
 use Rattle.signal.specs.Signal.{Var, Signal}
 use Rattle.gates.specs.Gate.{Form, Comb}
 use Rattle.network.specs.Net.{Net, GateIs, Valid, Loop}
@@ -34,14 +34,14 @@ sort-permutes net valid l e = (
 
 -- "The last is popped and recorded", until the stack is empty: as many pops as there are gates are enough, and more change nothing
 pub pops-enough : (net : Net) → Valid net → (k : ℕ) → length (net .gates) ≤ k
-    → walk (graph net) k (listTo (length (net .gates)) (useCount (graph net))) (startTo (graph net .comb) (useCount (graph net)) (length (net .gates))) []
+    → walk (graph net) k (map (useCount (graph net)) (range 0 (length (net .gates)))) (startTo (graph net .comb) (useCount (graph net)) (length (net .gates))) []
     ≡ recorded (graph net)
 unfolding recorded
 pops-enough net valid k h =
     let G = graph net in
-    let c = listTo (G .size) (useCount G) in
-    let same : (v : ℕ) → v < G .size → getD c v 0 ≡ useCount G v = λ v l. getD-listTo (G .size) (useCount G) v l in
-    let long : G .size ≤ length c = omega (arith, length-listTo (G .size) (useCount G)) in
+    let c = map (useCount G) (range 0 (G .size)) in
+    let same : (v : ℕ) → v < G .size → getD c v 0 ≡ useCount G v = λ v l. getD-table (useCount G) (G .size) v l in
+    let long : G .size ≤ length c = omega (arith, length-table (useCount G) (G .size)) in
     let b = budget-start G c same long in
     walk-enough G (graph-valid net valid) k (G .size) c (startTo (G .comb) (useCount G) (G .size)) [] (good-start G c same long) (omega (arith, b)) b
 

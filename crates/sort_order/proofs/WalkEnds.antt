@@ -1,13 +1,13 @@
 -- The walk's start is good, and its end; more pops change nothing. Assumes nothing.
 use mathlib.Core.Bool.{Bool, true, false, cond}
 use mathlib.Core.Logic.{⊎-elim}
-use mathlib.Core.List.{List, [], _∷_, _++_}
+use mathlib.Core.List.{List, [], _∷_, _++_, map}
 use mathlib.Core.Path.{_≡_, refl, sym, ap, _∙_}
 use Prim.Native.Nat.{ℕ, zero, suc, _+_, _≤_, _<_}
 use native.Mathlib.Omega.{arith}
 use lib.ListN.{length, getD}
-use Rattle.lists.specs.Lists.{hit, occ, sumTo, listTo}
-use Rattle.lists.proofs.Counting.{hit-eq, hit-or, sum-cong, last-or, is-zero, occ-append, length-listTo, getD-listTo}
+use Rattle.lists.specs.Lists.{hit, occ, sumTo, range}
+use Rattle.lists.proofs.Counting.{hit-eq, hit-or, sum-cong, last-or, is-zero, occ-append, length-table, getD-table}
 use Rattle.sort_order.specs.Order.{Graph, uses, useCount, pushed, flopsTo, startTo, recorded, walk, countsAfter, stackAfter, kept}
 use Rattle.sort_order.specs.between.Walk.{ValidGraph, WalkState}
 use Rattle.sort_order.proofs.Walk.{pos, budget, Ended, good-pop, good-all, budget-all, walk-ends}
@@ -116,9 +116,9 @@ module _ (G : Graph) where
   pub recorded-ended : ValidGraph G → Ended G (recorded G)
   unfolding recorded
   recorded-ended valid =
-      let c = listTo (G .size) (useCount G) in
-      let same : (v : ℕ) → v < G .size → getD c v 0 ≡ useCount G v = λ v l. getD-listTo (G .size) (useCount G) v l in
-      let long : G .size ≤ length c = omega (arith, length-listTo (G .size) (useCount G)) in
+      let c = map (useCount G) (range 0 (G .size)) in
+      let same : (v : ℕ) → v < G .size → getD c v 0 ≡ useCount G v = λ v l. getD-table (useCount G) (G .size) v l in
+      let long : G .size ≤ length c = omega (arith, length-table (useCount G) (G .size)) in
       walk-ends G valid (G .size) c (startTo (G .comb) (useCount G) (G .size)) [] (good-start c same long) (budget-start c same long)
 
 -- ---- more pops change nothing

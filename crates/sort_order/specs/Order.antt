@@ -1,11 +1,11 @@
 -- The order of the sort (document 01, src/network/network.rs: `topo_sort`). Assumes nothing: these are definitions.
 use mathlib.Core.Bool.{Bool, true, false, cond}
-use mathlib.Core.List.{List, [], _∷_, _++_}
+use mathlib.Core.List.{List, [], _∷_, _++_, map}
 use mathlib.Core.Option.{Option, none, some}
 use Prim.Native.Nat.{ℕ, zero, suc, _+_, _-_}
 use lib.Dec.{eqb}
 use lib.ListN.{length, getD, set}
-use Rattle.lists.specs.Lists.{sumTo, listTo, occ}
+use Rattle.lists.specs.Lists.{range, sumTo, occ}
 
 -- what the sort sees of a network: how many gates, which are combinational, and each gate's gate inputs, in order and with repeats
 pub record Graph : Type 0 where
@@ -67,7 +67,7 @@ startTo comb f (suc k) = cond (comb k) (pushed (f k) k (startTo comb f k)) (star
 
 -- "the recorded gates backwards"
 unfoldable pub recorded : Graph → List ℕ
-recorded G = walk G (G .size) (listTo (G .size) (useCount G)) (startTo (G .comb) (useCount G) (G .size)) []
+recorded G = walk G (G .size) (map (useCount G) (range 0 (G .size))) (startTo (G .comb) (useCount G) (G .size)) []
 
 -- "New order: flip-flops in old order, then the recorded gates backwards"
 unfoldable pub order : Graph → List ℕ

@@ -6,6 +6,7 @@ use mathlib.Core.List.{List, [], _∷_}
 use mathlib.Core.Option.{Option, none, some}
 use Prim.Native.Nat.{ℕ}
 use lib.ListN.{length, getElem?}
+use Rattle.lists.specs.Lists.{optional}
 use Rattle.signal.specs.Signal.{Node, Const, Input, Var, Signal}
 use Rattle.gates.specs.Gate.{Gate, pins, isComb}
 use Rattle.network.specs.Net.{Net, Valid, Formed}
@@ -24,20 +25,14 @@ abbrev pub gateNums : List Signal → List ℕ
 gateNums [] = []
 gateNums (s ∷ ss) = nodeGate (s .node) (gateNums ss)
 
--- whether there is a combinational gate
-abbrev pub combAt : Option Gate → Bool
-combAt none = false
-combAt (some x) = isComb x
-
--- the gate inputs of a gate, where there is one
-abbrev pub insAt : Option Gate → List ℕ
-insAt none = []
-insAt (some x) = gateNums (pins x)
-
 -- what the sort sees of a network
 abbrev pub graph : Net → Graph
 graph net =
-    record { size = length (net .gates); comb = λ g. combAt (getElem? (net .gates) g); ins = λ g. insAt (getElem? (net .gates) g) }
+    record {
+      size = length (net .gates);
+      comb = λ g. optional isComb false (getElem? (net .gates) g);
+      ins = λ g. optional (λ (x : Gate). gateNums (pins x)) [] (getElem? (net .gates) g);
+    }
 
 -- the network in an order, where there is one
 abbrev pub sortedBy : Option (List ℕ) → Net → Option Net

@@ -6,7 +6,8 @@ use mathlib.Core.Option.{Option, none, some}
 use Prim.Native.Nat.{ℕ, zero, suc, _+_, _-_, _*_, _≤_, _<_}
 use lib.Dec.{eqb, ltb}
 use lib.ListN.{length, getD, getElem?, take, drop, set}
-use Rattle.lists.specs.Lists.{occ, sumTo, overwrite}
+use Rattle.gates.specs.Gate.{Gate, pins, isComb}
+use Rattle.lists.specs.Lists.{occ, sumTo, overwrite, optional}
 use Rattle.lists.specs.between.Lists.{overwriteAt}
 use Rattle.signal.specs.between.Signal.{gateNode}
 use Rattle.signal.specs.Cell.{nodeOf}
@@ -18,7 +19,7 @@ use Rattle.network.specs.Sizes.{maxGates, maxPins}
 use Rattle.network.specs.Record.{gateWidth, formAt, firstAt, countAt, runAt}
 use Rattle.network.specs.between.Record.{recordAt, withFirst, RecordIn, HasRun}
 use Rattle.sort_order.specs.Order.{Graph, uses, useCount, countsAfter, stackAfter, flopsTo, startTo, recorded}
-use Rattle.sort_order.specs.Sorted.{nodeGate, combAt, insAt}
+use Rattle.sort_order.specs.Sorted.{nodeGate, gateNums}
 use Rattle.sort_order.specs.between.Walk.{ValidGraph, WalkState}
 
 -- ---- what cells name
@@ -42,11 +43,11 @@ usesAt gates pins g = cond (formComb gates g) (gateIns (runAt gates pins g)) []
 
 -- which of n gates in cells are combinational
 unfoldable pub cellComb : List ℕ → List ℕ → ℕ → ℕ → Bool
-cellComb gates pins n g = combAt (getElem? (cellGates gates pins 0 n) g)
+cellComb gates pins n g = optional isComb false (getElem? (cellGates gates pins 0 n) g)
 
 -- the gate inputs of n gates in cells
 unfoldable pub cellIns : List ℕ → List ℕ → ℕ → ℕ → List ℕ
-cellIns gates pins n g = insAt (getElem? (cellGates gates pins 0 n) g)
+cellIns gates ps n g = optional (λ (x : Gate). gateNums (pins x)) [] (getElem? (cellGates gates ps 0 n) g)
 
 -- what the sort sees of n gates in cells
 abbrev pub cellGraph : List ℕ → List ℕ → ℕ → Graph
