@@ -1,4 +1,3 @@
 pub mod RowStarts
 pub mod LineWalk
 pub mod NextLaws
-pub mod FrontLaws

@@ -47,7 +47,7 @@ fn row_at(text: &[u8], tokens: &[u32], at: usize) -> Row
     requires { ⌜ StmtsAt (now text) (now tokens) (length (now tokens)) at × (at < length (now tokens)) ⌝ }
     ensures { λ r. ⌜ RowIs (now (text .entry)) (now (tokens .entry)) (length (now (tokens .entry))) at (r .end) (r .statement) ⌝ }
 {
-    let end = row_end(tokens, at, tokens.len());
+    let end = row_end(tokens, at);
     let statement = statement_at(text, tokens, at, end);
     Row { statement, end }
 }

@@ -3,8 +3,9 @@ use mathlib.Core.Path.{_≡_, refl, sym, ap, _∙_, subst}
 use mathlib.Core.Bool.{Bool, true, false}
 use mathlib.Core.List.{List, []}
 use Prim.Native.Nat.{ℕ, _≤_}
+use native.Mathlib.Omega.{arith}
 use lib.Dec.{ltb, leb}
-use lib.ListN.{length, take}
+use lib.ListN.{length}
 use Rattle.lists.specs.Lists.{Bytes, any}
 use Rattle.refusals.specs.Order.{_orElse_, refuseIf}
 use Rattle.refusals.specs.declared.Refusal.{Refusal}
@@ -16,11 +17,10 @@ use Rattle.refusals.proofs.Order.{orElse-stop, orElse-go, refuseIf-yes, refuseI
 use Rattle.sort_order.specs.Sorted.{sorted}
 use Rattle.blif_text.specs.Statements.{parsed, firstBad}
 use Rattle.blif_text.specs.Decls.{decls, defs, declsOf}
-use Rattle.blif_text.specs.between.Places.{maxTokens, TokensMarked}
+use Rattle.blif_text.specs.between.Places.{TokensMarked}
 use Rattle.blif_text.specs.Lines.{maxText}
 use Rattle.blif_text.specs.between.Walk.{stmtsFrom, StmtsAt}
 use Rattle.blif_text.proofs.RefusalLaws.{stmts-start, stmts-all}
-use Rattle.blif_declarations.proofs.FrontLaws.{walk-few, walk-decls, walk-front}
 use Rattle.blif_reading.specs.Read.{tooLarge, naming, undefined, coverFaults, declFault, readFault, Result, refused, answer, builtFrom, readText}
 use Rattle.blif_read.specs.between.Stages.{Holds, PlainText, Sized}
 use Rattle.blif_read.specs.declared.ReadAnswer.the-variants.{Refused}
@@ -85,23 +85,15 @@ module _ {text : Bytes} (c : PlainText text) where
   pub bad-statement : {r : Refusal} → firstBad (parsed text) ≡ checked.Refused r → readText text ≡ refused r
   bad-statement e = refuses text _ (c .left) e
 
-  module _ {tokens : List ℕ} {n : ℕ} (m : TokensMarked text tokens n) (h : n ≤ length tokens) (z : firstBad (parsed text) ≡ Fine) where
-    -- the tokens that are marked
-    abbrev front : List ℕ
-    front = take n tokens
-
-    -- the statements stand in them
-    pub marked-stand : StmtsAt text front (length front) 0
-    marked-stand = walk-front (stmts-start m h z)
-
-    -- they are no more than a text may have
-    pub marked-few : length front ≤ maxTokens
-    marked-few = walk-few (stmts-start m h z) (m .few)
+  module _ {tokens : List ℕ} (m : TokensMarked text tokens (length tokens)) (z : firstBad (parsed text) ≡ Fine) where
+    -- the statements stand in the tokens
+    pub marked-stand : StmtsAt text tokens (length tokens) 0
+    marked-stand = stmts-start m (omega arith) z
 
     -- they declare what the text declares
-    same-decls : decls (stmtsFrom text front (length front) 0) ≡ declsOf text
+    same-decls : decls (stmtsFrom text tokens (length tokens) 0) ≡ declsOf text
     unfolding declsOf
-    same-decls = walk-decls (stmts-start m h z) ∙ ap decls (stmts-all m)
+    same-decls = ap decls (stmts-all m)
 
     third-left : readFault text ≡
         (refuseIf (tooLarge (declsOf text)) refusal.SizePassed
@@ -111,15 +103,15 @@ module _ {text : Bytes} (c : PlainText text) where
     unfolding declFault
     third-left = goes-on text _ (c .left) z
 
-    pub passed-size : tooLarge (decls (stmtsFrom text front (length front) 0)) ≡ true → readText text ≡ refused refusal.SizePassed
+    pub passed-size : tooLarge (decls (stmtsFrom text tokens (length tokens) 0)) ≡ true → readText text ≡ refused refusal.SizePassed
     passed-size e = refuses-refuseIf text (tooLarge (declsOf text)) refusal.SizePassed _ third-left (sym (ap tooLarge same-decls) ∙ e)
 
-    pub sized : tooLarge (decls (stmtsFrom text front (length front) 0)) ≡ false → Sized text front
+    pub sized : tooLarge (decls (stmtsFrom text tokens (length tokens) 0)) ≡ false → Sized text tokens
     sized e =
         let s : tooLarge (declsOf text) ≡ false = sym (ap tooLarge same-decls) ∙ e in
         record {
           stands = marked-stand;
-          few = marked-few;
+          few = m .few;
           declared = sym same-decls;
           sized = s;
           left = passes-refuseIf text (tooLarge (declsOf text)) refusal.SizePassed _ third-left s;

@@ -271,7 +271,7 @@ fn read_tokens(
     ensures { λ r. ⌜ Holds (readText (now (text .entry))) r (now (gates .exit)) (now (pins .exit)) (now (outputs .exit)) ⌝ }
 {
     let n = mark_tokens(text, pins);
-    let bad = first_bad(text, pins, n);
+    let bad = first_bad(text, &pins[..n]);
     if let Checked::Refused(refusal) = bad {
         return ReadAnswer::Refused(refusal);
     }

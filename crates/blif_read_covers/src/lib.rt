@@ -129,7 +129,7 @@ pub fn check_covers(text: &[u8], tokens: &[u32], blocks: &[u32], g: usize) -> Ch
         let mut met = NO_OUTPUT;
         let mut k: usize = 0;
         while k < lines {
-            let end = row_end(tokens, at, tokens.len());
+            let end = row_end(tokens, at);
             let row = &tokens[at..end];
             let columns = line_columns(text, row);
             let output = output_of(token(text, row[row.len() - 1]));

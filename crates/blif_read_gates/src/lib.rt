@@ -207,7 +207,7 @@ fn build_lines(
     let mut at = built.pins;
     let mut k = 0;
     while k < lines.count {
-        let end = row_end(tokens, row, tokens.len());
+        let end = row_end(tokens, row);
         let line = &tokens[row..end];
         at = put_row(text, line, sources, gates, built.gates + k, pins, at);
         row = end;
@@ -232,7 +232,7 @@ fn join_lines(
 {
     let sources = sources_at(gates, j);
     let row = lines.row;
-    let end = row_end(tokens, row, tokens.len());
+    let end = row_end(tokens, row);
     let one = is_one(text, &tokens[row..end]);
     put_joins(pins, built.pins, built.gates, lines.count);
     let gate = join_gate(one, built.pins, lines.count);
@@ -267,7 +267,7 @@ fn build_cover(
     }
     let sources = sources_at(gates, j);
     let row = lines.row;
-    let end = row_end(tokens, row, tokens.len());
+    let end = row_end(tokens, row);
     let line = &tokens[row..end];
     put_row(text, line, sources, gates, j, pins, built.pins)
 }

@@ -1,9 +1,10 @@
 -- The walk over marked rows up to the first refusal, and over statements that none refuses. Assumes nothing.
-use mathlib.Core.Path.{_≡_, refl, sym, ap, _∙_}
+use mathlib.Core.Path.{_≡_, refl, sym, ap, _∙_, subst}
 use mathlib.Core.List.{List, [], _∷_, map}
 use Prim.Native.Nat.{ℕ, _≤_, _<_}
 use native.Mathlib.Omega.{arith}
-use lib.ListN.{length}
+use lib.ListN.{length, take}
+use lib.Seq.{take-take, length-take-le, getD-take}
 use Rattle.lists.specs.Lists.{Bytes}
 use Rattle.refusals.specs.Order.{_orElse_}
 use Rattle.refusals.specs.declared.Refusal.{Refusal}
@@ -12,7 +13,7 @@ use Rattle.refusals.specs.declared.Checked.the-variants.{Fine, Refused}
 use Rattle.refusals.proofs.Order.{orElse-left, orElse-right, orElse-stop, orElse-go}
 use Rattle.blif_text.specs.Statements.{Parsed, parsed, firstBad, stmts, refusalOf}
 use Rattle.blif_text.specs.between.Rows.{rowStmt}
-use Rattle.blif_text.specs.between.Places.{TokensMarked}
+use Rattle.blif_text.specs.between.Places.{InText, grouped, TokensMarked}
 use Rattle.blif_text.specs.between.PlacedStatements.{parsedFrom, RowTo, statementAt, refusalIn}
 use Rattle.blif_text.specs.between.Walk.{rowsFrom, stmtsFrom, RowsAt, StmtsAt}
 use Rattle.blif_text.specs.declared.Statement.{Statement}
@@ -84,6 +85,24 @@ module _ {text cells : List ℕ} {n at : ℕ} (c : Passing text cells n at) wher
     -- it is none
     pub passing-next : refusalIn (statementAt text cells at r) ≡ Fine → Passing text cells n r
     passing-next e = record { rows = rows-next (c .rows) h w; left = sym (orElse-go e) ∙ bad-row (c .rows) h w ∙ c .left }
+
+-- ---- the cells in use
+
+-- the tokens that are marked, taken by themselves
+pub marked-front : {text cells : List ℕ} {n : ℕ} → n ≤ length cells → TokensMarked text cells n → TokensMarked text (take n cells) (length (take n cells))
+marked-front {text} {cells} {n} h m =
+    let k : length (take n cells) ≡ n = length-take-le n cells h in
+    let same : take (length (take n cells)) (take n cells) ≡ take n cells = ap (λ (i : ℕ). take i (take n cells)) k ∙ take-take n n cells (omega arith) in
+    record {
+      counted = k ∙ m .counted;
+      marked = same ∙ m .marked;
+      few = omega (arith, k, m .few);
+      rows = ap (λ (x : List ℕ). grouped text x .rows) same ∙ m .rows;
+      none-loose = ap (λ (x : List ℕ). grouped text x .loose) same ∙ m .none-loose;
+      inside = λ i l.
+          let b : i < n = omega (arith, k, l) in
+          subst (InText text) (sym (getD-take n cells i 0 b)) (m .inside i b);
+    }
 
 -- ---- the walk over statements that none refuses
 

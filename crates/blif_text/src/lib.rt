@@ -382,13 +382,13 @@ pub fn keyword_of(token: &[u8]) -> Keyword
     Keyword::Unsupported
 }
 
-// The end of the row that starts at a place: the next row's start, or n.
-pub fn row_end(cells: &[u32], at: usize, n: usize) -> usize
-    requires { ⌜ (at < n) × (n ≤ length (now cells)) ⌝ }
-    ensures { λ r. ⌜ RowTo (now (cells .entry)) at n r ⌝ }
+// The end of the row that starts at a place: the next row's start, or the cells' end.
+pub fn row_end(cells: &[u32], at: usize) -> usize
+    requires { ⌜ at < length (now cells) ⌝ }
+    ensures { λ r. ⌜ RowTo (now (cells .entry)) at (length (now (cells .entry))) r ⌝ }
 {
     let mut i = at + 1;
-    while i < n {
+    while i < cells.len() {
         if is_first(cells[i]) {
             return i;
         }
@@ -459,22 +459,22 @@ fn refusal_of(s: Statement) -> Checked
     ensures { λ r. ⌜ r ≡ refusalIn s ⌝ }
 {
     match s {
-        Statement::Refused(r) => Checked::Refused(r),
+        Statement::Refused(refusal) => Checked::Refused(refusal),
         _ => Checked::Fine,
     }
 }
 
 // The first refusal of 4 and 5 among the statements of marked tokens, if there is one.
-pub fn first_bad(text: &[u8], cells: &[u32], n: usize) -> Checked
-    requires { ⌜ TokensMarked (now text) (now cells) n × (n ≤ length (now cells)) ⌝ }
+pub fn first_bad(text: &[u8], cells: &[u32]) -> Checked
+    requires { ⌜ TokensMarked (now text) (now cells) (length (now cells)) ⌝ }
     ensures { λ r. ⌜ r ≡ firstBad (parsed (now (text .entry))) ⌝ }
 {
     let mut at = 0;
-    while at < n {
-        let end = row_end(cells, at, n);
+    while at < cells.len() {
+        let end = row_end(cells, at);
         let bad = refusal_of(statement_at(text, cells, at, end));
-        if let Checked::Refused(r) = bad {
-            return Checked::Refused(r);
+        if let Checked::Refused(refusal) = bad {
+            return Checked::Refused(refusal);
         }
         at = end;
     }

@@ -74,12 +74,12 @@ fn print_statement(text: &[u8], cells: &[u32], s: Statement) {
 }
 
 // Every statement of a text whose tokens are marked.
-fn print_rows(text: &[u8], cells: &[u32], n: usize)
-    requires { ⌜ TokensMarked (now text) (now cells) n × (n ≤ length (now cells)) ⌝ }
+fn print_rows(text: &[u8], cells: &[u32])
+    requires { ⌜ TokensMarked (now text) (now cells) (length (now cells)) ⌝ }
 {
     let mut at = 0;
-    while at < n {
-        let end = row_end(cells, at, n);
+    while at < cells.len() {
+        let end = row_end(cells, at);
         print_statement(text, cells, statement_at(text, cells, at, end));
         at = end;
     }
@@ -90,13 +90,13 @@ fn print_text(text: &[u8], cells: &mut [u32])
     requires { ⌜ (length (now text) ≤ maxText) × (maxTokens ≤ length (now cells)) ⌝ }
 {
     let n = mark_tokens(text, cells);
-    let bad = first_bad(text, cells, n);
+    let bad = first_bad(text, &cells[..n]);
     if let Checked::Refused(r) = bad {
         print_refusal(r.number());
         io::write_all(1, b"\n");
         return;
     }
-    print_rows(text, cells, n);
+    print_rows(text, &cells[..n]);
 }
 
 // The next text, as long as the slice: its number, then what is found in it.

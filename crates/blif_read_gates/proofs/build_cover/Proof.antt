@@ -13,7 +13,7 @@ returns : tie.Need-returns
 returns c = none-built (c .before .before .before .before .before .before .before .before .before .before .before .before .before .before .pre .1) _ _ (c .before .before .before .before .before .before .before .before .if1 .taken) (c .before .before .before .before .before .zero .ensures) (c .before .before .before .before .lay-gate .ensures)
 
 row-end-requires : tie.Need-row-end-requires
-row-end-requires c κs = (first-there (c .before .before .before .before .before .before .before .before .before .before .pre .0) (omega (arith, c .before .before .before .before .if1 .left)), omega arith)
+row-end-requires c κs = first-there (c .before .before .before .before .before .before .before .before .before .before .pre .0) (omega (arith, c .before .before .before .before .if1 .left))
 
 put-row-requires : tie.Need-put-row-requires
 put-row-requires c κs =

@@ -20,7 +20,7 @@ loop-holds c = putting-start (c .before .before .before .before .pre .0)
 row-end-requires : tie.Need-row-end-requires Inv-loop μ-loop
 row-end-requires c κs =
     let s = c .before .before .before .before .before .before .before in
-    (putting-there (s .pre .0) (s .pre .1) (c .before .before .loop .inv) (c .if1 .taken), omega arith)
+    putting-there (s .pre .0) (s .pre .1) (c .before .before .loop .inv) (c .if1 .taken)
 
 add-put-row : tie.Need-add-put-row Inv-loop μ-loop
 add-put-row c = omega (arith, c .before .before .before .before .if1 .taken, c .before .before .before .before .before .before .before .before .before .before .before .pre .1 .low)

@@ -10,7 +10,7 @@ use Rattle.blif_read_gates.proofs.join_lines.Statement.{statement}
 use Rattle.blif_read_gates.proofs.join_lines.Tie as tie
 
 row-end-requires : tie.Need-row-end-requires
-row-end-requires c κs = let s = c .before .before .before .before .before .before in (first-there (s .pre .0 .1) (omega (arith, s .pre .0 .0)), omega arith)
+row-end-requires c κs = let s = c .before .before .before .before .before .before in first-there (s .pre .0 .1) (omega (arith, s .pre .0 .0))
 
 is-one-requires : tie.Need-is-one-requires
 is-one-requires c κs = let s = c .before .before .before .before .before .before .before .before in row-two (first-good (s .pre .0 .1) (omega (arith, s .pre .0 .0)) (c .before .row-end .ensures))

@@ -2,6 +2,7 @@
 use mathlib.Core.Path.{sym, ap, _∙_}
 use Prim.Native.Nat.{_-_}
 use native.Mathlib.Omega.{arith}
+use lib.ListN.{length}
 use borrow.Author.Needs.{needs}
 use Rattle.blif_text.specs.between.PlacedStatements.{refusalIn}
 use Rattle.blif_text.proofs.RefusalLaws.{Passing, passing-start, passing-done, passing-stop, passing-next}
@@ -9,16 +10,16 @@ use Rattle.blif_text.proofs.first_bad.Statement.{statement}
 use Rattle.blif_text.proofs.first_bad.Tie as tie
 
 abbrev Inv-loop : tie.InvT-loop
-Inv-loop text cells n at₀ at = Passing text cells n at
+Inv-loop text cells at₀ at = Passing text cells (length cells) at
 
 abbrev μ-loop : tie.MeasureT-loop
-μ-loop text cells n at₀ at = n - at
+μ-loop text cells at₀ at = length cells - at
 
 loop-holds : tie.Need-loop-holds Inv-loop μ-loop
-loop-holds c = passing-start (c .before .before .pre .0) (c .before .before .pre .1)
+loop-holds c = passing-start (c .before .before .pre) (omega arith)
 
 row-end-requires : tie.Need-row-end-requires Inv-loop μ-loop
-row-end-requires c κs = (c .loop-test .taken, c .before .loop .inv .rows .places .room)
+row-end-requires c κs = c .loop-test .taken
 
 statement-at-requires : tie.Need-statement-at-requires Inv-loop μ-loop
 statement-at-requires c κs =

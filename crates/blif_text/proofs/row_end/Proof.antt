@@ -2,6 +2,7 @@
 use mathlib.Core.Path.{sym, _∙_}
 use Prim.Native.Nat.{_+_, _-_, _≤_}
 use native.Mathlib.Omega.{arith}
+use lib.ListN.{length}
 use borrow.Author.Needs.{needs}
 use Rattle.blif_text.specs.between.Places.{isFirst}
 use Rattle.blif_text.specs.between.Scan.{NoneTo}
@@ -10,10 +11,10 @@ use Rattle.blif_text.proofs.row_end.Statement.{statement}
 use Rattle.blif_text.proofs.row_end.Tie as tie
 
 abbrev Inv-loop : tie.InvT-loop
-Inv-loop cells at n i₀ i = NoneTo isFirst cells (at + 1) i × (i ≤ n)
+Inv-loop cells at i₀ i = NoneTo isFirst cells (at + 1) i × (i ≤ length cells)
 
 abbrev μ-loop : tie.MeasureT-loop
-μ-loop cells at n i₀ i = n - i
+μ-loop cells at i₀ i = length cells - i
 
 loop-holds : tie.Need-loop-holds Inv-loop μ-loop
 loop-holds c = (none-start isFirst (omega arith), omega arith)

@@ -1,24 +1,25 @@
 -- `print_rows` is safe and ends. Assumes nothing.
 use Prim.Native.Nat.{_-_, _≤_}
 use native.Mathlib.Omega.{arith}
+use lib.ListN.{length}
 use borrow.Author.Needs.{needs}
 use Rattle.text_replay.proofs.print_rows.Statement.{statement}
 use Rattle.text_replay.proofs.print_rows.Tie as tie
 
 abbrev Inv-loop : tie.InvT-loop
-Inv-loop text cells n at₀ at = at ≤ n
+Inv-loop text cells at₀ at = at ≤ length cells
 
 abbrev μ-loop : tie.MeasureT-loop
-μ-loop text cells n at₀ at = n - at
+μ-loop text cells at₀ at = length cells - at
 
 row-end-requires : tie.Need-row-end-requires Inv-loop μ-loop
-row-end-requires c κs = (c .loop-test .taken, c .before .before .before .before .pre .1)
+row-end-requires c κs = c .loop-test .taken
 
 statement-at-requires : tie.Need-statement-at-requires Inv-loop μ-loop
 statement-at-requires c κs =
     let p = c .before .before .before .before .before .pre in
     let w = c .row-end .ensures in
-    ((w .low, omega (arith, w .high, p .1)), p .0 .inside (c .before .before .loop .at) (c .before .loop-test .taken))
+    ((w .low, w .high), p .inside (c .before .before .loop .at) (c .before .loop-test .taken))
 
 loop-less : tie.Need-loop-less Inv-loop μ-loop
 loop-less c = omega (arith, c .before .before .row-end .ensures .low, c .before .before .before .loop-test .taken)
