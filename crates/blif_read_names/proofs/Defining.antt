@@ -4,17 +4,17 @@ use mathlib.Core.Bool.{true, false, not}
 use mathlib.Core.List.{List, [], _∷_, _++_, map, map-append}
 use Prim.Native.Nat.{ℕ, suc, _+_, _-_, _≤_, _<_}
 use native.Mathlib.Omega.{arith}
-use lib.ListN.{length, take}
-use lib.Seq.{slice, length-slice}
+use lib.ListN.{length, take, drop, length-drop, length-map}
+use lib.Seq.{length-take-le, getD-take, getD-drop}
 use Rattle.lists.specs.Lists.{Bytes}
-use Rattle.blif_text.specs.Decls.{Decl, decls}
+use Rattle.blif_text.specs.Decls.{Decl, inputs, outputs, decls}
+use Rattle.blif_text.specs.between.Places.{tokenOf, tokensOf}
 use Rattle.blif_text.specs.between.Walk.{stmtsFrom, Inside, StmtsAt}
 use Rattle.blif_text.specs.declared.Run.{Run}
-use Rattle.blif_text.proofs.RowWalk.{inside-less}
-use Rattle.blif_declarations.specs.between.Rows.{names}
+use Rattle.blif_text.proofs.WordLaws.{drop-take}
+use Rattle.blif_text.proofs.RowWalk.{part}
 use Rattle.blif_declarations.specs.between.Declarations.{NextIs}
 use Rattle.blif_declarations.specs.declared.Declaration.the-variants as next
-use Rattle.blif_declarations.proofs.RowStarts.{names-length}
 use Rattle.name_index.specs.between.Search.{Entry}
 use Rattle.name_index.specs.between.Index.{entryCount, entriesOf, Index}
 use Rattle.refusals.specs.Order.{_orElse_, refuseIf}
@@ -41,6 +41,26 @@ input-names i (n ∷ ns) = ap (λ (l : List Bytes). n ∷ l) (input-names (suc i
 -- the names behind others
 pub names-more : {ys : List Entry} (xs es : List Entry) → ys ≡ xs ++ es → map (λ (e : Entry). e .name) ys ≡ map (λ (e : Entry). e .name) xs ++ map (λ (e : Entry). e .name) es
 names-more {ys} xs es a = ap (map (λ (e : Entry). e .name)) a ∙ map-append (λ (e : Entry). e .name) xs es
+
+-- ---- the cells of a run's names, as code lends them
+
+abbrev pub lent : List ℕ → Run → List ℕ
+lent tokens run = part (run .first) (run .first + run .count) tokens
+
+module _ {text tokens : List ℕ} {n : ℕ} (run : Run) (p : Inside text tokens n) (h : run .first + run .count ≤ n) where
+  -- as many as the run has
+  pub lent-length : length (lent tokens run) ≡ run .count
+  lent-length = length-take-le (run .first + run .count - run .first) (drop (run .first) tokens) (rw length-drop (omega (arith, p .room))) ∙ omega arith
+
+  -- each within the text
+  pub lent-inside : Inside text (lent tokens run) (length (lent tokens run))
+  lent-inside =
+      record {
+        room = omega arith;
+        inside = λ i l.
+            let k : i < run .first + run .count - run .first = omega (arith, lent-length) in
+            rw (getD-take, getD-drop) (p .inside (run .first + i) (omega arith));
+      }
 
 -- ---- the walk goes on
 
@@ -83,6 +103,23 @@ module _ {text tokens : List ℕ} {n : ℕ} {index out blocks : List ℕ} {v : W
   step-on Fine rest w h e g = goes h (g refl e)
   step-on (Refused r) rest w h e g = stops e
 
+  module _ {behind : ℕ} {run : Run} where
+    pub inputs-are : NextIs text tokens n (v .at) (next.Inputs run) behind
+        → decls (stmtsFrom text tokens n (v .at)) ≡ inputs (tokensOf text (lent tokens run)) ∷ decls (stmtsFrom text tokens n behind)
+    inputs-are x = x .are ∙ ap (λ (y : List ℕ). inputs (tokensOf text y) ∷ decls (stmtsFrom text tokens n behind)) (drop-take (run .first) (run .first + run .count) tokens)
+
+    pub outputs-are : NextIs text tokens n (v .at) (next.Outputs run) behind
+        → decls (stmtsFrom text tokens n (v .at)) ≡ outputs (tokensOf text (lent tokens run)) ∷ decls (stmtsFrom text tokens n behind)
+    outputs-are x = x .are ∙ ap (λ (y : List ℕ). outputs (tokensOf text y) ∷ decls (stmtsFrom text tokens n behind)) (drop-take (run .first) (run .first + run .count) tokens)
+
+    -- "256 outputs"
+    pub outputs-small : NextIs text tokens n (v .at) (next.Outputs run) behind → v .outputs + length (lent tokens run) ≤ 256
+    outputs-small x =
+        omega (arith, outputs-few (tabled-as (outputs-are x)), length-map (lent tokens run) (tokenOf text), sizes-within (decls (stmtsFrom text tokens n 0)) (c .small) .outputs)
+
+    pub outputs-fit : NextIs text tokens n (v .at) (next.Outputs run) behind → v .outputs + length (lent tokens run) ≤ length out
+    outputs-fit x = omega (arith, outputs-small x, c .outputs-room)
+
   module _ (h : v .at < n) {behind : ℕ} where
     -- none is left
     pub go-none : NextIs text tokens n (v .at) next.None behind → Steps text tokens n index out blocks v (step.Next (walkAt v behind))
@@ -107,17 +144,19 @@ module _ {text tokens : List ℕ} {n : ℕ} {index out blocks : List ℕ} {v : W
 
     -- "10 when a name is defined twice by inputs"
     pub go-inputs : {run : Run} {index′ : List ℕ} {b : Checked} → NextIs text tokens n (v .at) (next.Inputs run) behind
-        → InputsEntered text tokens (run .first) (run .first + run .count) index (entryCount index) (v .inputs) index′ b
+        → InputsEntered text (lent tokens run) index (entryCount index) (v .inputs) index′ b
         → Steps text tokens n index′ out blocks v
         (stepOf b (record { at = behind; seen = v .seen; inputs = v .inputs + run .count; gates = v .gates; outputs = v .outputs }))
     go-inputs {run} {index′} {b} x entered =
-        let e : InputsEntered text tokens (run .first) (run .first + run .count) index (v .inputs + v .gates) (v .inputs) index′ b =
-        subst (λ (k : ℕ). InputsEntered text tokens (run .first) (run .first + run .count) index k (v .inputs) index′ b) (c .tabled .index-is .counted) entered in
-        let ns = names text tokens run in
+        let cs = lent tokens run in
+        let ns = tokensOf text cs in
+        let e : InputsEntered text cs index (v .inputs + v .gates) (v .inputs) index′ b =
+        subst (λ (k : ℕ). InputsEntered text cs index k (v .inputs) index′ b) (c .tabled .index-is .counted) entered in
         let l = decls (stmtsFrom text tokens n behind) in
-        let k : v .inputs + v .gates + (run .first + run .count - run .first) ≡ v .inputs + run .count + v .gates = omega arith in
+        let m = lent-length run (x .rest .rows .places) (x .places) in
+        let k : v .inputs + v .gates + length cs ≡ v .inputs + run .count + v .gates = omega (arith, m) in
         let rest = naming (v .seen) (namesIn text index (v .inputs + v .gates) ++ ns) l in
-        let q = left-as (x .are) ∙ naming-inputs (v .seen) (namesIn text index (v .inputs + v .gates)) l ns ∙ ap (λ (y : Checked). y orElse rest) (sym (e .refused)) in
+        let q = left-as (inputs-are x) ∙ naming-inputs (v .seen) (namesIn text index (v .inputs + v .gates)) l ns ∙ ap (λ (y : Checked). y orElse rest) (sym (e .refused)) in
         step-on b rest _ (x .low h) q
         (λ z left.
         let a : entriesOf text index′ (v .inputs + run .count + v .gates) ≡ entriesOf text index (v .inputs + v .gates) ++ inputEntries (v .inputs) ns =
@@ -126,26 +165,18 @@ module _ {text tokens : List ℕ} {n : ℕ} {index out blocks : List ℕ} {v : W
         (left
         ∙ ap (λ (y : List Bytes). naming (v .seen) y l)
         (sym (names-more (entriesOf text index (v .inputs + v .gates)) (inputEntries (v .inputs) ns) a ∙ ap (λ (y : List Bytes). namesIn text index (v .inputs + v .gates) ++ y) (input-names (v .inputs) ns))))
-        (tabled-inputs (tabled-as (x .are)) (names-length text tokens run (omega (arith, x .places, x .rest .rows .places .room))) (subst (Index text index′) k (e .index-is z)) a))
+        (tabled-inputs (tabled-as (inputs-are x)) (length-map cs (tokenOf text) ∙ m) (subst (Index text index′) k (e .index-is z)) a))
 
     -- outputs define nothing
     pub go-outputs : {run : Run} {out′ : List ℕ} → NextIs text tokens n (v .at) (next.Outputs run) behind
-        → take (v .outputs + (run .first + run .count - run .first)) out′ ≡ take (v .outputs) out ++ slice (run .first) (run .first + run .count) tokens → length out′ ≡ length out
+        → take (v .outputs + length (lent tokens run)) out′ ≡ take (v .outputs) out ++ lent tokens run → length out′ ≡ length out
         → Steps text tokens n index out′ blocks v
         (step.Next (record { at = behind; seen = v .seen; inputs = v .inputs; gates = v .gates; outputs = v .outputs + run .count }))
     go-outputs {run} {out′} x e p =
-        let l = decls (stmtsFrom text tokens n behind) in
-        let last = run .first + run .count in
-        let cs = slice (run .first) (run .first + run .count) tokens in
-        let m : last - run .first ≡ run .count = omega arith in
-        let k : last ≤ length tokens = omega (arith, x .places, x .rest .rows .places .room) in
-        let t = tabled-as (x .are) in
-        let s = sizes-within (decls (stmtsFrom text tokens n 0)) (c .small) in
-        let few : v .outputs + (last - run .first) ≤ length out′ =
-        omega (arith, outputs-few t, names-length text tokens run k, s .outputs, c .outputs-room, p) in
-        let inside : Inside text out′ (v .outputs + (last - run .first)) =
-        inside-more (inside-less (x .places) (x .rest .rows .places)) (omega arith) (t .outputs-in) e few in
-        goes (x .low h)
-        (on _ (x .rest) p refl (left-as (x .are) ∙ naming-outputs (v .seen) (namesIn text index (v .inputs + v .gates)) l (names text tokens run))
-        (tabled-outputs cs t (length-slice (run .first) last tokens k ∙ m) (subst (λ (j : ℕ). take (v .outputs + j) out′ ≡ take (v .outputs) out ++ cs) m e)
-        (subst (λ (j : ℕ). Inside text out′ (v .outputs + j)) m inside)))
+        let cs = lent tokens run in
+        let t = tabled-as (outputs-are x) in
+        let w : ℕ → Walk = λ m. record { at = behind; seen = v .seen; inputs = v .inputs; gates = v .gates; outputs = v .outputs + m } in
+        subst (λ (m : ℕ). Steps text tokens n index out′ blocks v (step.Next (w m))) (lent-length run (x .rest .rows .places) (x .places))
+        (goes (x .low h)
+        (on _ (x .rest) p refl (left-as (outputs-are x) ∙ naming-outputs (v .seen) (namesIn text index (v .inputs + v .gates)) (decls (stmtsFrom text tokens n behind)) (tokensOf text cs))
+        (tabled-outputs cs t e (inside-more (lent-inside run (x .rest .rows .places) (x .places)) (t .outputs-in) e (omega (arith, outputs-fit x, p))))))

@@ -5,7 +5,7 @@ use Prim.Native.Nat.{ℕ, _+_, _-_, _*_, _≤_, _<_}
 use native.Mathlib.Omega.{arith}
 use native.Mathlib.Numerals.{add-one}
 use lib.ListN.{length, getD, take, length-append, length-map, List·getD-append}
-use lib.Seq.{slice, getD-take, getD-drop, getD-append-add, length-take-le}
+use lib.Seq.{getD-take, getD-append-add, length-take-le}
 use Rattle.lists.specs.Lists.{Bytes}
 use Rattle.lists.specs.between.Lists.{overwriteAt}
 use Rattle.lists.proofs.Tests.{by-order}
@@ -79,23 +79,20 @@ module _ {text tokens : List ℕ} {n : ℕ} {blocks blocks′ : List ℕ} (g a b
 -- ---- copied names
 
 -- cells behind others are within the text
-pub inside-more : {text tokens out out′ : List ℕ} {first end o : ℕ} → Inside text tokens end → first ≤ end → Inside text out o
-    → take (o + (end - first)) out′ ≡ take o out ++ slice first end tokens → o + (end - first) ≤ length out′ → Inside text out′ (o + (end - first))
-inside-more {text} {tokens} {out} {out′} {first} {end} {o} p h w e k =
+pub inside-more : {text cs out out′ : List ℕ} {o m : ℕ} → Inside text cs m → Inside text out o → take (o + m) out′ ≡ take o out ++ cs → o + m ≤ length out′ → Inside text out′ (o + m)
+inside-more {text} {cs} {out} {out′} {o} {m} p w e k =
     record {
       room = k;
       inside = λ j l.
-          let q : getD out′ j 0 ≡ getD (take o out ++ slice first end tokens) j 0 = sym (getD-take (o + (end - first)) out′ j 0 l) ∙ ap (λ (x : List ℕ). getD x j 0) e in
-          let m : length (take o out) ≡ o = length-take-le o out (w .room) in
+          let q : getD out′ j 0 ≡ getD (take o out ++ cs) j 0 = sym (getD-take (o + m) out′ j 0 l) ∙ ap (λ (x : List ℕ). getD x j 0) e in
+          let n : length (take o out) ≡ o = length-take-le o out (w .room) in
           by-order o j
           (λ b.
           let s : j ≡ length (take o out) + (j - o) = omega arith in
-          let u : getD out′ j 0 ≡ getD tokens (first + (j - o)) 0 =
-          q ∙ ap (λ (i : ℕ). getD (take o out ++ slice first end tokens) i 0) s ∙ getD-append-add (take o out) (slice first end tokens) (j - o) 0
-          ∙ getD-drop first (take end tokens) (j - o) 0 ∙ getD-take end tokens (first + (j - o)) 0 (omega arith) in
-          subst (InText text) (sym u) (p .inside (first + (j - o)) (omega arith)))
+          let u : getD out′ j 0 ≡ getD cs (j - o) 0 = q ∙ ap (λ (i : ℕ). getD (take o out ++ cs) i 0) s ∙ getD-append-add (take o out) cs (j - o) 0 in
+          subst (InText text) (sym u) (p .inside (j - o) (omega arith)))
           (λ b.
-          let u : getD out′ j 0 ≡ getD out j 0 = q ∙ List·getD-append (take o out) (slice first end tokens) 0 j (omega arith) ∙ getD-take o out j 0 b in
+          let u : getD out′ j 0 ≡ getD out j 0 = q ∙ List·getD-append (take o out) cs 0 j (omega arith) ∙ getD-take o out j 0 b in
           subst (InText text) (sym u) (w .inside j b));
     }
 
@@ -147,10 +144,10 @@ module _ {ds l : List Decl} {text tokens : List ℕ} {n : ℕ} {index out blocks
         blocks-are = t .blocks-are;
       }
 
-  pub tabled-outputs : (cs : List ℕ) {out′ : List ℕ} {m : ℕ} → TablesTo ds (outputs (tokensOf text cs) ∷ l) text tokens n index out blocks i g o → length cs ≡ m
-      → take (o + m) out′ ≡ take o out ++ cs → Inside text out′ (o + m) → TablesTo ds l text tokens n index out′ blocks i g (o + m)
+  pub tabled-outputs : (cs : List ℕ) {out′ : List ℕ} → TablesTo ds (outputs (tokensOf text cs) ∷ l) text tokens n index out blocks i g o
+      → take (o + length cs) out′ ≡ take o out ++ cs → Inside text out′ (o + length cs) → TablesTo ds l text tokens n index out′ blocks i g (o + length cs)
   unfolding ins outs defs flatMap insOf outsOf defsOf
-  tabled-outputs cs {out′} {m} t q e p =
+  tabled-outputs cs {out′} t e p =
       record {
         inputs = t .inputs;
         gates = t .gates;

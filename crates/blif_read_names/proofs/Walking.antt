@@ -2,15 +2,15 @@
 use mathlib.Core.Path.{_≡_, refl, sym, ap, _∙_, subst}
 use mathlib.Core.Bool.{Bool, false}
 use mathlib.Core.List.{List, [], _∷_, flatMap, append-nil}
-use Prim.Native.Nat.{ℕ, _+_, _-_, _*_, _≤_, _<_}
+use Prim.Native.Nat.{ℕ, _+_, _*_, _≤_, _<_}
 use native.Mathlib.Omega.{arith}
-use lib.ListN.{length, take}
+use lib.ListN.{length, take, length-map}
 use Rattle.lists.specs.Lists.{Bytes, zeros}
 use Rattle.refusals.specs.declared.Refusal.{Refusal}
 use Rattle.refusals.specs.declared.Checked.the-variants.{Fine, Refused}
 use Rattle.network.specs.Sizes.{maxGates, maxOutputs}
 use Rattle.blif_text.specs.Decls.{Def, Decl, gate, decls, ins, outs, defs}
-use Rattle.blif_text.specs.between.Places.{maxTokens, tokensOf}
+use Rattle.blif_text.specs.between.Places.{maxTokens, tokenOf, tokensOf}
 use Rattle.blif_text.specs.between.Walk.{stmtsFrom, StmtsAt}
 use Rattle.blif_text.specs.between.Blocks.{blockWidth, defsAt}
 use Rattle.blif_text.specs.declared.Block.{Block}
@@ -18,7 +18,6 @@ use Rattle.blif_text.specs.declared.Run.{Run}
 use Rattle.blif_text.proofs.RowWalk.{inside-less}
 use Rattle.blif_declarations.specs.between.Declarations.{NextIs}
 use Rattle.blif_declarations.specs.declared.Declaration.the-variants as next
-use Rattle.blif_declarations.proofs.RowStarts.{names-length}
 use Rattle.blif_declarations.proofs.NextLaws.{decls-end}
 use Rattle.name_index.specs.between.Index.{maxNames, indexCells, entryCount, entriesOf, Index}
 use Rattle.name_index.proofs.IndexLaws.{index-empty, index-counted}
@@ -29,8 +28,8 @@ use Rattle.blif_read_names.specs.declared.Walk.{Walk}
 use Rattle.blif_read_names.specs.declared.Step.the-variants as step
 use Rattle.blif_read_names.specs.declared.Defined.the-variants as defined
 use Rattle.blif_reading.proofs.SizeLimits.{sizes-within}
-use Rattle.blif_read_names.proofs.Tabling.{inputs-few, outputs-few, gate-few}
-use Rattle.blif_read_names.proofs.Defining.{tabled-as}
+use Rattle.blif_read_names.proofs.Tabling.{inputs-few, gate-few}
+use Rattle.blif_read_names.proofs.Defining.{lent, lent-inside, tabled-as, inputs-are}
 use Rattle.blif_read_names.proofs.DefiningGates.{defs-few}
 
 -- ---- what each declaration asks for
@@ -53,33 +52,17 @@ module _ {text tokens : List ℕ} {n : ℕ} {index out blocks : List ℕ} {v : W
   one-free e = omega (arith, c .tabled .index-is .counted, few-names .0, one-more e)
 
   module _ {behind : ℕ} where
-    pub inputs-fit : {run : Run} → NextIs text tokens n (v .at) (next.Inputs run) behind
-        → InputsFit text tokens (run .first) (run .first + run .count) index (v .inputs)
+    pub inputs-fit : {run : Run} → NextIs text tokens n (v .at) (next.Inputs run) behind → InputsFit text (lent tokens run) index (v .inputs)
     inputs-fit {run} x =
-        let s = sizes-within (decls (stmtsFrom text tokens n 0)) (c .small) in
-        let few : v .inputs + run .count ≤ 256 =
-        omega (arith, inputs-few (tabled-as c (x .are)), names-length text tokens run (omega (arith, x .places, x .rest .rows .places .room)), s .inputs) in
+        let cs = lent tokens run in
+        let few : v .inputs + length cs ≤ 256 =
+        omega (arith, inputs-few (tabled-as c (inputs-are c x)), length-map cs (tokenOf text), sizes-within (decls (stmtsFrom text tokens n 0)) (c .small) .inputs) in
         record {
           index-is = index-counted (c .tabled .index-is);
-          places = inside-less (x .places) (x .rest .rows .places);
-          low = omega arith;
-          inputs = omega arith;
-          room = omega (arith, c .tabled .index-is .counted, few-names .1);
+          places = lent-inside run (x .rest .rows .places) (x .places);
+          inputs = few;
+          room = omega (arith, few, c .tabled .index-is .counted, few-names .1);
         }
-
-    -- "256 outputs"
-    pub outputs-small : {run : Run} → NextIs text tokens n (v .at) (next.Outputs run) behind → v .outputs + run .count ≤ 256
-    outputs-small {run} x =
-        omega (
-          arith,
-          outputs-few (tabled-as c (x .are)),
-          names-length text tokens run (omega (arith, x .places, x .rest .rows .places .room)),
-          sizes-within (decls (stmtsFrom text tokens n 0)) (c .small) .outputs,
-        )
-
-    pub outputs-fit : {run : Run} → NextIs text tokens n (v .at) (next.Outputs run) behind
-        → (run .first ≤ run .first + run .count) × (run .first + run .count ≤ length tokens) × (v .outputs + (run .first + run .count - run .first) ≤ length out)
-    outputs-fit x = (omega arith, omega (arith, x .places, x .rest .rows .places .room), omega (arith, outputs-small x, c .outputs-room))
 
     pub latch-fit : {first : ℕ} → NextIs text tokens n (v .at) (next.Latch first) behind → LatchFits text tokens index blocks (walkAt v behind) first
     latch-fit {first} x =

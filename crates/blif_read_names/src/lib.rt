@@ -13,9 +13,8 @@ use signal::Signal;
 ghost use mathlib.Core.Path.{_≡_};
 ghost use mathlib.Core.Bool.{false};
 ghost use mathlib.Core.List.{_++_};
-ghost use Prim.Native.Nat.{_+_, _-_, _*_, _≤_, _<_};
+ghost use Prim.Native.Nat.{_+_, _*_, _≤_, _<_};
 ghost use lib.ListN.{length, take};
-ghost use lib.Seq.{slice};
 ghost use Rattle.lists.specs.Lists.{zeros};
 ghost use Rattle.network.specs.Sizes.{maxGates, maxOutputs};
 ghost use Rattle.blif_text.specs.Decls.{decls};
@@ -67,42 +66,31 @@ fn step_of(checked: Checked, next: Walk) -> Step
     }
 }
 
-// Enters the names from first to end as inputs, unless one is defined twice.
-fn enter_inputs(
-    text: &[u8],
-    tokens: &[u32],
-    first: usize,
-    end: usize,
-    index: &mut [u32],
-    inputs: usize,
-) -> Checked
-    requires { ⌜ InputsFit (now text) (now tokens) first end (now index) inputs ⌝ }
-    ensures { λ r. ⌜ InputsEntered (now (text .entry)) (now (tokens .entry)) first end (now (index .entry)) (entryCount (now (index .entry))) inputs (now (index .exit)) r ⌝ }
+// Enters names as inputs behind so many others, unless one is defined twice.
+fn enter_inputs(text: &[u8], names: &[u32], index: &mut [u32], inputs: usize) -> Checked
+    requires { ⌜ InputsFit (now text) (now names) (now index) inputs ⌝ }
+    ensures { λ r. ⌜ InputsEntered (now (text .entry)) (now (names .entry)) (now (index .entry)) (entryCount (now (index .entry))) inputs (now (index .exit)) r ⌝ }
 {
-    let mut j = first;
-    let mut i = inputs;
-    while j < end {
-        let signal = Signal::from_input(i as u32);
-        if !enter_name(text, index, tokens[j], signal.a) {
+    let mut j = 0;
+    while j < names.len() {
+        let signal = Signal::from_input((inputs + j) as u32);
+        if !enter_name(text, index, names[j], signal.a) {
             return Checked::Refused(Refusal::DefinedTwice);
         }
         j += 1;
-        i += 1;
     }
     Checked::Fine
 }
 
-// Copies the tokens from first to end behind the names of so many outputs.
-fn copy_outputs(tokens: &[u32], first: usize, end: usize, out_names: &mut [u32], outputs: usize)
-    requires { ⌜ (first ≤ end) × (end ≤ length (now tokens)) × (outputs + (end - first) ≤ length (now «out_names»)) ⌝ }
-    ensures { λ _. ⌜ take (outputs + (end - first)) (now («out_names» .exit)) ≡ take outputs (now («out_names» .entry)) ++ slice first end (now (tokens .entry)) ⌝ }
+// Copies names behind those of so many outputs.
+fn copy_outputs(names: &[u32], out_names: &mut [u32], outputs: usize)
+    requires { ⌜ outputs + length (now names) ≤ length (now «out_names») ⌝ }
+    ensures { λ _. ⌜ take (outputs + length (now (names .entry))) (now («out_names» .exit)) ≡ take outputs (now («out_names» .entry)) ++ now (names .entry) ⌝ }
 {
-    let mut j = first;
-    let mut o = outputs;
-    while j < end {
-        out_names[o] = tokens[j];
+    let mut j = 0;
+    while j < names.len() {
+        out_names[outputs + j] = names[j];
         j += 1;
-        o += 1;
     }
 }
 
@@ -211,15 +199,17 @@ fn define_declaration(
         }
         Declaration::End => step_of(refuse_if(!w.seen, Refusal::EndBeforeModel), after),
         Declaration::Inputs(run) => {
-            let end = run.first + run.count;
+            let first = run.first;
+            let end = first + run.count;
             after.inputs += run.count;
-            let checked = enter_inputs(text, tokens, run.first, end, index, w.inputs);
+            let checked = enter_inputs(text, &tokens[first..end], index, w.inputs);
             step_of(checked, after)
         }
         Declaration::Outputs(run) => {
-            let end = run.first + run.count;
+            let first = run.first;
+            let end = first + run.count;
             after.outputs += run.count;
-            copy_outputs(tokens, run.first, end, out_names, w.outputs);
+            copy_outputs(&tokens[first..end], out_names, w.outputs);
             Step::Next(after)
         }
         Declaration::Latch(first) => define_latch(text, tokens, index, blocks, after, first),

@@ -5,7 +5,6 @@ use mathlib.Core.Bool.{false}
 use mathlib.Core.List.{List, [], _∷_, _++_, map}
 use Prim.Native.Nat.{ℕ, _+_, _-_, _*_, _≤_, _<_}
 use lib.ListN.{length, getD, take}
-use lib.Seq.{slice}
 use Rattle.lists.specs.Lists.{Bytes, known}
 use Rattle.lists.specs.between.Lists.{overwriteAt}
 use Rattle.refusals.specs.Order.{refuseIf}
@@ -33,27 +32,25 @@ use Rattle.blif_read_names.specs.declared.Step.the-variants as step
 abbrev pub namesIn : Bytes → List ℕ → ℕ → List Bytes
 namesIn text index k = map (λ (e : Entry). e .name) (entriesOf text index k)
 
--- the names from first to end can be entered, the first as input i
-pub record InputsFit (text tokens : List ℕ) (first end : ℕ) (index : List ℕ) (i : ℕ) : Type 0 where
+-- the names of these cells can be entered, the first as input i
+pub record InputsFit (text names index : List ℕ) (i : ℕ) : Type 0 where
   -- the index so far
   pub index-is : Index text index (entryCount index)
-  -- the tokens are places within the text
-  pub places : Inside text tokens end
-  -- they go upwards
-  pub low : first ≤ end
+  -- the cells are places within the text
+  pub places : Inside text names (length names)
   -- "256 inputs"
-  pub inputs : i + (end - first) ≤ maxInputs
+  pub inputs : i + length names ≤ maxInputs
   -- the index has room for them
-  pub room : entryCount index + (end - first) ≤ maxNames
+  pub room : entryCount index + length names ≤ maxNames
 
--- the names from first to end are entered behind k others as inputs from number i on, or one "is defined twice"
-pub record InputsEntered (text tokens : List ℕ) (first end : ℕ) (index : List ℕ) (k i : ℕ) (index′ : List ℕ) (r : Checked) : Type 0 where
+-- the names of these cells are entered behind k others as inputs from number i on, or one "is defined twice"
+pub record InputsEntered (text names index : List ℕ) (k i : ℕ) (index′ : List ℕ) (r : Checked) : Type 0 where
   -- "10 when a name is defined twice"
-  pub refused : r ≡ refuseIf (definedTwice (namesIn text index k) (tokensOf text (slice first end tokens))) refusal.DefinedTwice
+  pub refused : r ≡ refuseIf (definedTwice (namesIn text index k) (tokensOf text names)) refusal.DefinedTwice
   -- the index has them now
-  pub index-is : r ≡ Fine → Index text index′ (k + (end - first))
+  pub index-is : r ≡ Fine → Index text index′ (k + length names)
   -- behind the others
-  pub added : r ≡ Fine → entriesOf text index′ (k + (end - first)) ≡ entriesOf text index k ++ inputEntries i (tokensOf text (slice first end tokens))
+  pub added : r ≡ Fine → entriesOf text index′ (k + length names) ≡ entriesOf text index k ++ inputEntries i (tokensOf text names)
 
 -- gate g can be defined by the name at a cell
 pub record GateFits (text index : List ℕ) (g cell : ℕ) (block : Block) (blocks : List ℕ) : Type 0 where
