@@ -1,14 +1,14 @@
 -- The meaning, computed on samples. Assumes nothing.
 use mathlib.Core.Path.{_≡_, refl, sym, subst}
 use mathlib.Core.Bool.{Bool, true, false, not, cond}
-use mathlib.Core.List.{List, [], _∷_, List·Memᴰ, List·Memᴰ·cases-cons, List·Memᴰ·not-nil}
+use mathlib.Core.List.{[], _∷_, List·Memᴰ, List·Memᴰ·cases-cons, List·Memᴰ·not-nil}
 use mathlib.Core.Logic.{⊎-elim}
 use mathlib.Core.Option.{Option·none-ne-some}
 use Prim.Native.Nat.{ℕ}
 use native.Mathlib.Omega.{arith}
 use lib.Dec.{eqb}
 use Rattle.network.specs.Clock.{done, tick}
-use Rattle.blif_meaning.specs.Model.{Line, LatchDef, Block, Latch, Cover, plainLatch, target, blockBit, coverBit, nextHeld, BlifFits, BlifClock, BlifRuns}
+use Rattle.blif_meaning.specs.Model.{LatchDef, Block, Latch, plainLatch, target, blockBit, coverBit, nextHeld, BlifClock, BlifRuns}
 use Rattle.blif_meaning.specs.Samples.{sampleCover, offCover, toggle}
 
 -- 0111 meets the second and the third row, 1001 none

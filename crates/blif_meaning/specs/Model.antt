@@ -1,7 +1,7 @@
 -- What a BLIF model means. Sentences in quotes are the Berkeley text's, "Berkeley Logic Interchange Format (BLIF)", sections "Logic
 -- Gates" and "Flip flops and latches", or, where `.flop` is named, ABC's. Names are of any type. Assumes nothing: these are definitions.
 use mathlib.Core.Path.{_≡_}
-use mathlib.Core.Bool.{Bool, true, false, not, _&&_, _||_, cond}
+use mathlib.Core.Bool.{Bool, true, false, not, _&&_, cond}
 use mathlib.Core.List.{List, [], _∷_, map, List·Memᴰ}
 use mathlib.Core.Option.{Option, none, some}
 use Prim.Native.Nat.{ℕ}

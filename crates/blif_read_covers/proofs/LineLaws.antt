@@ -13,7 +13,7 @@ use Rattle.lists.proofs.Same.{same-is}
 use Rattle.refusals.specs.Order.{_orElse_, refuseIf}
 use Rattle.refusals.specs.declared.Refusal.the-variants as refusal
 use Rattle.refusals.specs.declared.Checked.{Checked}
-use Rattle.refusals.specs.declared.Checked.the-variants.{Fine, Refused}
+use Rattle.refusals.specs.declared.Checked.the-variants.{Refused}
 use Rattle.blif_text.specs.between.Places.{tokenOf, tokensOf}
 use Rattle.blif_text.specs.Decls.{columns, output, isOne}
 use Rattle.blif_text.proofs.ColumnLaws.{lastCell, last-output}

@@ -24,7 +24,7 @@ use Rattle.blif_text.specs.between.PlacedStatements.{RowTo}
 use Rattle.blif_text.specs.between.Walk.{rowsFrom, Inside, RowsAt}
 use Rattle.blif_text.specs.between.Blocks.{firstName, nameCount, lineCount, defFrom, defAt, defsAt, BlockIn, Blocks}
 use Rattle.blif_text.proofs.ColumnLaws.{lastCell}
-use Rattle.blif_text.proofs.RowWalk.{part, part-inside, rows-end, rows-next, part-rows}
+use Rattle.blif_text.proofs.RowWalk.{part, row-inside, rows-end, rows-next, part-rows}
 use Rattle.blif_reading.specs.Read.{coverFault, coverFaults, isColumn}
 use Rattle.blif_read_covers.specs.between.Pass.{outputOf, withOutput, differ, fits, linesIn}
 use Rattle.blif_read_covers.specs.declared.Output.{Output}
@@ -146,16 +146,16 @@ module _ {text tokens : List ℕ} {n : ℕ} {blocks : List ℕ} {g : ℕ} where
 
       -- the line's tokens are places within the text
       pub line-inside : {end : ℕ} → RowTo tokens at n end → Inside text (part at end tokens) (length (part at end tokens))
-      line-inside w = part-inside (v .places .places) w .1
+      line-inside w = row-inside (v .places .places) w .1
 
       -- its last token is within the text
       pub last-there : {end : ℕ} → RowTo tokens at n end → InText text (lastCell (part at end tokens))
       last-there {end} w =
-          let l = part-inside (v .places .places) w in l .1 .inside (length (part at end tokens) - 1) (omega (arith, l .0))
+          let l = row-inside (v .places .places) w in l .1 .inside (length (part at end tokens) - 1) (omega (arith, l .0))
 
       -- the line has a token, and the cover a name
       pub line-some : k < lines → {end : ℕ} → RowTo tokens at n end → (0 < length (part at end tokens)) × (0 < names)
-      line-some h w = (part-inside (v .places .places) w .0, v .named h)
+      line-some h w = (row-inside (v .places .places) w .0, v .named h)
 
       module _ {end : ℕ} {cols t : Bytes} {o : Output} {b : Bool} (h : k < lines) (w : RowTo tokens at n end)
           (p : cols ≡ columns (tokensOf text (part at end tokens))) (u : t ≡ tokenOf text (lastCell (part at end tokens))) (s : o ≡ outputOf t)

@@ -27,7 +27,7 @@ use Rattle.blif_reading.proofs.WorkingLaws.{gate-run}
 use Rattle.blif_text.specs.Decls.{columns, isOne}
 use Rattle.blif_text.specs.between.PlacedStatements.{RowTo}
 use Rattle.blif_text.specs.between.Walk.{rowsFrom}
-use Rattle.blif_text.proofs.RowWalk.{part, part-inside, row-there, part-rows}
+use Rattle.blif_text.proofs.RowWalk.{part, row-inside, row-there, part-rows}
 use Rattle.blif_reading.specs.Build.{lineGate, gateRun, coverGate, lineGates}
 use Rattle.blif_reading.specs.Read.{goodLine, added}
 use Rattle.blif_reading.specs.TextModel.{lineOf}
@@ -59,8 +59,8 @@ module _ {text tokens : List ℕ} {n row count inputs : ℕ} (g : GoodRows text 
     pub first-good : GoodRow text (part row end tokens) inputs
     first-good =
         record {
-          low = part-inside (g .rows .places) e .0;
-          places = part-inside (g .rows .places) e .1;
+          low = row-inside (g .rows .places) e .0;
+          places = row-inside (g .rows .places) e .1;
           good = and-left (goodLine inputs (rowTokens text tokens row end)) _ (sym (ap (all (goodLine inputs)) first-take) ∙ g .good);
         }
 

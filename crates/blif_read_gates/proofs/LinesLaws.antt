@@ -19,7 +19,7 @@ use Rattle.gates.specs.Gate.{Gate}
 use Rattle.blif_text.specs.Decls.{columns, isOne}
 use Rattle.blif_text.specs.between.PlacedStatements.{RowTo}
 use Rattle.blif_text.specs.between.Walk.{rowsFrom, RowsAt}
-use Rattle.blif_text.proofs.RowWalk.{part, part-inside, row-there, rows-next, part-rows}
+use Rattle.blif_text.proofs.RowWalk.{part, row-inside, row-there, rows-next, part-rows}
 use Rattle.blif_reading.specs.Build.{lineGate}
 use Rattle.blif_reading.specs.Read.{goodLine}
 use Rattle.blif_reading.specs.TextModel.{lineOf}
@@ -137,8 +137,8 @@ module _ {text tokens : List ℕ} {n first count inputs : ℕ} {gates₀ : List 
       pub putting-row : GoodRow text (part row end tokens) inputs
       putting-row =
           record {
-            low = part-inside (w .rows .places) e .0;
-            places = part-inside (w .rows .places) e .1;
+            low = row-inside (w .rows .places) e .0;
+            places = row-inside (w .rows .places) e .1;
             good =
                 ap (goodLine inputs) this-row
                 ∙ all-mem (goodLine inputs) (take count all-rows) (g .good) (getD all-rows i [])

@@ -4,15 +4,14 @@ use mathlib.Core.Bool.{true, false, not}
 use mathlib.Core.List.{List, [], _∷_, _++_, map, map-append}
 use Prim.Native.Nat.{ℕ, suc, _+_, _-_, _≤_, _<_}
 use native.Mathlib.Omega.{arith}
-use lib.ListN.{length, take, drop, length-drop, length-map}
-use lib.Seq.{length-take-le, getD-take, getD-drop}
+use lib.ListN.{length, take, drop, length-map}
 use Rattle.lists.specs.Lists.{Bytes}
 use Rattle.blif_text.specs.Decls.{Decl, inputs, outputs, decls}
 use Rattle.blif_text.specs.between.Places.{tokenOf, tokensOf}
 use Rattle.blif_text.specs.between.Walk.{stmtsFrom, Inside, StmtsAt}
 use Rattle.blif_text.specs.declared.Run.{Run}
 use Rattle.blif_text.proofs.WordLaws.{drop-take}
-use Rattle.blif_text.proofs.RowWalk.{part}
+use Rattle.blif_text.proofs.RowWalk.{part, part-length, part-inside}
 use Rattle.blif_declarations.specs.between.Declarations.{NextIs}
 use Rattle.blif_declarations.specs.declared.Declaration.the-variants as next
 use Rattle.name_index.specs.between.Search.{Entry}
@@ -50,17 +49,11 @@ lent tokens run = part (run .first) (run .first + run .count) tokens
 module _ {text tokens : List ℕ} {n : ℕ} (run : Run) (p : Inside text tokens n) (h : run .first + run .count ≤ n) where
   -- as many as the run has
   pub lent-length : length (lent tokens run) ≡ run .count
-  lent-length = length-take-le (run .first + run .count - run .first) (drop (run .first) tokens) (rw length-drop (omega (arith, p .room))) ∙ omega arith
+  lent-length = part-length tokens (run .first) (run .first + run .count) (omega (arith, p .room)) ∙ omega arith
 
   -- each within the text
   pub lent-inside : Inside text (lent tokens run) (length (lent tokens run))
-  lent-inside =
-      record {
-        room = omega arith;
-        inside = λ i l.
-            let k : i < run .first + run .count - run .first = omega (arith, lent-length) in
-            rw (getD-take, getD-drop) (p .inside (run .first + i) (omega arith));
-      }
+  lent-inside = part-inside (run .first) (run .first + run .count) p h
 
 -- ---- the walk goes on
 

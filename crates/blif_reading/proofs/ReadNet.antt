@@ -1,19 +1,19 @@
 -- A network that is read: valid, formed, without a loop, and within the sizes. Assumes nothing.
-use mathlib.Core.Path.{_≡_, refl, sym, ap, _∙_}
-use mathlib.Core.List.{List, map}
+use mathlib.Core.Path.{_≡_, ap, _∙_}
+use mathlib.Core.List.{List}
 use mathlib.Core.Option.{some}
 use Prim.Native.Nat.{ℕ, _<_}
 use native.Mathlib.Omega.{arith}
 use lib.ListN.{length, getElem?, length-map}
-use Rattle.lists.specs.Lists.{Bytes, sumOf}
+use Rattle.lists.specs.Lists.{Bytes}
 use Rattle.lists.proofs.Every.{every-place}
 use Rattle.gates.specs.Gate.{Gate}
-use Rattle.network.specs.Net.{Net, Valid, Formed, Feeds, Path, last, more, Loop}
+use Rattle.network.specs.Net.{Net, Valid, Formed, Path, last, more, Loop}
 use Rattle.network.specs.between.Sizes.{WithinSizes}
 use Rattle.network.specs.Record.{pinCells}
 use Rattle.sort_order.specs.Sorted.{sorted}
 use Rattle.sort_order.proofs.Summary.{sorted-keeps, inputs-lower}
-use Rattle.blif_text.specs.Decls.{Decl, ins, outs, defs, declsOf}
+use Rattle.blif_text.specs.Decls.{Decl, outs, defs, declsOf}
 use Rattle.blif_reading.specs.Read.{read, signalOf, builtFrom, readText}
 use Rattle.blif_reading.proofs.BuiltCounts.{built-gates, built-pins, built-formed}
 use Rattle.blif_reading.proofs.BuiltNet.{gates-are}

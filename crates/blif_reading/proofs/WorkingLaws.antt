@@ -9,7 +9,7 @@ use Rattle.lists.specs.between.Lists.{overwriteAt}
 use Rattle.lists.proofs.OverAt.{run-before, drop-behind, run-overwriteAt}
 use Rattle.signal.specs.Cell.{sigCell}
 use Rattle.gates.specs.Gate.{Gate, pins}
-use Rattle.network.specs.Record.{gateWidth, recordOf, firstAt, countAt, runAt}
+use Rattle.network.specs.Record.{gateWidth, recordOf, runAt}
 use Rattle.network.specs.between.Record.{recordAt, RecordIn}
 use Rattle.network.proofs.RecordCells.{RecordIs, record-is, length-recordOf, recordAt-written, recordAt-apart, recordIn-written}
 use Rattle.blif_reading.specs.between.Working.{GateIn}

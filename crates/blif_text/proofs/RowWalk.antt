@@ -46,17 +46,26 @@ inside-less l p = record { room = omega (arith, p .room); inside = λ i h. p .in
 abbrev pub part : ℕ → ℕ → List ℕ → List ℕ
 part at r cells = take (r - at) (drop at cells)
 
--- a row has a cell, and each is a place within the text
-pub part-inside : {text cells : List ℕ} {n at r : ℕ} → Inside text cells n → RowTo cells at n r
+-- it has as many cells as are between
+pub part-length : (cells : List ℕ) (at r : ℕ) → r ≤ length cells → length (part at r cells) ≡ r - at
+part-length cells at r h = length-take-le (r - at) (drop at cells) (rw length-drop (omega arith))
+
+-- each is a place within the text
+pub part-inside : {text cells : List ℕ} {n : ℕ} (at r : ℕ) → Inside text cells n → r ≤ n → Inside text (part at r cells) (length (part at r cells))
+part-inside {cells = cells} at r p h =
+    let e : length (part at r cells) ≡ r - at = part-length cells at r (omega (arith, p .room)) in
+    record {
+      room = omega arith;
+      inside = λ i l. let k : i < r - at = omega (arith, e) in rw (getD-take, getD-drop) (p .inside (at + i) (omega arith));
+    }
+
+-- a row has one
+pub row-inside : {text cells : List ℕ} {n at r : ℕ} → Inside text cells n → RowTo cells at n r
     → (0 < length (part at r cells)) × Inside text (part at r cells) (length (part at r cells))
-part-inside {cells = cells} {at = at} {r = r} p w =
-    let e = length-take-le (r - at) (drop at cells) (rw length-drop (omega (arith, w .high, p .room))) in (
-      omega (arith, e, w .low),
-      record {
-        room = omega arith;
-        inside = λ i h. let l : i < r - at = omega (arith, e) in rw (getD-take, getD-drop) (p .inside (at + i) (omega (arith, w .high)));
-      },
-    )
+row-inside {cells = cells} {at = at} {r = r} p w = (
+  let e : length (part at r cells) ≡ r - at = part-length cells at r (omega (arith, w .high, p .room)) in omega (arith, e, w .low),
+  part-inside at r p (w .high),
+)
 
 -- a cell that nothing is loose before starts a row
 first-of : (text : Bytes) (c : ℕ) (cs : List ℕ) → grouped text (c ∷ cs) .loose ≡ [] → isFirst c ≡ true

@@ -1,6 +1,6 @@
 -- What `write_blif` answers, as a reviewer would read it. Assumes nothing.
 --   writing-refuses  which refusals writing answers
-use mathlib.Core.Path.{_≡_, sym, ap, _∙_}
+use mathlib.Core.Path.{_≡_}
 use mathlib.Core.Bool.{Bool, true, false, not}
 use Prim.Native.Nat.{ℕ}
 use native.Mathlib.Omega.{arith}
@@ -11,9 +11,8 @@ use Rattle.refusals.specs.declared.Refusal.the-variants as refusal
 use Rattle.network.specs.Cells.{Lent, isNetwork, netOf}
 use Rattle.blif_writing.specs.WrittenModel.{wide}
 use Rattle.blif_writing.specs.Text.{textOf}
-use Rattle.blif_write.specs.Into.{WriteOutcome, refusedText, writtenText, tooLong, writeInto}
-use Rattle.blif_write.specs.declared.WriteAnswer.{WriteAnswer}
-use Rattle.blif_write.specs.declared.WriteAnswer.the-variants.{Written, Refused}
+use Rattle.blif_write.specs.Into.{refusedText, writtenText, tooLong, writeInto}
+use Rattle.blif_write.specs.declared.WriteAnswer.the-variants.{Refused}
 
 -- "Writing refuses, in order: 20 .. 21 .. 22", and nothing else
 pub writing-refuses : (l : Lent) (n : ℕ) (r : Refusal) → writeInto l n .answer ≡ Refused r → InWriting r

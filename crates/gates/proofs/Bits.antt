@@ -1,14 +1,13 @@
 -- What forms make of bits, beside document 01's sentences: counts of ones, gates of no inputs, the multiplexer. Assumes nothing.
 use mathlib.Core.Path.{_≡_, refl, sym, ap, _∙_}
-use mathlib.Core.Bool.{Bool, true, false, not, _&&_, _||_, cond}
+use mathlib.Core.Bool.{Bool, true, false, not, _&&_, cond}
 use mathlib.Core.List.{List, [], _∷_}
-use Prim.Native.Nat.{ℕ, zero, suc, _+_, _%_, _≤_, _<_}
+use Prim.Native.Nat.{ℕ, zero, suc, _%_}
 use native.Mathlib.Omega.{arith}
 use lib.Dec.{eqb, leb, leb·suc-suc}
-use borrow.Author.Tests.{eq-eqb, ne-eqb, le-leb, lt-leb, eqb-true, eqb-false}
+use borrow.Author.Tests.{eq-eqb, ne-eqb, le-leb, eqb-true, eqb-false}
 use Rattle.lists.proofs.Tests.{by-test}
-use Rattle.signal.specs.Signal.{invertIf}
-use Rattle.gates.specs.Gate.{Form, And2, Xor2, And3, Xor3, Maj3, Mux3, AndN, OrN, NandN, NorN, XorN, XnorN, Buf, allOf, anyOf, odd, atLeastTwo, mux, formBit}
+use Rattle.gates.specs.Gate.{Maj3, Mux3, AndN, OrN, NandN, NorN, XorN, XnorN, anyOf, odd, mux, formBit}
 use Rattle.gates.specs.between.Gate.{ones}
 
 any-is : (bs : List Bool) → anyOf bs ≡ leb 1 (ones bs)

@@ -1,12 +1,11 @@
 -- Cells laid over others one after the other, and a list passed from its front on. Assumes nothing.
 use mathlib.Core.Path.{_≡_, refl, sym, ap, _∙_, subst}
 use mathlib.Core.List.{List, [], _∷_, _++_, append-assoc, append-nil}
-use Prim.Native.Nat.{ℕ, zero, suc, _+_, _≤_, _<_}
+use Prim.Native.Nat.{ℕ, zero, suc, _+_, _≤_}
 use native.Mathlib.Omega.{arith}
-use lib.ListN.{length, getD, drop, set, length-set}
+use lib.ListN.{length, set}
 use Rattle.lists.specs.between.Lists.{overwriteAt}
 use Rattle.lists.proofs.OverAt.{length-overwriteAt, overwriteAt-nil, overwrite-first, overwrite-append}
-use Rattle.lists.proofs.Places.{drop-next}
 
 -- one store lays one cell
 pub one-store : (k x : ℕ) (o : List ℕ) → set o k x ≡ overwriteAt k (x ∷ []) o

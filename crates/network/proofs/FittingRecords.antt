@@ -1,7 +1,7 @@
 -- Records that fit, one run of pins after the other, are the cells of the gates that they hold. Assumes nothing.
 use mathlib.Core.Path.{_≡_, refl, sym, ap, ap₂, _∙_}
 use mathlib.Core.Bool.{true}
-use mathlib.Core.List.{List, _∷_, _++_, map, append-nil, append-assoc, List·Memᴰ}
+use mathlib.Core.List.{List, _++_, map, append-nil, append-assoc, List·Memᴰ}
 use mathlib.Core.Option.{some}
 use Prim.Native.Nat.{ℕ, zero, suc, _+_, _*_, _^_, _≤_, _<_}
 use native.Mathlib.Omega.{arith}

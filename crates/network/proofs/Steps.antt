@@ -1,13 +1,13 @@
 -- What a flip-flop does at a clock, a law for each part of document 01's sentence: "a reset of one gives zero, else an enable of
 -- one takes the data, else the value is held". Assumes nothing.
-use mathlib.Core.Path.{_≡_, refl, sym, ap, ap₂, _∙_}
+use mathlib.Core.Path.{_≡_, ap, ap₂, _∙_}
 use mathlib.Core.Bool.{Bool, true, false, cond}
 use mathlib.Core.List.{List}
 use Prim.Native.Nat.{ℕ}
 use Rattle.signal.specs.Signal.{Signal}
-use Rattle.gates.specs.Gate.{Form, FlipFlop, Gate, Comb, Dff, formBit}
+use Rattle.gates.specs.Gate.{Form, FlipFlop, Comb, Dff}
 use Rattle.network.specs.Net.{Net, GateIs}
-use Rattle.network.specs.Clock.{Fits, Clock, sigBit, stepBit}
+use Rattle.network.specs.Clock.{Clock, sigBit}
 
 module _ {net : Net} {held next : ℕ → Bool} {row out : List Bool} (c : Clock net held row out next) where
   -- the bit that a signal has at this clock

@@ -22,7 +22,7 @@ use Rattle.blif_read.specs.Into.{Lengths, readInto}
 use Rattle.blif_read.proofs.Summary.{read-counts}
 use Rattle.blif_read.proofs.CellsRead.{read-decodes}
 use Rattle.blif_write.specs.Into.{writtenText, writeInto, WriteOutcome}
-use Rattle.round_trip.specs.Trip.{writtenLength, readAnswer, answerOf, TripOutcome, tripInto, RoundTripConditions, ReadsBack}
+use Rattle.round_trip.specs.Trip.{writtenLength, readAnswer, answerOf, tripInto, RoundTripConditions, ReadsBack}
 
 -- ---- the conditions are those of the theorem
 

@@ -12,7 +12,7 @@ use Rattle.blif_read.specs.declared.ReadAnswer.{ReadAnswer}
 use Rattle.blif_write.specs.Into.{writeInto, WriteOutcome, writeOutcome}
 use Rattle.blif_write.specs.declared.WriteAnswer.{WriteAnswer}
 use Rattle.blif_write.proofs.Answers.{Ways, refuses, writes, writer-ways}
-use Rattle.round_trip.specs.Trip.{writtenLength, answerOf, TripOutcome, tripOutcome, tripInto, ReadsBack}
+use Rattle.round_trip.specs.Trip.{writtenLength, answerOf, tripOutcome, tripInto, ReadsBack}
 use Rattle.round_trip.specs.between.Trip.{WritesThenReads}
 use Rattle.round_trip.specs.declared.TripAnswer.{TripAnswer}
 use Rattle.round_trip.proofs.Demand.{demand-three}

@@ -1,17 +1,15 @@
 -- Renumbering a cell is renumbering its signal. Assumes nothing.
 use mathlib.Core.Path.{_≡_, refl, sym, ap, ap₂, _∙_, subst}
-use mathlib.Core.Bool.{Bool, true, false, not, _&&_, cond, true≢false}
+use mathlib.Core.Bool.{Bool, true, false, true≢false}
 use mathlib.Core.List.{List}
 use Prim.Native.Nat.{ℕ, _≤_, _<_, _^_, _-_}
-use lib.Dec.{ltb}
 use lib.ListN.{length, getD}
 use borrow.Author.Tests.{lt-ltb, le-ltb}
-use Rattle.lists.proofs.Tests.{and-both, and-false}
+use Rattle.lists.proofs.Tests.{and-false}
 use Rattle.signal.specs.Signal.{Node, Const, Input, Var, Signal, plain, invertIf, xorS, remapNode, remap}
 use Rattle.signal.specs.between.Signal.{gateNode}
-use Rattle.signal.specs.Cell.{nodeCell, sigCell, nodeOf, sigOf}
+use Rattle.signal.specs.Cell.{sigCell, nodeOf, sigOf}
 use Rattle.signal.specs.between.Cell.{gateNumber, remapCell}
-use Rattle.signal.proofs.Cells.{Small}
 use Rattle.signal.proofs.Cells.{gate-number, signal-again, cell-again}
 
 module _ (t : List ℕ) (c : ℕ) where

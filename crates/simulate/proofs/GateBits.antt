@@ -12,7 +12,7 @@ use Rattle.signal.specs.Signal.{Signal}
 use Rattle.signal.specs.Cell.{sigOf}
 use Rattle.gates.specs.Gate.{Form, Buf, Gate, Comb, Dff, mux, formBit}
 use Rattle.gates.specs.between.Gate.{ones}
-use Rattle.gates.specs.Forms.{canHave, combFrom, flopFrom, gateFrom}
+use Rattle.gates.specs.Forms.{canHave, combFrom, flopFrom}
 use Rattle.gates.specs.between.Forms.{binaryForm, ternaryForm, naryForm, kindOf, kindTakes, gateOfKind}
 use Rattle.gates.specs.declared.BinaryType.{BinaryType}
 use Rattle.gates.specs.declared.BinaryType.the-variants as B

@@ -1,25 +1,21 @@
 -- The network that the cells hold, gate by gate. Assumes nothing.
 use mathlib.Core.Path.{_≡_, refl, sym, ap, _∙_, subst}
-use mathlib.Core.Bool.{Bool, true, _&&_, cond, false}
+use mathlib.Core.Bool.{false}
 use mathlib.Core.List.{List, map, []}
-use mathlib.Core.Option.{Option, none, some}
-use Prim.Native.Nat.{ℕ, zero, suc, _+_, _*_, _≤_, _<_}
+use mathlib.Core.Option.{some}
+use Prim.Native.Nat.{ℕ, zero, suc, _*_, _≤_, _<_}
 use native.Mathlib.Omega.{arith}
-use lib.Dec.{leb, ltb}
 use lib.ListN.{length, getElem?, take}
-use borrow.Author.Tests.{ltb-true, leb-true}
 use Rattle.lists.specs.Lists.{optional}
-use Rattle.lists.proofs.Tests.{by-test, and-left, and-right}
 use Rattle.signal.specs.Cell.{sigOf}
 use Rattle.gates.specs.Gate.{Gate, pins, isComb}
-use Rattle.gates.specs.Forms.{formCell, gateFrom}
 use Rattle.gates.specs.between.Forms.{kindOf}
 use Rattle.gates.specs.between.Decode.{kindComb}
 use Rattle.gates.proofs.Forms.{comb-number}
 use Rattle.network.proofs.GateRead.{has-run, gate-is, cell-gate, cell-count}
 use Rattle.network.specs.declared.Counts.{Counts}
 use Rattle.network.specs.Cells.{cellGates, lent, netOf}
-use Rattle.network.specs.Record.{gateWidth, formAt, firstAt, countAt, runAt, gateAt, pinCells}
+use Rattle.network.specs.Record.{gateWidth, runAt, gateAt, pinCells}
 use Rattle.network.specs.between.Record.{HasRun}
 use Rattle.sort_order.specs.Order.{Graph, useCount}
 use Rattle.sort_order.specs.Sorted.{gateNums, graph}

@@ -1,7 +1,6 @@
 -- What C's `refused` tells: 0 exactly on success, else a number of reading or of writing. Assumes nothing.
-use mathlib.Core.Path.{_≡_, refl, sym, ap, _∙_, subst}
+use mathlib.Core.Path.{_≡_, refl, sym, ap, _∙_}
 use mathlib.Core.Bool.{Bool, true, false, not}
-use mathlib.Core.List.{List}
 use Prim.Native.Nat.{ℕ}
 use native.Mathlib.Omega.{arith}
 use borrow.Author.Tests.{not-false}
@@ -11,7 +10,7 @@ use Rattle.refusals.specs.declared.Refusal.{Refusal}
 use Rattle.refusals.specs.declared.Refusal.the-variants as refusal
 use Rattle.refusals.proofs.Numbers.{number-pos}
 use Rattle.network.specs.Net.{Net}
-use Rattle.network.specs.Cells.{Lent, netOf, isNetwork, countsOf}
+use Rattle.network.specs.Cells.{Lent, netOf, isNetwork}
 use Rattle.blif_writing.specs.WrittenModel.{wide}
 use Rattle.blif_writing.specs.Text.{textOf}
 use Rattle.blif_reading.specs.Read.{Result, read, refused, readText}

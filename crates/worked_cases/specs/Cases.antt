@@ -1,6 +1,6 @@
 -- Document 01's "Netlists worked by hand", K1 to K13, as one table: what each text reads as and each network is written as.
 -- `proofs/Cases.antt` is the one proof over it. Assumes nothing: these are definitions.
-use mathlib.Core.Bool.{Bool, true, false}
+use mathlib.Core.Bool.{true, false}
 use mathlib.Core.List.{List, [], _∷_}
 use Rattle.lists.specs.Lists.{bytes}
 use Rattle.signal.specs.Signal.{Input, Var, Signal, plain, zeroS, oneS, invert}

@@ -22,7 +22,7 @@ use Rattle.blif_text.specs.between.Places.{maxTokens}
 use Rattle.blif_text.specs.Lines.{maxText}
 use Rattle.blif_text.specs.between.Walk.{stmtsFrom, StmtsAt}
 use Rattle.blif_text.specs.between.Blocks.{Blocks, defsAt}
-use Rattle.blif_reading.specs.Read.{tooLarge, naming, undefined, coverFaults, declFault, readFault, Result, read, refused, signalOf, readText}
+use Rattle.blif_reading.specs.Read.{tooLarge, naming, undefined, coverFaults, declFault, readFault, Result, read, refused, signalOf}
 use Rattle.blif_reading.specs.between.Working.{GatesIn, placed, placedCount}
 use Rattle.blif_read_names.specs.between.Tables.{Named, Tables}
 use Rattle.blif_read.specs.declared.ReadAnswer.{ReadAnswer}

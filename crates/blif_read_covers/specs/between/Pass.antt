@@ -4,7 +4,7 @@ use mathlib.Core.Bool.{Bool, true, false, _&&_}
 use mathlib.Core.List.{[], _∷_}
 use Prim.Native.Nat.{ℕ, zero, suc}
 use lib.Dec.{eqb, ltb}
-use Rattle.lists.specs.Lists.{if_then_else_, Bytes, same, elem}
+use Rattle.lists.specs.Lists.{if_then_else_, Bytes, same}
 use Rattle.blif_read_covers.specs.declared.Output.{Output}
 use Rattle.blif_read_covers.specs.declared.Output.the-variants.{Zero, One, Wrong}
 use Rattle.blif_read_covers.specs.declared.Outputs.{Outputs}

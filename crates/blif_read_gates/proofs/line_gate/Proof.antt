@@ -1,7 +1,6 @@
 -- `line_gate` goes by the number of literals and the output. Assumes nothing.
 use mathlib.Core.Path.{sym, ap, _∙_}
 use mathlib.Core.Bool.{Bool, true, false}
-use native.Mathlib.Omega.{arith}
 use lib.ListN.{take, drop}
 use borrow.Author.Needs.{needs}
 use Rattle.blif_read_gates.specs.between.Steps.{lineInHand}

@@ -1,5 +1,5 @@
 -- "A search through earlier definitions" (document 01, "Rust forms to reshape": `HashMap`). Assumes nothing: these are definitions.
-use mathlib.Core.Bool.{Bool, cond}
+use mathlib.Core.Bool.{cond}
 use mathlib.Core.List.{List, [], _∷_}
 use Prim.Native.Nat.{ℕ}
 use Rattle.lists.specs.Lists.{Bytes, same}

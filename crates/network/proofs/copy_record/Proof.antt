@@ -1,7 +1,4 @@
 -- `copy_record` copies the cells of a record and changes its first pin. Assumes nothing.
-use mathlib.Core.Path.{_∙_}
-use Prim.Native.Nat.{_*_}
-use native.Mathlib.Omega.{arith}
 use Rattle.network.proofs.LaidGates.{copied}
 use borrow.Author.Needs.{needs}
 use Rattle.network.proofs.copy_record.Statement.{statement}

@@ -7,7 +7,7 @@ use Prim.Native.Nat.{ℕ, zero, suc, _+_, _-_, _*_, _≤_, _<_}
 use lib.Dec.{eqb, ltb}
 use lib.ListN.{length, getD, getElem?, take, drop, set}
 use Rattle.gates.specs.Gate.{Gate, pins, isComb}
-use Rattle.lists.specs.Lists.{occ, sumTo, overwrite, optional}
+use Rattle.lists.specs.Lists.{occ, overwrite, optional}
 use Rattle.lists.specs.between.Lists.{overwriteAt}
 use Rattle.signal.specs.between.Signal.{gateNode}
 use Rattle.signal.specs.Cell.{nodeOf}
@@ -16,7 +16,7 @@ use Rattle.gates.specs.between.Forms.{kindOf}
 use Rattle.gates.specs.between.Decode.{kindComb}
 use Rattle.network.specs.Cells.{cellGates}
 use Rattle.network.specs.Sizes.{maxGates, maxPins}
-use Rattle.network.specs.Record.{gateWidth, formAt, firstAt, countAt, runAt}
+use Rattle.network.specs.Record.{gateWidth, formAt, runAt}
 use Rattle.network.specs.between.Record.{recordAt, withFirst, RecordIn, HasRun}
 use Rattle.sort_order.specs.Order.{Graph, uses, useCount, countsAfter, stackAfter, flopsTo, startTo, recorded}
 use Rattle.sort_order.specs.Sorted.{nodeGate, gateNums}

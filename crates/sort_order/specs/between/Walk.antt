@@ -1,11 +1,11 @@
 -- What holds while the sort walks: counts, the stack and what is recorded. Assumes nothing: these are definitions.
 use mathlib.Core.Path.{_≡_}
-use mathlib.Core.Bool.{true, cond}
-use mathlib.Core.List.{List, [], _∷_, _++_}
-use Prim.Native.Nat.{ℕ, zero, suc, _+_, _-_, _*_, _≤_, _<_}
+use mathlib.Core.Bool.{true}
+use mathlib.Core.List.{List, [], _∷_}
+use Prim.Native.Nat.{ℕ, zero, suc, _+_, _-_, _≤_, _<_}
 use lib.ListN.{length, getD}
 use Rattle.lists.specs.Lists.{occ, sumTo}
-use Rattle.sort_order.specs.Order.{Graph, uses, useCount}
+use Rattle.sort_order.specs.Order.{Graph, uses}
 
 -- every gate input of a gate is a gate
 abbrev pub ValidGraph : Graph → Type 0

@@ -1,7 +1,5 @@
 -- `remap_order`: the two early returns keep the signal, the last takes the new one. Assumes nothing.
-use mathlib.Core.Path.{sym, _∙_, subst}
-use Prim.Native.Nat.{ℕ, _≤_}
-use lib.ListN.{length}
+use mathlib.Core.Path.{sym, _∙_}
 use borrow.Author.Needs.{needs}
 use borrow.Author.Tests.{not-true, not-false}
 use Rattle.signal.proofs.Remap.{remap-other, remap-past, remap-gate}
