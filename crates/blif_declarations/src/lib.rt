@@ -84,7 +84,9 @@ fn cover_lines(text: &[u8], tokens: &[u32], at: usize) -> Lines
 // What a row declares that is no cube line, a cover with its lines; nothing is left behind `.exdc`.
 fn declared_by(text: &[u8], tokens: &[u32], row: Row) -> Next
     requires { ⌜ StmtsAt (now text) (now tokens) (length (now tokens)) (row .end) ⌝ }
-    ensures { λ r. ⌜ Declares (now (text .entry)) (now (tokens .entry)) (length (now (tokens .entry))) (row .statement) (row .end) (r .declaration) (r .at) ⌝ }
+    ensures { λ r.
+        ⌜ Declares (now (text .entry)) (now (tokens .entry)) (length (now (tokens .entry))) (row .statement) (row .end) (r .declaration)
+        (r .at) ⌝ }
 {
     let statement = row.statement;
     let mut at = row.end;

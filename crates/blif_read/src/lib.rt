@@ -95,7 +95,9 @@ fn read_built(
 ) -> ReadAnswer
     requires { ⌜ Enough (now gates) (now pins) (now outputs) (now «work_gates») (now «work_pins») ⌝ }
     requires { ⌜ marked .tokens ≤ length (now pins) ⌝ }
-    requires { ⌜ Placing (now text) (take (marked .tokens) (now pins)) (now gates) (marked .inputs) (marked .gates) (marked .outputs) (now «work_gates») (now «work_pins») (now outputs) used × (readFault (now text) ≡ Fine) ⌝ }
+    requires { ⌜ Placing (now text) (take (marked .tokens) (now pins)) (now gates) (marked .inputs) (marked .gates) (marked .outputs)
+        (now «work_gates») (now «work_pins») (now outputs) used
+        × (readFault (now text) ≡ Fine) ⌝ }
     ensures { λ r. ⌜ Holds (readText (now (text .entry))) r (now (gates .exit)) (now (pins .exit)) (now (outputs .exit)) ⌝ }
 {
     let n = marked.tokens;
@@ -131,7 +133,8 @@ fn read_covers(
 ) -> ReadAnswer
     requires { ⌜ Enough (now gates) (now pins) (now outputs) (now «work_gates») (now «work_pins») ⌝ }
     requires { ⌜ marked .tokens ≤ length (now pins) ⌝ }
-    requires { ⌜ Placing (now text) (take (marked .tokens) (now pins)) (now gates) (marked .inputs) (marked .gates) (marked .outputs) (now «work_gates») (now «work_pins») (now outputs) used ⌝ }
+    requires { ⌜ Placing (now text) (take (marked .tokens) (now pins)) (now gates) (marked .inputs) (marked .gates) (marked .outputs)
+        (now «work_gates») (now «work_pins») (now outputs) used ⌝ }
     ensures { λ r. ⌜ Holds (readText (now (text .entry))) r (now (gates .exit)) (now (pins .exit)) (now (outputs .exit)) ⌝ }
 {
     let n = marked.tokens;
@@ -164,7 +167,8 @@ fn read_blocks(
 ) -> ReadAnswer
     requires { ⌜ Enough (now gates) (now pins) (now outputs) (now «work_gates») (now «work_pins») ⌝ }
     requires { ⌜ marked .tokens ≤ length (now pins) ⌝ }
-    requires { ⌜ Resolving (now text) (take (marked .tokens) (now pins)) (now index) (now outputs) (now gates) (marked .inputs) (marked .gates) (marked .outputs) ⌝ }
+    requires { ⌜ Resolving (now text) (take (marked .tokens) (now pins)) (now index) (now outputs) (now gates) (marked .inputs) (marked .gates)
+        (marked .outputs) ⌝ }
     ensures { λ r. ⌜ Holds (readText (now (text .entry))) r (now (gates .exit)) (now (pins .exit)) (now (outputs .exit)) ⌝ }
 {
     let n = marked.tokens;
@@ -198,7 +202,8 @@ fn read_outputs(
 ) -> ReadAnswer
     requires { ⌜ Enough (now gates) (now pins) (now outputs) (now «work_gates») (now «work_pins») ⌝ }
     requires { ⌜ marked .tokens ≤ length (now pins) ⌝ }
-    requires { ⌜ Defining (now text) (take (marked .tokens) (now pins)) (now index) (now «work_pins») (now gates) (marked .inputs) (marked .gates) (marked .outputs) ⌝ }
+    requires { ⌜ Defining (now text) (take (marked .tokens) (now pins)) (now index) (now «work_pins») (now gates) (marked .inputs)
+        (marked .gates) (marked .outputs) ⌝ }
     ensures { λ r. ⌜ Holds (readText (now (text .entry))) r (now (gates .exit)) (now (pins .exit)) (now (outputs .exit)) ⌝ }
 {
     let o = marked.outputs;
@@ -311,7 +316,10 @@ fn read_cells(
     work_gates: &mut [u32],
     work_pins: &mut [u32],
 ) -> ReadAnswer
-    ensures { λ r. ⌜ Holds (answered (now (text .entry)) (lengths (length (now (gates .entry))) (length (now (pins .entry))) (length (now (outputs .entry))) (length (now («work_gates» .entry))) (length (now («work_pins» .entry))))) r (now (gates .exit)) (now (pins .exit)) (now (outputs .exit)) ⌝ }
+    ensures { λ r.
+        let n = lengths (length (now (gates .entry))) (length (now (pins .entry))) (length (now (outputs .entry)))
+        (length (now («work_gates» .entry))) (length (now («work_pins» .entry))) in
+        ⌜ Holds (answered (now (text .entry)) n) r (now (gates .exit)) (now (pins .exit)) (now (outputs .exit)) ⌝ }
 {
     if !enough_cells(
         gates.len(),
@@ -358,7 +366,11 @@ pub fn read_blif(
     work_gates: &mut [u32],
     work_pins: &mut [u32],
 ) -> ReadAnswer
-    ensures { λ r. ⌜ readOutcome r (now (gates .exit)) (now (pins .exit)) (now (outputs .exit)) (now («work_gates» .exit)) (now («work_pins» .exit)) ≡ readInto (now (text .entry)) (lengths (length (now (gates .entry))) (length (now (pins .entry))) (length (now (outputs .entry))) (length (now («work_gates» .entry))) (length (now («work_pins» .entry)))) ⌝ }
+    ensures { λ r.
+        let n = lengths (length (now (gates .entry))) (length (now (pins .entry))) (length (now (outputs .entry)))
+        (length (now («work_gates» .entry))) (length (now («work_pins» .entry))) in
+        ⌜ readOutcome r (now (gates .exit)) (now (pins .exit)) (now (outputs .exit)) (now («work_gates» .exit)) (now («work_pins» .exit))
+        ≡ readInto (now (text .entry)) n ⌝ }
 {
     let answer = read_cells(text, gates, pins, outputs, work_gates, work_pins);
     let counts = counts_of(answer);

@@ -61,7 +61,9 @@ fn sources_at(gates: &[u32], j: usize) -> Sources
 // Writes the literal of a column, none for a dash. Answers how many are written.
 fn write_literal(column: u8, source: u32, pins: &mut [u32], at: usize) -> usize
     requires { ⌜ at < length (now pins) ⌝ }
-    ensures { λ r. ⌜ (now (pins .exit) ≡ overwriteAt at (columnCells column source) (now (pins .entry))) × (r ≡ length (columnCells column source)) ⌝ }
+    ensures { λ r.
+        ⌜ (now (pins .exit) ≡ overwriteAt at (columnCells column source) (now (pins .entry)))
+        × (r ≡ length (columnCells column source)) ⌝ }
 {
     if column == b'0' {
         pins[at] = Signal { a: source }.not().raw();
@@ -77,7 +79,9 @@ fn write_literal(column: u8, source: u32, pins: &mut [u32], at: usize) -> usize
 // Writes the literals of a line from pin at on; its sources are the pins from source on. Answers how many are written.
 fn write_literals(columns: &[u8], pins: &mut [u32], source: usize, at: usize) -> usize
     requires { ⌜ (source + length (now columns) ≤ at) × (at + length (now columns) ≤ length (now pins)) ⌝ }
-    ensures { λ r. ⌜ (now (pins .exit) ≡ overwriteAt at (literalsAt (now (columns .entry)) source (now (pins .entry))) (now (pins .entry))) × (r ≡ length (literalsAt (now (columns .entry)) source (now (pins .entry)))) ⌝ }
+    ensures { λ r.
+        ⌜ (now (pins .exit) ≡ overwriteAt at (literalsAt (now (columns .entry)) source (now (pins .entry))) (now (pins .entry)))
+        × (r ≡ length (literalsAt (now (columns .entry)) source (now (pins .entry)))) ⌝ }
 {
     let mut m = 0;
     let mut i = 0;
@@ -143,7 +147,9 @@ fn put_line(
     at: usize,
 ) -> usize
     requires { ⌜ LineRoom (length (now columns)) source at h (now gates) (now pins) ⌝ }
-    ensures { λ r. ⌜ LinePut (now (columns .entry)) one source at h (now (gates .entry)) (now (pins .entry)) (now (gates .exit)) (now (pins .exit)) r ⌝ }
+    ensures { λ r.
+        ⌜ LinePut (now (columns .entry)) one source at h (now (gates .entry)) (now (pins .entry))
+        (now (gates .exit)) (now (pins .exit)) r ⌝ }
 {
     let count = write_literals(columns, pins, source, at);
     let gate = line_gate(count, pins, at, one);
@@ -170,7 +176,10 @@ fn put_row(
 ) -> usize
     requires { ⌜ GoodRow (now text) (now row) (sources .count) ⌝ }
     requires { ⌜ LineRoom (sources .count) (sources .first) at h (now gates) (now pins) ⌝ }
-    ensures { λ r. ⌜ LinePut (columns (tokensOf (now (text .entry)) (now (row .entry)))) (isOne (tokensOf (now (text .entry)) (now (row .entry)))) (sources .first) at h (now (gates .entry)) (now (pins .entry)) (now (gates .exit)) (now (pins .exit)) r ⌝ }
+    ensures { λ r.
+        ⌜ LinePut (columns (tokensOf (now (text .entry)) (now (row .entry)))) (isOne (tokensOf (now (text .entry)) (now (row .entry))))
+        (sources .first) at h (now (gates .entry)) (now (pins .entry))
+        (now (gates .exit)) (now (pins .exit)) r ⌝ }
 {
     let columns = line_columns(text, row);
     let one = is_one(text, row);
@@ -201,7 +210,11 @@ fn build_lines(
 ) -> usize
     requires { ⌜ GoodRows (now text) (now tokens) (length (now tokens)) (lines .row) (lines .count) (sources .count) ⌝ }
     requires { ⌜ LinesRoom (sources .count) (lines .count) (sources .first) (built .pins) (built .gates) (now gates) (now pins) ⌝ }
-    ensures { λ r. ⌜ LinesPut (take (lines .count) (rowsFrom (now (text .entry)) (now (tokens .entry)) (length (now (tokens .entry))) (lines .row))) (sources .count) (sources .first) (built .pins) (built .gates) (now (gates .entry)) (now (pins .entry)) (now (gates .exit)) (now (pins .exit)) r ⌝ }
+    ensures { λ r.
+        ⌜ LinesPut
+        (take (lines .count) (rowsFrom (now (text .entry)) (now (tokens .entry)) (length (now (tokens .entry))) (lines .row)))
+        (sources .count) (sources .first) (built .pins) (built .gates) (now (gates .entry)) (now (pins .entry))
+        (now (gates .exit)) (now (pins .exit)) r ⌝ }
 {
     let mut row = lines.row;
     let mut at = built.pins;
@@ -228,7 +241,11 @@ fn join_lines(
 ) -> usize
     requires { ⌜ (1 < lines .count) × GoodRows (now text) (now tokens) (length (now tokens)) (lines .row) (lines .count) (countAt (now gates) j) ⌝ }
     requires { ⌜ CoverRoom (lines .count) j (built .gates) (built .pins) (now gates) (now pins) ⌝ }
-    ensures { λ r. ⌜ CoverBuilt (take (lines .count) (rowsFrom (now (text .entry)) (now (tokens .entry)) (length (now (tokens .entry))) (lines .row))) j (built .gates) (built .pins) (now (gates .entry)) (now (pins .entry)) (now (gates .exit)) (now (pins .exit)) r ⌝ }
+    ensures { λ r.
+        ⌜ CoverBuilt
+        (take (lines .count) (rowsFrom (now (text .entry)) (now (tokens .entry)) (length (now (tokens .entry))) (lines .row))) j
+        (built .gates) (built .pins) (now (gates .entry)) (now (pins .entry))
+        (now (gates .exit)) (now (pins .exit)) r ⌝ }
 {
     let sources = sources_at(gates, j);
     let row = lines.row;
@@ -257,7 +274,11 @@ fn build_cover(
 ) -> usize
     requires { ⌜ GoodRows (now text) (now tokens) (length (now tokens)) (lines .row) (lines .count) (countAt (now gates) j) ⌝ }
     requires { ⌜ CoverRoom (lines .count) j (built .gates) (built .pins) (now gates) (now pins) ⌝ }
-    ensures { λ r. ⌜ CoverBuilt (take (lines .count) (rowsFrom (now (text .entry)) (now (tokens .entry)) (length (now (tokens .entry))) (lines .row))) j (built .gates) (built .pins) (now (gates .entry)) (now (pins .entry)) (now (gates .exit)) (now (pins .exit)) r ⌝ }
+    ensures { λ r.
+        ⌜ CoverBuilt
+        (take (lines .count) (rowsFrom (now (text .entry)) (now (tokens .entry)) (length (now (tokens .entry))) (lines .row))) j
+        (built .gates) (built .pins) (now (gates .entry)) (now (pins .entry))
+        (now (gates .exit)) (now (pins .exit)) r ⌝ }
 {
     if lines.count == 0 {
         return lay_gate(gates, j, pins, built.pins, Gate::Buf(Signal::zero()));
@@ -293,8 +314,12 @@ fn build_block(
     built: Built,
 ) -> Built
     requires { ⌜ Blocks (now text) (now tokens) (length (now tokens)) (now blocks) (j + 1) ⌝ }
-    requires { ⌜ BlockRoom (defAt (now text) (now tokens) (length (now tokens)) (now blocks) j) j (built .gates) (built .pins) (now gates) (now pins) ⌝ }
-    ensures { λ r. ⌜ BlockBuilt (defAt (now (text .entry)) (now (tokens .entry)) (length (now (tokens .entry))) (now (blocks .entry)) j) j (built .gates) (built .pins) (now (gates .entry)) (now (pins .entry)) (now (gates .exit)) (now (pins .exit)) (r .gates) (r .pins) ⌝ }
+    requires { ⌜ BlockRoom (defAt (now text) (now tokens) (length (now tokens)) (now blocks) j) j (built .gates) (built .pins) (now gates)
+        (now pins) ⌝ }
+    ensures { λ r.
+        ⌜ BlockBuilt (defAt (now (text .entry)) (now (tokens .entry)) (length (now (tokens .entry))) (now (blocks .entry)) j) j
+        (built .gates) (built .pins) (now (gates .entry)) (now (pins .entry))
+        (now (gates .exit)) (now (pins .exit)) (r .gates) (r .pins) ⌝ }
 {
     let block = block_at(blocks, j);
     if block.names == 0 {
@@ -321,7 +346,10 @@ pub fn build_covers(
 ) -> Built
     requires { ⌜ Blocks (now text) (now tokens) (length (now tokens)) (now blocks) g ⌝ }
     requires { ⌜ Buildable (defsAt (now text) (now tokens) (length (now tokens)) (now blocks) g) (now gates) (now pins) used ⌝ }
-    ensures { λ r. ⌜ BuiltBy (defsAt (now (text .entry)) (now (tokens .entry)) (length (now (tokens .entry))) (now (blocks .entry)) g) (now (gates .entry)) (now (pins .entry)) used (now (gates .exit)) (now (pins .exit)) r ⌝ }
+    ensures { λ r.
+        ⌜ BuiltBy (defsAt (now (text .entry)) (now (tokens .entry)) (length (now (tokens .entry))) (now (blocks .entry)) g)
+        (now (gates .entry)) (now (pins .entry)) used
+        (now (gates .exit)) (now (pins .exit)) r ⌝ }
 {
     let mut built = Built {
         gates: g,

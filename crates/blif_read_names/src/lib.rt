@@ -69,7 +69,9 @@ fn step_of(checked: Checked, next: Walk) -> Step
 // Enters names as inputs behind so many others, unless one is defined twice.
 fn enter_inputs(text: &[u8], names: &[u32], index: &mut [u32], inputs: usize) -> Checked
     requires { ⌜ InputsFit (now text) (now names) (now index) inputs ⌝ }
-    ensures { λ r. ⌜ InputsEntered (now (text .entry)) (now (names .entry)) (now (index .entry)) (entryCount (now (index .entry))) inputs (now (index .exit)) r ⌝ }
+    ensures { λ r.
+        ⌜ InputsEntered (now (text .entry)) (now (names .entry)) (now (index .entry)) (entryCount (now (index .entry))) inputs
+        (now (index .exit)) r ⌝ }
 {
     let mut j = 0;
     while j < names.len() {
@@ -85,7 +87,9 @@ fn enter_inputs(text: &[u8], names: &[u32], index: &mut [u32], inputs: usize) ->
 // Copies names behind those of so many outputs.
 fn copy_outputs(names: &[u32], out_names: &mut [u32], outputs: usize)
     requires { ⌜ outputs + length (now names) ≤ length (now «out_names») ⌝ }
-    ensures { λ _. ⌜ take (outputs + length (now (names .entry))) (now («out_names» .exit)) ≡ take outputs (now («out_names» .entry)) ++ now (names .entry) ⌝ }
+    ensures { λ _.
+        ⌜ take (outputs + length (now (names .entry))) (now («out_names» .exit))
+        ≡ take outputs (now («out_names» .entry)) ++ now (names .entry) ⌝ }
 {
     let mut j = 0;
     while j < names.len() {
@@ -104,7 +108,10 @@ fn define_gate(
     block: Block,
 ) -> Checked
     requires { ⌜ GateFits (now text) (now index) gates cell block (now blocks) ⌝ }
-    ensures { λ r. ⌜ GateDefined (now (text .entry)) (now (index .entry)) (entryCount (now (index .entry))) gates (tokenOf (now (text .entry)) cell) block (now (blocks .entry)) (now (index .exit)) (now (blocks .exit)) r ⌝ }
+    ensures { λ r.
+        ⌜ GateDefined (now (text .entry)) (now (index .entry)) (entryCount (now (index .entry))) gates
+        (tokenOf (now (text .entry)) cell) block (now (blocks .entry))
+        (now (index .exit)) (now (blocks .exit)) r ⌝ }
 {
     let signal = Signal::from_var(gates as u32);
     if !enter_name(text, index, cell, signal.a) {
@@ -124,7 +131,10 @@ fn define_last(
     block: Block,
 ) -> Checked
     requires { ⌜ CoverFits (now text) (now tokens) (now index) gates (block .first) (block .names) (now blocks) × (block .lines ≤ maxTokens) ⌝ }
-    ensures { λ r. ⌜ CoverDefined (now (text .entry)) (now (tokens .entry)) (now (index .entry)) (entryCount (now (index .entry))) gates block (now (blocks .entry)) (now (index .exit)) (now (blocks .exit)) r ⌝ }
+    ensures { λ r.
+        ⌜ CoverDefined (now (text .entry)) (now (tokens .entry)) (now (index .entry)) (entryCount (now (index .entry))) gates block
+        (now (blocks .entry))
+        (now (index .exit)) (now (blocks .exit)) r ⌝ }
 {
     if block.names == 0 {
         return Checked::Refused(Refusal::NamesEmpty);
@@ -143,7 +153,9 @@ fn define_latch(
     first: usize,
 ) -> Step
     requires { ⌜ LatchFits (now text) (now tokens) (now index) (now blocks) w first ⌝ }
-    ensures { λ r. ⌜ LatchStep (now (text .entry)) (now (tokens .entry)) (now (index .entry)) (now (blocks .entry)) (now (index .exit)) (now (blocks .exit)) w first r ⌝ }
+    ensures { λ r.
+        ⌜ LatchStep (now (text .entry)) (now (tokens .entry)) (now (index .entry)) (now (blocks .entry))
+        (now (index .exit)) (now (blocks .exit)) w first r ⌝ }
 {
     let block = Block {
         first,
@@ -167,7 +179,9 @@ fn define_cover(
     block: Block,
 ) -> Step
     requires { ⌜ CoverFits (now text) (now tokens) (now index) (w .gates) (block .first) (block .names) (now blocks) × (block .lines ≤ maxTokens) ⌝ }
-    ensures { λ r. ⌜ CoverStep (now (text .entry)) (now (tokens .entry)) (now (index .entry)) (now (blocks .entry)) (now (index .exit)) (now (blocks .exit)) w block r ⌝ }
+    ensures { λ r.
+        ⌜ CoverStep (now (text .entry)) (now (tokens .entry)) (now (index .entry)) (now (blocks .entry))
+        (now (index .exit)) (now (blocks .exit)) w block r ⌝ }
 {
     let mut next = w;
     next.gates += 1;
@@ -185,9 +199,12 @@ fn define_declaration(
     w: Walk,
     next: Next,
 ) -> Step
-    requires { ⌜ NamingSoFar (now text) (now tokens) (length (now tokens)) (now index) (now «out_names») (now blocks) w × (w .at < length (now tokens)) ⌝ }
+    requires { ⌜ NamingSoFar (now text) (now tokens) (length (now tokens)) (now index) (now «out_names») (now blocks) w
+        × (w .at < length (now tokens)) ⌝ }
     requires { ⌜ NextIs (now text) (now tokens) (length (now tokens)) (w .at) (next .declaration) (next .at) ⌝ }
-    ensures { λ r. ⌜ Steps (now (text .entry)) (now (tokens .entry)) (length (now (tokens .entry))) (now (index .exit)) (now («out_names» .exit)) (now (blocks .exit)) w r ⌝ }
+    ensures { λ r.
+        ⌜ Steps (now (text .entry)) (now (tokens .entry)) (length (now (tokens .entry)))
+        (now (index .exit)) (now («out_names» .exit)) (now (blocks .exit)) w r ⌝ }
 {
     let declaration = next.declaration;
     let mut after = w;
@@ -229,7 +246,10 @@ pub fn build_name_to_sig(
     requires { ⌜ StmtsAt (now text) (now tokens) (length (now tokens)) 0 × (length (now tokens) ≤ maxTokens) ⌝ }
     requires { ⌜ tooLarge (decls (stmtsFrom (now text) (now tokens) (length (now tokens)) 0)) ≡ false ⌝ }
     requires { ⌜ (now index ≡ zeros indexCells) × (maxOutputs ≤ length (now «out_names»)) × (maxGates * blockWidth ≤ length (now blocks)) ⌝ }
-    ensures { λ r. ⌜ DefinedBy (decls (stmtsFrom (now (text .entry)) (now (tokens .entry)) (length (now (tokens .entry))) 0)) (now (text .entry)) (now (tokens .entry)) (length (now (tokens .entry))) (now (index .exit)) (now («out_names» .exit)) (now (blocks .exit)) r ⌝ }
+    ensures { λ r.
+        ⌜ DefinedBy (decls (stmtsFrom (now (text .entry)) (now (tokens .entry)) (length (now (tokens .entry))) 0)) (now (text .entry))
+        (now (tokens .entry)) (length (now (tokens .entry)))
+        (now (index .exit)) (now («out_names» .exit)) (now (blocks .exit)) r ⌝ }
 {
     let mut w = Walk {
         at: 0,

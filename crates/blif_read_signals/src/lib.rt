@@ -35,7 +35,10 @@ pub enum Placed {
 pub fn resolve_names(text: &[u8], index: &[u32], names: &[u32], signals: &mut [u32]) -> bool
     requires { ⌜ Index (now text) (now index) (entryCount (now index)) ⌝ }
     requires { ⌜ Inside (now text) (now names) (length (now names)) × (length (now names) ≤ length (now signals)) ⌝ }
-    ensures { λ r. ⌜ Resolved (map (signalIn (entriesOf (now (text .entry)) (now (index .entry)) (entryCount (now (index .entry))))) (tokensOf (now (text .entry)) (now (names .entry)))) (now (signals .entry)) (now (signals .exit)) r ⌝ }
+    ensures { λ r.
+        ⌜ Resolved (map (signalIn (entriesOf (now (text .entry)) (now (index .entry)) (entryCount (now (index .entry)))))
+        (tokensOf (now (text .entry)) (now (names .entry)))) (now (signals .entry))
+        (now (signals .exit)) r ⌝ }
 {
     let mut i = 0;
     while i < names.len() {
@@ -114,7 +117,11 @@ fn place_block(
 ) -> Placed
     requires { ⌜ Index (now text) (now index) (entryCount (now index)) × Blocks (now text) (now tokens) (length (now tokens)) (now blocks) (j + 1) ⌝ }
     requires { ⌜ GateRoom (now gates) (now pins) j at (placedCount (defAt (now text) (now tokens) (length (now tokens)) (now blocks) j)) ⌝ }
-    ensures { λ r. ⌜ DefPlaced (signalIn (entriesOf (now (text .entry)) (now (index .entry)) (entryCount (now (index .entry))))) (defAt (now (text .entry)) (now (tokens .entry)) (length (now (tokens .entry))) (now (blocks .entry)) j) j at (now (gates .entry)) (now (pins .entry)) (now (gates .exit)) (now (pins .exit)) r ⌝ }
+    ensures { λ r.
+        ⌜ DefPlaced (signalIn (entriesOf (now (text .entry)) (now (index .entry)) (entryCount (now (index .entry)))))
+        (defAt (now (text .entry)) (now (tokens .entry)) (length (now (tokens .entry))) (now (blocks .entry)) j) j at
+        (now (gates .entry)) (now (pins .entry))
+        (now (gates .exit)) (now (pins .exit)) r ⌝ }
 {
     let block = block_at(blocks, j);
     if block.names == 0 {
@@ -136,8 +143,12 @@ pub fn place_gates(
     pins: &mut [u32],
 ) -> Placed
     requires { ⌜ Index (now text) (now index) (entryCount (now index)) × Blocks (now text) (now tokens) (length (now tokens)) (now blocks) g ⌝ }
-    requires { ⌜ WorkRoom (now gates) (now pins) × (g ≤ maxGates) × (sumOf placedCount (defsAt (now text) (now tokens) (length (now tokens)) (now blocks) g) ≤ maxPins) ⌝ }
-    ensures { λ r. ⌜ PlacedBy (signalIn (entriesOf (now (text .entry)) (now (index .entry)) (entryCount (now (index .entry))))) (defsAt (now (text .entry)) (now (tokens .entry)) (length (now (tokens .entry))) (now (blocks .entry)) g) (now (gates .exit)) (now (pins .exit)) r ⌝ }
+    requires { ⌜ WorkRoom (now gates) (now pins) × (g ≤ maxGates)
+        × (sumOf placedCount (defsAt (now text) (now tokens) (length (now tokens)) (now blocks) g) ≤ maxPins) ⌝ }
+    ensures { λ r.
+        ⌜ PlacedBy (signalIn (entriesOf (now (text .entry)) (now (index .entry)) (entryCount (now (index .entry)))))
+        (defsAt (now (text .entry)) (now (tokens .entry)) (length (now (tokens .entry))) (now (blocks .entry)) g)
+        (now (gates .exit)) (now (pins .exit)) r ⌝ }
 {
     let mut at = 0;
     let mut j = 0;

@@ -265,7 +265,9 @@ fn put_word(cells: &mut [u32], w: Marks, end: usize, next: usize) -> Marks
 // Marks the word at w. A backslash that ends the line is no part of it, and the statement goes on in the next line.
 fn mark_word(text: &[u8], cells: &mut [u32], w: Marks) -> Marks
     requires { ⌜ ScanAt (now text) (now cells) (w .at) (w .count) × (w .at < length (now text)) × (endsWord (getD (now text) (w .at) 0) ≡ false) ⌝ }
-    ensures { λ r. ⌜ Scanned (now (text .entry)) (now (cells .entry)) (w .at) (w .count) (w .fresh) (now (cells .exit)) (r .at) (r .count) (r .fresh) ⌝ }
+    ensures { λ r.
+        ⌜ Scanned (now (text .entry)) (now (cells .entry)) (w .at) (w .count) (w .fresh)
+        (now (cells .exit)) (r .at) (r .count) (r .fresh) ⌝ }
     ensures { λ r. ⌜ w .at < r .at ⌝ }
 {
     let at = w.at;
@@ -290,7 +292,9 @@ fn mark_word(text: &[u8], cells: &mut [u32], w: Marks) -> Marks
 // One step of the scan: a word, a comment with its line's end, a line's end, or another blank with the spaces behind it.
 fn mark_step(text: &[u8], cells: &mut [u32], w: Marks) -> Marks
     requires { ⌜ ScanAt (now text) (now cells) (w .at) (w .count) × (w .at < length (now text)) ⌝ }
-    ensures { λ r. ⌜ Scanned (now (text .entry)) (now (cells .entry)) (w .at) (w .count) (w .fresh) (now (cells .exit)) (r .at) (r .count) (r .fresh) ⌝ }
+    ensures { λ r.
+        ⌜ Scanned (now (text .entry)) (now (cells .entry)) (w .at) (w .count) (w .fresh)
+        (now (cells .exit)) (r .at) (r .count) (r .fresh) ⌝ }
     ensures { λ r. ⌜ w .at < r .at ⌝ }
 {
     let at = w.at;
@@ -484,7 +488,10 @@ pub fn first_bad(text: &[u8], cells: &[u32]) -> Checked
 // Block j's record.
 pub fn block_at(blocks: &[u32], j: usize) -> Block
     requires { ⌜ j * blockWidth + 2 < length (now blocks) ⌝ }
-    ensures { λ r. ⌜ (r .first ≡ firstName (now (blocks .entry)) j) × (r .names ≡ nameCount (now (blocks .entry)) j) × (r .lines ≡ lineCount (now (blocks .entry)) j) ⌝ }
+    ensures { λ r.
+        ⌜ (r .first ≡ firstName (now (blocks .entry)) j)
+        × (r .names ≡ nameCount (now (blocks .entry)) j)
+        × (r .lines ≡ lineCount (now (blocks .entry)) j) ⌝ }
 {
     let first = blocks[j * BLOCK_CELLS] as usize;
     let names = blocks[j * BLOCK_CELLS + 1] as usize;

@@ -208,7 +208,10 @@ fn any_wide(gates: &[u32], n: usize) -> bool
 // Marks the inputs of gate g, unless it is a Buf, which handles the inversion itself.
 fn mark_gate(gate_marks: &mut [u8], input_marks: &mut [u8], gates: &[u32], pins: &[u32], g: usize)
     requires { ⌜ HeldAt (now gates) (now pins) g ⌝ }
-    ensures { λ _. ⌜ SignalsMarked (named (orBuf (gateAt (now (gates .entry)) (now (pins .entry)) g))) (now («gate_marks» .entry)) (now («input_marks» .entry)) (now («gate_marks» .exit)) (now («input_marks» .exit)) ⌝ }
+    ensures { λ _.
+        ⌜ SignalsMarked (named (orBuf (gateAt (now (gates .entry)) (now (pins .entry)) g))) (now («gate_marks» .entry))
+        (now («input_marks» .entry))
+        (now («gate_marks» .exit)) (now («input_marks» .exit)) ⌝ }
 {
     if network::form_at(gates, g) == BUF {
         return;
@@ -228,7 +231,10 @@ fn get_inverted_signals(
     outputs: &[u32],
 )
     requires { ⌜ Readable (now gates) (now pins) n ⌝ }
-    ensures { λ _. ⌜ SignalsMarked (map sigOf (now (outputs .entry)) ++ namedIn (cellGates (now (gates .entry)) (now (pins .entry)) 0 n)) (now («gate_marks» .entry)) (now («input_marks» .entry)) (now («gate_marks» .exit)) (now («input_marks» .exit)) ⌝ }
+    ensures { λ _.
+        ⌜ SignalsMarked (map sigOf (now (outputs .entry)) ++ namedIn (cellGates (now (gates .entry)) (now (pins .entry)) 0 n))
+        (now («gate_marks» .entry)) (now («input_marks» .entry))
+        (now («gate_marks» .exit)) (now («input_marks» .exit)) ⌝ }
 {
     mark_signals(gate_marks, input_marks, outputs);
     let mut g = 0;
@@ -249,7 +255,9 @@ fn append_inverters(
     outputs: &[u32],
 ) -> usize
     requires { ⌜ Readable (now gates) (now pins) n × (inputs ≤ maxInputs) ⌝ }
-    ensures { λ r. ⌜ Appended (invertersText (cellNet inputs (now (gates .entry)) (now (pins .entry)) n (now (outputs .entry)))) (now (out .entry)) at (now (out .exit)) r ⌝ }
+    ensures { λ r.
+        ⌜ Appended (invertersText (cellNet inputs (now (gates .entry)) (now (pins .entry)) n (now (outputs .entry)))) (now (out .entry))
+        at (now (out .exit)) r ⌝ }
 {
     let mut gate_marks = [0u8; 1024];
     let mut input_marks = [0u8; 256];
@@ -268,7 +276,9 @@ fn write_text(
     outputs: &[u32],
 ) -> usize
     requires { ⌜ Readable (now gates) (now pins) n × (inputs ≤ maxInputs) × (any wide (cellGates (now gates) (now pins) 0 n) ≡ false) ⌝ }
-    ensures { λ r. ⌜ Wrote (textOf (cellNet inputs (now (gates .entry)) (now (pins .entry)) n (now (outputs .entry)))) (now (out .entry)) (now (out .exit)) r ⌝ }
+    ensures { λ r.
+        ⌜ Wrote (textOf (cellNet inputs (now (gates .entry)) (now (pins .entry)) n (now (outputs .entry)))) (now (out .entry))
+        (now (out .exit)) r ⌝ }
 {
     let mut at = write_head(out, inputs, outputs);
     at = append_latches(out, at, gates, pins, n);
@@ -305,7 +315,9 @@ fn write_network(
     out: &mut [u8],
 ) -> WriteAnswer
     requires { ⌜ Writable (lent counts (now gates) (now pins) (now outputs)) ⌝ }
-    ensures { λ r. ⌜ writeOutcome r (now (out .exit)) ≡ writeInto (lent counts (now (gates .entry)) (now (pins .entry)) (now (outputs .entry))) (length (now (out .entry))) ⌝ }
+    ensures { λ r.
+        ⌜ writeOutcome r (now (out .exit))
+        ≡ writeInto (lent counts (now (gates .entry)) (now (pins .entry)) (now (outputs .entry))) (length (now (out .entry))) ⌝ }
 {
     let n = counts.gates;
     let used = counts.outputs;
@@ -333,7 +345,9 @@ pub fn write_blif(
     outputs: &[u32],
     out: &mut [u8],
 ) -> WriteAnswer
-    ensures { λ r. ⌜ writeOutcome r (now (out .exit)) ≡ writeInto (lent counts (now (gates .entry)) (now (pins .entry)) (now (outputs .entry))) (length (now (out .entry))) ⌝ }
+    ensures { λ r.
+        ⌜ writeOutcome r (now (out .exit))
+        ≡ writeInto (lent counts (now (gates .entry)) (now (pins .entry)) (now (outputs .entry))) (length (now (out .entry))) ⌝ }
 {
     if !network::check_layout(counts, gates, pins, outputs) {
         return refuse(out, Refusal::NotANetwork);

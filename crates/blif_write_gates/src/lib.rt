@@ -74,7 +74,9 @@ fn write_flop(out: &mut [u8], input: Signal, enable: Signal, reset: Signal, g: u
 // Writes a flip-flop that always takes its data.
 fn write_plain(out: &mut [u8], input: Signal, g: usize) -> usize
     requires { ⌜ g < maxGates ⌝ }
-    ensures { λ r. ⌜ Wrote (line (latchLine (plainLatch (nameBytes (sigOf (input .a))) (gateName nameBytes g)))) (now (out .entry)) (now (out .exit)) r ⌝ }
+    ensures { λ r.
+        ⌜ Wrote (line (latchLine (plainLatch (nameBytes (sigOf (input .a))) (gateName nameBytes g)))) (now (out .entry))
+        (now (out .exit)) r ⌝ }
 {
     let mut at = append(out, 0, b".latch");
     at = append_name(out, at, b" ", input);
@@ -108,7 +110,9 @@ fn append_end(out: &mut [u8], at: usize, g: usize) -> usize
 // Writes the cover of a Binary gate.
 pub fn write_binary(out: &mut [u8], t: BinaryType, a: Signal, b: Signal, g: usize) -> usize
     requires { ⌜ g < maxGates ⌝ }
-    ensures { λ r. ⌜ Wrote (blockText (formBlock nameBytes g (binaryForm t) (sigOf (a .a) ∷ sigOf (b .a) ∷ []))) (now (out .entry)) (now (out .exit)) r ⌝ }
+    ensures { λ r.
+        ⌜ Wrote (blockText (formBlock nameBytes g (binaryForm t) (sigOf (a .a) ∷ sigOf (b .a) ∷ []))) (now (out .entry))
+        (now (out .exit)) r ⌝ }
 {
     let mut at = append(out, 0, b".names");
     at = append_name(out, at, b" ", a);
@@ -127,7 +131,9 @@ pub fn write_ternary(
     g: usize,
 ) -> usize
     requires { ⌜ g < maxGates ⌝ }
-    ensures { λ r. ⌜ Wrote (blockText (formBlock nameBytes g (ternaryForm t) (sigOf (a .a) ∷ sigOf (b .a) ∷ sigOf (c .a) ∷ []))) (now (out .entry)) (now (out .exit)) r ⌝ }
+    ensures { λ r.
+        ⌜ Wrote (blockText (formBlock nameBytes g (ternaryForm t) (sigOf (a .a) ∷ sigOf (b .a) ∷ sigOf (c .a) ∷ []))) (now (out .entry))
+        (now (out .exit)) r ⌝ }
 {
     let mut at = append(out, 0, b".names");
     at = append_name(out, at, b" ", a);

@@ -24,7 +24,9 @@ fn set_mark(marks: &mut [u8], number: u32)
 
 // Marks a signal that is inverted and no constant.
 fn mark_signal(gate_marks: &mut [u8], input_marks: &mut [u8], s: Signal)
-    ensures { λ _. ⌜ SignalsMarked (sigOf (s .a) ∷ []) (now («gate_marks» .entry)) (now («input_marks» .entry)) (now («gate_marks» .exit)) (now («input_marks» .exit)) ⌝ }
+    ensures { λ _.
+        ⌜ SignalsMarked (sigOf (s .a) ∷ []) (now («gate_marks» .entry)) (now («input_marks» .entry))
+        (now («gate_marks» .exit)) (now («input_marks» .exit)) ⌝ }
 {
     if !s.is_inverted() {
         return;
@@ -41,7 +43,9 @@ fn mark_signal(gate_marks: &mut [u8], input_marks: &mut [u8], s: Signal)
 
 // Marks the signals of cells.
 pub fn mark_signals(gate_marks: &mut [u8], input_marks: &mut [u8], cells: &[u32])
-    ensures { λ _. ⌜ SignalsMarked (map sigOf (now (cells .entry))) (now («gate_marks» .entry)) (now («input_marks» .entry)) (now («gate_marks» .exit)) (now («input_marks» .exit)) ⌝ }
+    ensures { λ _.
+        ⌜ SignalsMarked (map sigOf (now (cells .entry))) (now («gate_marks» .entry)) (now («input_marks» .entry))
+        (now («gate_marks» .exit)) (now («input_marks» .exit)) ⌝ }
 {
     let mut i = 0;
     while i < cells.len() {

@@ -27,7 +27,10 @@ fn normalise(
     work_gates: &mut [u32],
     work_pins: &mut [u32],
 ) -> WriteAnswer
-    ensures { λ r. ⌜ writeOutcome r (now (out .exit)) ≡ normInto (now (text .entry)) (lengths (length (now (gates .entry))) (length (now (pins .entry))) (length (now (outputs .entry))) (length (now («work_gates» .entry))) (length (now («work_pins» .entry)))) (length (now (out .entry))) ⌝ }
+    ensures { λ r.
+        let n = lengths (length (now (gates .entry))) (length (now (pins .entry))) (length (now (outputs .entry)))
+        (length (now («work_gates» .entry))) (length (now («work_pins» .entry))) in
+        ⌜ writeOutcome r (now (out .exit)) ≡ normInto (now (text .entry)) n (length (now (out .entry))) ⌝ }
 {
     match read_blif(text, gates, pins, outputs, work_gates, work_pins) {
         ReadAnswer::Read(counts) => write_blif(counts, gates, pins, outputs, out),
@@ -57,7 +60,10 @@ fn answer(
     work_gates: &mut [u32],
     work_pins: &mut [u32],
 ) -> usize
-    ensures { λ r. ⌜ Wrote (printed (normInto (now (text .entry)) (lengths (length (now (gates .entry))) (length (now (pins .entry))) (length (now (outputs .entry))) (length (now («work_gates» .entry))) (length (now («work_pins» .entry)))) (length (now (out .entry))))) (zeros (length (now (out .entry)))) (now (out .exit)) r ⌝ }
+    ensures { λ r.
+        let n = lengths (length (now (gates .entry))) (length (now (pins .entry))) (length (now (outputs .entry)))
+        (length (now («work_gates» .entry))) (length (now («work_pins» .entry))) in
+        ⌜ Wrote (printed (normInto (now (text .entry)) n (length (now (out .entry))))) (zeros (length (now (out .entry)))) (now (out .exit)) r ⌝ }
 {
     match normalise(text, out, gates, pins, outputs, work_gates, work_pins) {
         WriteAnswer::Written(n) => n,

@@ -62,7 +62,13 @@ pub fn write_then_read(
     work_gates: &mut [u32],
     work_pins: &mut [u32],
 ) -> TripAnswer
-    ensures { λ r. ⌜ WritesThenReads (lent counts (now (gates .entry)) (now (pins .entry)) (now (outputs .entry))) (length (now (text .entry))) (lengths (length (now («new_gates» .entry))) (length (now («new_pins» .entry))) (length (now («new_outputs» .entry))) (length (now («work_gates» .entry))) (length (now («work_pins» .entry)))) (tripOutcome r (now (text .exit)) (now («new_gates» .exit)) (now («new_pins» .exit)) (now («new_outputs» .exit)) (now («work_gates» .exit)) (now («work_pins» .exit))) ⌝ }
+    ensures { λ r.
+        let l = lent counts (now (gates .entry)) (now (pins .entry)) (now (outputs .entry)) in
+        let m = lengths (length (now («new_gates» .entry))) (length (now («new_pins» .entry))) (length (now («new_outputs» .entry)))
+        (length (now («work_gates» .entry))) (length (now («work_pins» .entry))) in
+        ⌜ WritesThenReads l (length (now (text .entry))) m
+        (tripOutcome r (now (text .exit)) (now («new_gates» .exit)) (now («new_pins» .exit)) (now («new_outputs» .exit))
+        (now («work_gates» .exit)) (now («work_pins» .exit))) ⌝ }
 {
     let written = write_blif(counts, gates, pins, outputs, text);
     let n = written_length(written);

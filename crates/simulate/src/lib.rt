@@ -143,7 +143,9 @@ fn kind_bit(k: Kind, row: &[bool], bits: &[bool], run: &[u32], held: bool) -> bo
 
 // Gate g's bit, of a row, the gates' bits and the bit that it holds.
 fn gate_bit(gates: &[u32], pins: &[u32], g: usize, row: &[bool], bits: &[bool], held: bool) -> bool
-    ensures { λ r. ⌜ r ≡ gateBit (signalBit (now (row .entry)) (now (bits .entry))) held (orBuf (gateAt (now (gates .entry)) (now (pins .entry)) g)) ⌝ }
+    ensures { λ r.
+        ⌜ r ≡ gateBit (signalBit (now (row .entry)) (now (bits .entry))) held
+        (orBuf (gateAt (now (gates .entry)) (now (pins .entry)) g)) ⌝ }
 {
     if g >= gates.len() / GATE_CELLS {
         return false;
@@ -195,7 +197,9 @@ fn next_of(gate: Gate, row: &[bool], bits: &[bool], held: bool) -> bool
 
 // What gate g holds next.
 fn next_bit(gates: &[u32], pins: &[u32], g: usize, row: &[bool], bits: &[bool], held: bool) -> bool
-    ensures { λ r. ⌜ r ≡ nextBit (signalBit (now (row .entry)) (now (bits .entry))) held (orBuf (gateAt (now (gates .entry)) (now (pins .entry)) g)) ⌝ }
+    ensures { λ r.
+        ⌜ r ≡ nextBit (signalBit (now (row .entry)) (now (bits .entry))) held
+        (orBuf (gateAt (now (gates .entry)) (now (pins .entry)) g)) ⌝ }
 {
     match gate_at(gates, pins, g) {
         Decoded::Good(gate) => next_of(gate, row, bits, held),

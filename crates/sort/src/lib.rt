@@ -112,7 +112,9 @@ fn count_uses(gates: &[u32], pins: &[u32], n: usize, counts: &mut [u32])
 fn lower_use(s: u32, counts: &mut [u32], stack: &mut [u32], top: usize) -> usize
     requires { ⌜ (length (now counts) ≡ maxGates) × (length (now stack) ≡ maxGates) ⌝ }
     requires { ⌜ Lowers s (now counts) top ⌝ }
-    ensures { λ r. ⌜ Lowered (gateNamed s) (now (counts .entry)) (fromTop top (now (stack .entry))) (now (counts .exit)) (fromTop r (now (stack .exit))) ⌝ }
+    ensures { λ r.
+        ⌜ Lowered (gateNamed s) (now (counts .entry)) (fromTop top (now (stack .entry)))
+        (now (counts .exit)) (fromTop r (now (stack .exit))) ⌝ }
 {
     let signal = Signal { a: s };
     if !signal.is_var() {
@@ -131,7 +133,9 @@ fn lower_use(s: u32, counts: &mut [u32], stack: &mut [u32], top: usize) -> usize
 fn lower_uses(pins: &[u32], counts: &mut [u32], stack: &mut [u32], top: usize) -> usize
     requires { ⌜ (length (now counts) ≡ maxGates) × (length (now stack) ≡ maxGates) ⌝ }
     requires { ⌜ Walks (now counts) (fromTop top (now stack)) (now pins) ⌝ }
-    ensures { λ r. ⌜ Lowered (gateIns (now (pins .entry))) (now (counts .entry)) (fromTop top (now (stack .entry))) (now (counts .exit)) (fromTop r (now (stack .exit))) ⌝ }
+    ensures { λ r.
+        ⌜ Lowered (gateIns (now (pins .entry))) (now (counts .entry)) (fromTop top (now (stack .entry)))
+        (now (counts .exit)) (fromTop r (now (stack .exit))) ⌝ }
 {
     let mut new_top = top;
     let mut i = 0;
@@ -145,7 +149,9 @@ fn lower_uses(pins: &[u32], counts: &mut [u32], stack: &mut [u32], top: usize) -
 // Marks gate g and puts it into the order, if it is a flip-flop.
 fn mark_flop(gates: &[u32], g: usize, marks: &mut [u8], order: &mut [u32], k: usize) -> usize
     requires { ⌜ RecordIn (now gates) g × (g < maxGates) × (length (now marks) ≡ maxGates) × (k ≤ g) × (g < length (now order)) ⌝ }
-    ensures { λ r. ⌜ ((o₀ : List ℕ) → FlopsPlaced (formComb (now (gates .entry))) g o₀ (now (marks .entry)) (now (order .entry)) k → FlopsPlaced (formComb (now (gates .entry))) (g + 1) o₀ (now (marks .exit)) (now (order .exit)) r) ⌝ }
+    ensures { λ r.
+        ⌜ ((o₀ : List ℕ) → FlopsPlaced (formComb (now (gates .entry))) g o₀ (now (marks .entry)) (now (order .entry)) k → FlopsPlaced
+        (formComb (now (gates .entry))) (g + 1) o₀ (now (marks .exit)) (now (order .exit)) r) ⌝ }
 {
     if is_comb(gates, g) {
         return k;
@@ -210,8 +216,13 @@ fn visit(
     place: Place,
 ) -> Place
     requires { ⌜ Cells (now gates) (now pins) (length (now order)) ⌝ }
-    requires { ⌜ (0 < place .top) × Ready (cellGraph (now gates) (now pins) (length (now order))) (now counts) (now marks) (now stack) (place .top) (now order) (place .at) ⌝ }
-    ensures { λ r. ⌜ Visited (cellGraph (now (gates .entry)) (now (pins .entry)) (length (now (order .entry)))) (getD (now (stack .entry)) (place .top - 1) 0) (now (counts .entry)) (now (marks .entry)) (now (stack .entry)) (place .top) (now (order .entry)) (place .at) (now (counts .exit)) (now (marks .exit)) (now (stack .exit)) (r .top) (now (order .exit)) (r .at) ⌝ }
+    requires { ⌜ (0 < place .top) × Ready (cellGraph (now gates) (now pins) (length (now order))) (now counts) (now marks) (now stack)
+        (place .top) (now order) (place .at) ⌝ }
+    ensures { λ r.
+        ⌜ Visited (cellGraph (now (gates .entry)) (now (pins .entry)) (length (now (order .entry))))
+        (getD (now (stack .entry)) (place .top - 1) 0) (now (counts .entry)) (now (marks .entry)) (now (stack .entry)) (place .top)
+        (now (order .entry)) (place .at)
+        (now (counts .exit)) (now (marks .exit)) (now (stack .exit)) (r .top) (now (order .exit)) (r .at) ⌝ }
 {
     let top = place.top - 1;
     let v = stack[top] as usize;
@@ -238,7 +249,9 @@ fn visit_all(
 ) -> usize
     requires { ⌜ Cells (now gates) (now pins) (length (now order)) ⌝ }
     requires { ⌜ Begins (cellGraph (now gates) (now pins) (length (now order))) (now counts) (now marks) (now stack) top (now order) ⌝ }
-    ensures { λ r. ⌜ Recorded (cellGraph (now (gates .entry)) (now (pins .entry)) (length (now (order .entry)))) (now (order .entry)) (now (order .exit)) r ⌝ }
+    ensures { λ r.
+        ⌜ Recorded (cellGraph (now (gates .entry)) (now (pins .entry)) (length (now (order .entry)))) (now (order .entry))
+        (now (order .exit)) r ⌝ }
 {
     let mut place = Place {
         top,
@@ -306,7 +319,10 @@ fn move_gate(
 ) -> usize
     requires { ⌜ HasRun (now gates) (now pins) g ⌝ }
     requires { ⌜ RoomFor i at (length (runAt (now gates) (now pins) g)) (now «new_gates») (now «new_pins») ⌝ }
-    ensures { λ r. ⌜ GateMoved (now (gates .entry)) (now (pins .entry)) (now (table .entry)) g i at (now («new_gates» .entry)) (now («new_pins» .entry)) (now («new_gates» .exit)) (now («new_pins» .exit)) r ⌝ }
+    ensures { λ r.
+        ⌜ GateMoved (now (gates .entry)) (now (pins .entry)) (now (table .entry)) g i at (now («new_gates» .entry))
+        (now («new_pins» .entry))
+        (now («new_gates» .exit)) (now («new_pins» .exit)) r ⌝ }
 {
     let run = gate_pins(gates, pins, g);
     network::copy_record(gates, g, new_gates, i, at);
@@ -324,7 +340,10 @@ fn move_gates(
     new_pins: &mut [u32],
 ) -> usize
     requires { ⌜ Movable (now gates) (now pins) (now order) (now «new_gates») (now «new_pins») ⌝ }
-    ensures { λ r. ⌜ Moved (now (gates .entry)) (now (pins .entry)) (now (table .entry)) (now (order .entry)) (now («new_gates» .entry)) (now («new_pins» .entry)) (now («new_gates» .exit)) (now («new_pins» .exit)) r ⌝ }
+    ensures { λ r.
+        ⌜ Moved (now (gates .entry)) (now (pins .entry)) (now (table .entry)) (now (order .entry)) (now («new_gates» .entry))
+        (now («new_pins» .entry))
+        (now («new_gates» .exit)) (now («new_pins» .exit)) r ⌝ }
 {
     let mut at = 0;
     let mut i = 0;
@@ -339,7 +358,9 @@ fn move_gates(
 // Renumbers the first outs outputs.
 fn move_outputs(table: &[u32], outputs: &mut [u32], outs: usize)
     requires { ⌜ outs ≤ length (now outputs) ⌝ }
-    ensures { λ r. ⌜ now (outputs .exit) ≡ overwrite (map (remapCell (now (table .entry))) (take outs (now (outputs .entry)))) (now (outputs .entry)) ⌝ }
+    ensures { λ r.
+        ⌜ now (outputs .exit) ≡ overwrite (map (remapCell (now (table .entry))) (take outs (now (outputs .entry))))
+        (now (outputs .entry)) ⌝ }
 {
     let mut i = 0;
     while i < outs {
@@ -361,7 +382,10 @@ fn renumber(
     requires { ⌜ Numbers (now order) ⌝ }
     requires { ⌜ Movable (now gates) (now pins) (now order) (now «new_gates») (now «new_pins») ⌝ }
     requires { ⌜ outs ≤ length (now outputs) ⌝ }
-    ensures { λ r. ⌜ RenumberedCells (now (gates .entry)) (now (pins .entry)) (now (order .entry)) outs (now (outputs .entry)) (now («new_gates» .entry)) (now («new_pins» .entry)) (now (outputs .exit)) (now («new_gates» .exit)) (now («new_pins» .exit)) r ⌝ }
+    ensures { λ r.
+        ⌜ RenumberedCells (now (gates .entry)) (now (pins .entry)) (now (order .entry)) outs (now (outputs .entry))
+        (now («new_gates» .entry)) (now («new_pins» .entry))
+        (now (outputs .exit)) (now («new_gates» .exit)) (now («new_pins» .exit)) r ⌝ }
 {
     let mut table = [0u32; 1024];
     number_gates(order, &mut table);
@@ -379,7 +403,10 @@ pub fn topo_sort(
     new_pins: &mut [u32],
 ) -> Sorted
     requires { ⌜ Sortable (lent counts (now gates) (now pins) (now outputs)) (length (now «new_gates»)) (length (now «new_pins»)) ⌝ }
-    ensures { λ r. ⌜ sortOutcome r (now («new_gates» .exit)) (now («new_pins» .exit)) (now (outputs .exit)) ≡ sortInto (sorted (netOf (lent counts (now (gates .entry)) (now (pins .entry)) (now (outputs .entry))))) (now («new_gates» .entry)) (now («new_pins» .entry)) (now (outputs .entry)) ⌝ }
+    ensures { λ r.
+        ⌜ sortOutcome r (now («new_gates» .exit)) (now («new_pins» .exit)) (now (outputs .exit))
+        ≡ sortInto (sorted (netOf (lent counts (now (gates .entry)) (now (pins .entry)) (now (outputs .entry)))))
+        (now («new_gates» .entry)) (now («new_pins» .entry)) (now (outputs .entry)) ⌝ }
 {
     let n = counts.gates;
     let mut order = [0u32; 1024];
@@ -400,7 +427,10 @@ pub fn sort_network(
     new_gates: &mut [u32],
     new_pins: &mut [u32],
 ) -> Attempt
-    ensures { λ r. ⌜ sortOutcome r (now («new_gates» .exit)) (now («new_pins» .exit)) (now (outputs .exit)) ≡ sortLent (lent counts (now (gates .entry)) (now (pins .entry)) (now (outputs .entry))) (now («new_gates» .entry)) (now («new_pins» .entry)) ⌝ }
+    ensures { λ r.
+        ⌜ sortOutcome r (now («new_gates» .exit)) (now («new_pins» .exit)) (now (outputs .exit))
+        ≡ sortLent (lent counts (now (gates .entry)) (now (pins .entry)) (now (outputs .entry))) (now («new_gates» .entry))
+        (now («new_pins» .entry)) ⌝ }
 {
     if !check_layout(counts, gates, pins, outputs) {
         return Attempt::Refused;

@@ -80,7 +80,11 @@ pub extern "C" fn vumneath_read_blif(
     work_gates: &mut [u32],
     work_pins: &mut [u32],
 ) -> VumneathNetwork
-    ensures { λ r. ⌜ ReadHanded (readInto (now (text .entry)) (lengths (length (now (gates .entry))) (length (now (pins .entry))) (length (now (outputs .entry))) (length (now («work_gates» .entry))) (length (now («work_pins» .entry))))) r (now (gates .exit)) (now (pins .exit)) (now (outputs .exit)) (now («work_gates» .exit)) (now («work_pins» .exit)) ⌝ }
+    ensures { λ r.
+        let n = lengths (length (now (gates .entry))) (length (now (pins .entry))) (length (now (outputs .entry)))
+        (length (now («work_gates» .entry))) (length (now («work_pins» .entry))) in
+        ⌜ ReadHanded (readInto (now (text .entry)) n) r
+        (now (gates .exit)) (now (pins .exit)) (now (outputs .exit)) (now («work_gates» .exit)) (now («work_pins» .exit)) ⌝ }
 {
     let answer = read_blif(text, gates, pins, outputs, work_gates, work_pins);
     network_of(answer)
@@ -98,7 +102,10 @@ pub extern "C" fn vumneath_write_blif(
     outputs: &[u32],
     out: &mut [u8],
 ) -> VumneathText
-    ensures { λ r. ⌜ WriteHanded (writeInto (lent (record { inputs = inputs; gates = «gate_count»; pins = «pin_count»; outputs = «output_count» }) (now (gates .entry)) (now (pins .entry)) (now (outputs .entry))) (length (now (out .entry)))) r (now (out .exit)) ⌝ }
+    ensures { λ r.
+        let l = lent (record { inputs = inputs; gates = «gate_count»; pins = «pin_count»; outputs = «output_count» })
+        (now (gates .entry)) (now (pins .entry)) (now (outputs .entry)) in
+        ⌜ WriteHanded (writeInto l (length (now (out .entry)))) r (now (out .exit)) ⌝ }
 {
     let counts = Counts {
         inputs: inputs as usize,
