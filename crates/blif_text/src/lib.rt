@@ -76,11 +76,11 @@ pub enum Statement {
 pub fn is_blank(c: u8) -> bool
     ensures { λ r. ⌜ r ≡ isBlank c ⌝ }
 {
-    if c < 9 {
-        return 32 == c;
+    if c < b'\t' {
+        return b' ' == c;
     }
-    if 13 < c {
-        return 32 == c;
+    if b'\r' < c {
+        return b' ' == c;
     }
     true
 }
@@ -89,7 +89,7 @@ pub fn is_blank(c: u8) -> bool
 fn ends_word(c: u8) -> bool
     ensures { λ r. ⌜ r ≡ endsWord c ⌝ }
 {
-    if 35 < c {
+    if b'#' < c {
         return false;
     }
     if c == b' ' {
@@ -141,7 +141,7 @@ fn has_line_end(block: &[u8]) -> bool
     let mut found = false;
     let mut i = 0;
     while i < block.len() {
-        found = found | (10 == block[i]);
+        found = found | (b'\n' == block[i]);
         i += 1;
     }
     found
@@ -206,10 +206,10 @@ fn line_stop(text: &[u8], stop: usize) -> usize
     if lf >= text.len() {
         return 0;
     }
-    if byte != 13 {
+    if byte != b'\r' {
         return 0;
     }
-    if text[lf] != 10 {
+    if text[lf] != b'\n' {
         return 0;
     }
     stop + 2

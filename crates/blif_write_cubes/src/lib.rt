@@ -33,7 +33,7 @@ fn put_columns(out: &mut [u8], mask: u32, num_vars: usize) -> usize
         if i >= out.len() {
             return i + 1;
         }
-        out[i] = 48 + (left % 2) as u8;
+        out[i] = b'0' + (left % 2) as u8;
         left /= 2;
         i += 1;
     }
