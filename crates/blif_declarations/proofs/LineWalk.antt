@@ -1,10 +1,10 @@
 -- The walk over the cube lines that stand directly at a place. Assumes nothing.
 use mathlib.Core.Path.{_≡_, refl, sym, ap, _∙_}
-use mathlib.Core.Bool.{true, false}
+use mathlib.Core.Bool.{true}
 use mathlib.Core.List.{List, [], _∷_, _++_, append-nil}
-use Prim.Native.Nat.{ℕ, _+_, _≤_}
+use Prim.Native.Nat.{ℕ, _+_, _≤_, _<_}
 use native.Mathlib.Omega.{arith}
-use lib.ListN.{length, take, length-append, length-map}
+use lib.ListN.{length, getD, take, length-append, length-map}
 use lib.Seq.{slice, append-snoc, take-at, length-slice}
 use Rattle.lists.specs.Lists.{Bytes, sumOf}
 use Rattle.lists.proofs.Counting.{sum-append}
@@ -12,46 +12,43 @@ use Rattle.blif_text.specs.Decls.{cubes, decls}
 use Rattle.blif_text.specs.Statements.{Stmt}
 use Rattle.blif_text.specs.between.Places.{tokenOf, tokensOf}
 use Rattle.blif_text.specs.between.Walk.{rowsFrom, stmtsFrom, StmtsAt}
-use Rattle.blif_text.specs.declared.Statement.{Statement}
-use Rattle.blif_text.specs.declared.Statement.the-variants as place
+use Rattle.blif_text.specs.Keywords.{leadingDot, keywordOf}
+use Rattle.blif_text.specs.declared.Keyword.{Keyword}
+use Rattle.blif_text.specs.declared.Keyword.the-variants as key
+use Rattle.blif_text.proofs.KeywordLaws.{dot-no-cube}
 use Rattle.blif_text.proofs.RefusalLaws.{stmts-end}
-use Rattle.blif_declarations.specs.between.Rows.{Starts, RowIs, isCube, LinesAt}
+use Rattle.blif_declarations.specs.between.Rows.{RowIs, LinesAt}
+use Rattle.blif_declarations.proofs.RowStarts.{row-found, row-is}
 
--- ---- a statement that is a cube line, and one that is none
+-- ---- a row that is a cube line, and one that is none
 
-module _ (text tokens : List ℕ) (n at end : ℕ) where
-  cube-starts : (s : Statement) → Starts text tokens n at end s → isCube s ≡ true
-      → stmtsFrom text tokens n at ≡ Stmt.cube (tokensOf text (slice at end tokens)) ∷ stmtsFrom text tokens n end
-  cube-starts place.Model e t = let z : _≡_ {A = ℕ} 0 1 = cc in absurd (omega arith)
-  cube-starts place.End e t = let z : _≡_ {A = ℕ} 0 1 = cc in absurd (omega arith)
-  cube-starts place.Exdc e t = let z : _≡_ {A = ℕ} 0 1 = cc in absurd (omega arith)
-  cube-starts (place.Inputs run) e t = let z : _≡_ {A = ℕ} 0 1 = cc in absurd (omega arith)
-  cube-starts (place.Outputs run) e t = let z : _≡_ {A = ℕ} 0 1 = cc in absurd (omega arith)
-  cube-starts (place.Names run) e t = let z : _≡_ {A = ℕ} 0 1 = cc in absurd (omega arith)
-  cube-starts (place.Latch first) e t = let z : _≡_ {A = ℕ} 0 1 = cc in absurd (omega arith)
-  cube-starts (place.Cube run) e t = e
-  cube-starts (place.Refused m) e t = absurd e
-
-  module _ (s : Statement) (e : Starts text tokens n at end s) (t : isCube s ≡ true) where
-    cube-lines : cubes (stmtsFrom text tokens n at) ≡ tokensOf text (slice at end tokens) ∷ cubes (stmtsFrom text tokens n end)
-    unfolding cubes
-    cube-lines = ap cubes (cube-starts s e t)
-
-    pub cube-decls : decls (stmtsFrom text tokens n end) ≡ decls (stmtsFrom text tokens n at)
-    unfolding decls
-    cube-decls = sym (ap decls (cube-starts s e t))
-
-  no-cube : (s : Statement) → Starts text tokens n at end s → isCube s ≡ false → cubes (stmtsFrom text tokens n at) ≡ []
+module _ {text tokens : List ℕ} {n at end : ℕ} where
+  pub cube-lines : RowIs text tokens n at end key.Cube → cubes (stmtsFrom text tokens n at) ≡ tokensOf text (slice at end tokens) ∷ cubes (stmtsFrom text tokens n end)
   unfolding cubes
-  no-cube place.Model e t = ap cubes e
-  no-cube place.End e t = ap cubes e
-  no-cube place.Exdc e t = ap cubes e
-  no-cube (place.Inputs run) e t = ap cubes (e .0)
-  no-cube (place.Outputs run) e t = ap cubes (e .0)
-  no-cube (place.Names run) e t = ap cubes (e .0)
-  no-cube (place.Latch first) e t = ap cubes (e .0)
-  no-cube (place.Cube run) e t = let z : _≡_ {A = ℕ} 0 1 = cc in absurd (omega arith)
-  no-cube (place.Refused m) e t = absurd e
+  cube-lines w = ap cubes (w .starts)
+
+  cube-decls : RowIs text tokens n at end key.Cube → decls (stmtsFrom text tokens n end) ≡ decls (stmtsFrom text tokens n at)
+  unfolding decls
+  cube-decls w = sym (ap decls (w .starts))
+
+  no-cube : (k : Keyword) → RowIs text tokens n at end k → (key.Cube ≡ k → ⊥) → cubes (stmtsFrom text tokens n at) ≡ []
+  unfolding cubes
+  no-cube key.Model w f = ap cubes (w .starts)
+  no-cube key.End w f = ap cubes (w .starts)
+  no-cube key.Exdc w f = ap cubes (w .starts)
+  no-cube key.Inputs w f = ap cubes (w .starts)
+  no-cube key.Outputs w f = ap cubes (w .starts)
+  no-cube key.Names w f = ap cubes (w .starts)
+  no-cube key.Latch w f = ap cubes (w .starts .0)
+  no-cube key.Cube w f = absurd (f refl)
+  no-cube key.Unsupported w f = absurd (w .starts)
+
+-- no cube line starts at a leading dot
+dot-lines : {text tokens : List ℕ} {n at : ℕ} → StmtsAt text tokens n at → at < n → leadingDot (tokenOf text (getD tokens at 0)) ≡ true
+    → cubes (stmtsFrom text tokens n at) ≡ []
+dot-lines {text} {tokens} {n} {at} c h d =
+    let first = tokenOf text (getD tokens at 0) in
+    row-found tokens n at h (λ r w. no-cube (keywordOf first) (row-is c h w refl) (dot-no-cube first d))
 
 -- no statement, no cube line
 no-lines : cubes [] ≡ []
@@ -77,8 +74,8 @@ passed-start c = record { seen = []; low = omega arith; place = omega arith; res
 
 module _ {text tokens : List ℕ} {n at count i : ℕ} (c : Passed text tokens n at count i) where
   -- one more
-  pub passed-next : {end : ℕ} {s : Statement} → RowIs text tokens n i end s → isCube s ≡ true → Passed text tokens n at (count + 1) end
-  passed-next {end} {s} w t =
+  pub passed-next : {end : ℕ} → RowIs text tokens n i end key.Cube → Passed text tokens n at (count + 1) end
+  passed-next {end} w =
       let row = tokensOf text (slice i end tokens) in
       record {
         seen = c .seen ++ (row ∷ []);
@@ -94,10 +91,10 @@ module _ {text tokens : List ℕ} {n at count i : ℕ} (c : Passed text tokens n
         rest = w .rest;
         rows = c .rows ∙ ap (λ (x : List (List Bytes)). c .seen ++ x) (w .rows) ∙ sym (append-snoc (c .seen) row (rowsFrom text tokens n end));
         lines =
-            c .lines ∙ ap (λ (x : List (List Bytes)). c .seen ++ x) (cube-lines text tokens n i end s (w .starts) t)
+            c .lines ∙ ap (λ (x : List (List Bytes)). c .seen ++ x) (cube-lines w)
             ∙ sym (append-snoc (c .seen) row (cubes (stmtsFrom text tokens n end)));
         counted = omega (arith, c .counted, length-append (c .seen) (row ∷ []));
-        same = cube-decls text tokens n i end s (w .starts) t ∙ c .same;
+        same = cube-decls w ∙ c .same;
       }
 
   -- no more
@@ -112,12 +109,13 @@ module _ {text tokens : List ℕ} {n at count i : ℕ} (c : Passed text tokens n
         lines = are ∙ sym first;
         enough = omega (arith, c .counted, ap length (c .rows), length-append (c .seen) (rowsFrom text tokens n i));
         counted = c .counted ∙ sym (ap length are);
+        none = e;
         same = c .same;
       }
 
   -- another statement stands behind the last
-  pub passed-stop : {end : ℕ} {s : Statement} → RowIs text tokens n i end s → isCube s ≡ false → LinesAt text tokens n at count i
-  passed-stop {end} {s} w t = none-left (no-cube text tokens n i end s (w .starts) t)
+  pub passed-stop : i < n → leadingDot (tokenOf text (getD tokens i 0)) ≡ true → LinesAt text tokens n at count i
+  passed-stop h d = none-left (dot-lines (c .rest) h d)
 
   -- nothing stands there
   pub passed-end : n ≤ i → LinesAt text tokens n at count i

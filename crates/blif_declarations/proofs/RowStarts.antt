@@ -1,66 +1,29 @@
 -- The row at a place: its statement is the first of those from there on. Assumes nothing.
-use mathlib.Core.Path.{_≡_, refl, sym, ap, ap₂, _∙_, subst}
-use mathlib.Core.Bool.{Bool, true, false, cond}
+use mathlib.Core.Path.{_≡_, refl, sym, ap, _∙_, subst}
+use mathlib.Core.Bool.{true, false}
 use mathlib.Core.List.{List, [], _∷_, map}
-use Prim.Native.Nat.{ℕ, _+_, _-_, _≤_, _<_}
+use Prim.Native.Nat.{ℕ, zero, suc, _+_, _-_, _≤_, _<_}
 use native.Mathlib.Omega.{arith}
-use lib.Dec.{ltb}
 use lib.ListN.{length, getD, take, drop, length-map}
 use lib.Seq.{slice, slice-empty, length-slice}
 use borrow.Author.Tests.{lt-ltb, le-ltb}
 use Rattle.lists.specs.Lists.{Bytes}
-use Rattle.lists.proofs.Tests.{by-order}
-use Rattle.refusals.specs.declared.Refusal.the-variants as refusal
+use Rattle.lists.proofs.Tests.{by-order, by-test, below-next}
 use Rattle.refusals.specs.declared.Checked.the-variants.{Fine}
 use Rattle.refusals.proofs.Order.{refused-ne-fine}
 use Rattle.blif_text.specs.Statements.{Stmt, firstBad, stmts}
 use Rattle.blif_text.specs.between.Rows.{rowStmt}
-use Rattle.blif_text.specs.between.Places.{tokenOf, tokensOf, grouped}
+use Rattle.blif_text.specs.between.Places.{isFirst, tokenOf, tokensOf, grouped}
 use Rattle.blif_text.specs.Keywords.{keywordOf}
-use Rattle.blif_text.specs.between.PlacedStatements.{runTokens, parsedFrom, RowTo, statementOf, statementAt, refusalIn}
+use Rattle.blif_text.specs.between.PlacedStatements.{runTokens, parsedFrom, RowTo, namesRun, statementOf, refusalIn}
 use Rattle.blif_text.specs.between.Walk.{rowsFrom, stmtsFrom, RowsAt, StmtsAt}
 use Rattle.blif_text.specs.declared.Keyword.{Keyword}
 use Rattle.blif_text.specs.declared.Keyword.the-variants as key
 use Rattle.blif_text.specs.declared.Run.{Run}
-use Rattle.blif_text.specs.declared.Statement.{Statement}
-use Rattle.blif_text.specs.declared.Statement.the-variants as place
 use Rattle.blif_text.proofs.WordLaws.{drop-take}
 use Rattle.blif_text.proofs.RowWalk.{rows-end, rows-are}
 use Rattle.blif_text.proofs.RefusalLaws.{stmts-are, stmts-parsedFrom, stmts-next}
 use Rattle.blif_declarations.specs.between.Rows.{names, Starts, RowIs}
-
--- ---- where a statement's places end
-
-abbrev Ends : ℕ → ℕ → Statement → Type 0
-Ends at end place.Model = Unit {0}
-Ends at end place.End = Unit {0}
-Ends at end place.Exdc = Unit {0}
-Ends at end (place.Inputs run) = run .first + run .count ≡ end
-Ends at end (place.Outputs run) = run .first + run .count ≡ end
-Ends at end (place.Names run) = run .first + run .count ≡ end
-Ends at end (place.Latch first) = first + 2 ≤ end
-Ends at end (place.Cube run) = (run .first ≡ at) × (run .first + run .count ≡ end)
-Ends at end (place.Refused r) = Unit {0}
-
-module _ (at end : ℕ) (h : at < end) where
-  model-ends : (b : Bool) → Ends at end (cond b (place.Refused refusal.MissingName) place.Model)
-  model-ends true = tt
-  model-ends false = tt
-
-  -- by the keyword
-  keyword-ends : (k : Keyword) → Ends at end (statementOf k at end)
-  keyword-ends key.Model = model-ends (ltb (end - at - 1) 1)
-  keyword-ends key.Inputs = omega arith
-  keyword-ends key.Outputs = omega arith
-  keyword-ends key.Latch = by-order 2 (end - at - 1) (λ m. rw (le-ltb (end - at - 1) 2 m) (latch-ends m)) (λ m. rw (lt-ltb (end - at - 1) 2 m) tt)
-    where
-      latch-ends : 2 ≤ end - at - 1 → at + 1 + 2 ≤ end
-      latch-ends m = omega arith
-  keyword-ends key.Names = omega arith
-  keyword-ends key.End = tt
-  keyword-ends key.Exdc = tt
-  keyword-ends key.Unsupported = tt
-  keyword-ends key.Cube = (refl, omega arith)
 
 -- ---- a run of names
 
@@ -77,8 +40,8 @@ names-length text cells run h =
     ∙ length-slice (run .first) (run .first + run .count) cells h
     ∙ omega arith
 
--- the same row of an equal statement
-pub row-as : {text cells : List ℕ} {n at r : ℕ} {s t : Statement} → RowIs text cells n at r s → s ≡ t → RowIs text cells n at r t
+-- the same row of an equal keyword
+pub row-as : {text cells : List ℕ} {n at r : ℕ} {k m : Keyword} → RowIs text cells n at r k → k ≡ m → RowIs text cells n at r m
 row-as {text} {cells} {n} {at} {r} w e = subst (RowIs text cells n at r) e w
 
 -- ---- the place behind all rows
@@ -104,36 +67,51 @@ stmts-behind {text} {cells} {n} c =
     } in
     record { rows = b; good = ap (λ (x : List (List Bytes)). firstBad (map rowStmt x)) (rows-end b (omega arith)) ∙ none-bad }
 
+-- ---- where a row ends
+
+-- a row that starts before the cells in use end has an end
+pub row-found : {X : Type 0} (cells : List ℕ) (n at : ℕ) → at < n → ((r : ℕ) → RowTo cells at n r → X) → X
+row-found {X} cells n at h found = from (n - (at + 1)) (at + 1) (omega arith) (omega arith) (λ k l m. absurd (omega arith))
+  where
+    from : (left i : ℕ) → left + i ≡ n → at < i → ((k : ℕ) → at < k → k < i → isFirst (getD cells k 0) ≡ false) → X
+    from zero i e l inner = found i (record { low = l; high = omega arith; inner = inner; stop = λ m. absurd (omega arith) })
+    from (suc left) i e l inner =
+        by-test (isFirst (getD cells i 0))
+        (λ t. found i (record { low = l; high = omega arith; inner = inner; stop = λ m. t }))
+        (λ t. from left (i + 1) (omega arith) (omega arith) (λ k a b. below-next (λ (j : ℕ). at < j → isFirst (getD cells j 0) ≡ false) i (λ j u v. inner j v u) (λ v. t) k b a))
+
 -- ---- a row's statement
 
 module _ {text cells : List ℕ} {n at r : ℕ} (c : StmtsAt text cells n at) (h : at < n) (w : RowTo cells at n r) where
-  -- the row is among the cells
-  within : r ≤ length cells
-  within = omega (arith, w .high, c .rows .places .room)
-
-  -- where its places end
-  ends : {s : Statement} → s ≡ statementAt text cells at r → Ends at r s
-  ends e = subst (Ends at r) (sym e) (keyword-ends at r (w .low) (keywordOf (tokenOf text (getD cells at 0))))
-
   -- the tokens of a cube line are the row's
-  cube-row : (run : Run) → (run .first ≡ at) × (run .first + run .count ≡ r) → runTokens text cells run ≡ tokensOf text (slice at r cells)
-  cube-row run e = run-names text cells run ∙ ap₂ (λ (i j : ℕ). tokensOf text (slice i j cells)) (e .0) (e .1)
+  cube-row : runTokens text cells (record { first = at; count = r - at }) ≡ tokensOf text (slice at r cells)
+  cube-row =
+      let q : at + (r - at) ≡ r = omega (arith, w .low) in
+      run-names text cells (record { first = at; count = r - at }) ∙ ap (λ (j : ℕ). tokensOf text (slice at j cells)) q
 
-  -- the row's statement, then the others
-  are : {s : Statement} → s ≡ statementAt text cells at r → stmtsFrom text cells n at ≡ stmts (parsedFrom text cells s ∷ map rowStmt (rowsFrom text cells n r))
-  are e = stmts-are c h w ∙ ap (λ (t : Statement). stmts (parsedFrom text cells t ∷ map rowStmt (rowsFrom text cells n r))) (sym e)
+  module _ {keyword : Keyword} (e : keyword ≡ keywordOf (tokenOf text (getD cells at 0))) where
+    -- the row's statement, then the others
+    are : stmtsFrom text cells n at ≡ stmts (parsedFrom text cells (statementOf keyword at r) ∷ map rowStmt (rowsFrom text cells n r))
+    are = stmts-are c h w ∙ ap (λ (k : Keyword). stmts (parsedFrom text cells (statementOf k at r) ∷ map rowStmt (rowsFrom text cells n r))) (sym e)
 
-  row-starts : (s : Statement) → s ≡ statementAt text cells at r → Starts text cells n at r s
+    -- which is no refusal
+    fine : refusalIn (statementOf keyword at r) ≡ Fine
+    fine = ap (λ (k : Keyword). refusalIn (statementOf k at r)) e ∙ stmts-parsedFrom c h w
+
+  row-starts : (k : Keyword) → k ≡ keywordOf (tokenOf text (getD cells at 0)) → Starts text cells n at r k
   unfolding stmts
-  row-starts place.Model e = are e
-  row-starts place.End e = are e
-  row-starts place.Exdc e = are e
-  row-starts (place.Inputs run) e = (are e ∙ ap (λ (ns : List Bytes). Stmt.inputs ns ∷ stmtsFrom text cells n r) (run-names text cells run), ends e)
-  row-starts (place.Outputs run) e = (are e ∙ ap (λ (ns : List Bytes). Stmt.outputs ns ∷ stmtsFrom text cells n r) (run-names text cells run), ends e)
-  row-starts (place.Names run) e = (are e ∙ ap (λ (ns : List Bytes). Stmt.names ns ∷ stmtsFrom text cells n r) (run-names text cells run), ends e)
-  row-starts (place.Latch f) e = (are e, ends e)
-  row-starts (place.Cube run) e = are e ∙ ap (λ (ns : List Bytes). Stmt.cube ns ∷ stmtsFrom text cells n r) (cube-row run (ends e))
-  row-starts (place.Refused k) e = refused-ne-fine (ap refusalIn e ∙ stmts-parsedFrom c h w)
+  row-starts key.Model e =
+      by-order 1 (r - at - 1) (λ m. rw (le-ltb (r - at - 1) 1 m) at (are e)) (λ m. absurd (refused-ne-fine (rw (lt-ltb (r - at - 1) 1 m) at (fine e))))
+  row-starts key.End e = are e
+  row-starts key.Exdc e = are e
+  row-starts key.Inputs e = are e ∙ ap (λ (ns : List Bytes). Stmt.inputs ns ∷ stmtsFrom text cells n r) (run-names text cells (namesRun at r))
+  row-starts key.Outputs e = are e ∙ ap (λ (ns : List Bytes). Stmt.outputs ns ∷ stmtsFrom text cells n r) (run-names text cells (namesRun at r))
+  row-starts key.Names e = are e ∙ ap (λ (ns : List Bytes). Stmt.names ns ∷ stmtsFrom text cells n r) (run-names text cells (namesRun at r))
+  row-starts key.Latch e =
+      by-order 2 (r - at - 1) (λ m. (rw (le-ltb (r - at - 1) 2 m) at (are e), omega arith))
+      (λ m. absurd (refused-ne-fine (rw (lt-ltb (r - at - 1) 2 m) at (fine e))))
+  row-starts key.Cube e = are e ∙ ap (λ (ns : List Bytes). Stmt.cube ns ∷ stmtsFrom text cells n r) cube-row
+  row-starts key.Unsupported e = refused-ne-fine (fine e)
 
-  pub row-is : {s : Statement} → s ≡ statementAt text cells at r → RowIs text cells n at r s
-  row-is {s} e = record { low = w .low; rest = stmts-next c h w; rows = rows-are (c .rows) h w; is = e; starts = row-starts s e }
+  pub row-is : {k : Keyword} → k ≡ keywordOf (tokenOf text (getD cells at 0)) → RowIs text cells n at r k
+  row-is {k} e = record { low = w .low; rest = stmts-next c h w; rows = rows-are (c .rows) h w; starts = row-starts k e }

@@ -1,20 +1,26 @@
 // The declarations of a text, one after the other: what is stray and what stops is told here, once (Quaigh's src/io/blif.rs:
 // build_name_to_sig).
 use blif_text::Block;
+use blif_text::Keyword;
 use blif_text::Run;
-use blif_text::Statement;
+use blif_text::has_leading_dot;
+use blif_text::keyword_of;
+use blif_text::names_run;
 use blif_text::row_end;
-use blif_text::statement_at;
+use blif_text::token;
 ghost use mathlib.Core.Path.{_≡_};
+ghost use mathlib.Core.List.{[]};
 ghost use Prim.Native.Nat.{_<_};
 ghost use lib.ListN.{length};
-ghost use Rattle.blif_text.specs.between.Walk.{StmtsAt};
-ghost use Rattle.blif_declarations.specs.between.Rows.{RowIs, isCube, LinesAt};
-ghost use Rattle.blif_declarations.specs.between.Declarations.{NextIs, Declares};
+ghost use Rattle.blif_text.specs.Decls.{cubes};
+ghost use Rattle.blif_text.specs.between.Walk.{stmtsFrom, StmtsAt};
+ghost use Rattle.blif_declarations.specs.between.Rows.{RowIs, LinesAt};
+ghost use Rattle.blif_declarations.specs.between.Declarations.{NextIs};
 
-// A row of tokens: its statement, and where the next row starts.
+// A row of tokens: the keyword of its first token, its place, and where the next row starts.
 struct Row {
-    statement: Statement,
+    keyword: Keyword,
+    at: usize,
     end: usize,
 }
 
@@ -28,11 +34,11 @@ struct Lines {
 // that there is none, at the end and at `.exdc`.
 pub enum Declaration {
     Model,
-    End,
     Inputs(Run),
     Outputs(Run),
     Latch(usize),
     Cover(Block),
+    End,
     None,
 }
 
@@ -45,72 +51,62 @@ pub struct Next {
 // The row that starts at a place.
 fn row_at(text: &[u8], tokens: &[u32], at: usize) -> Row
     requires { ⌜ StmtsAt (now text) (now tokens) (length (now tokens)) at × (at < length (now tokens)) ⌝ }
-    ensures { λ r. ⌜ RowIs (now (text .entry)) (now (tokens .entry)) (length (now (tokens .entry))) at (r .end) (r .statement) ⌝ }
+    ensures { λ r. ⌜ (r .at ≡ at) × RowIs (now (text .entry)) (now (tokens .entry)) (length (now (tokens .entry))) (r .at) (r .end) (r .keyword) ⌝ }
 {
+    let keyword = keyword_of(token(text, tokens[at]));
     let end = row_end(tokens, at);
-    let statement = statement_at(text, tokens, at, end);
-    Row { statement, end }
-}
-
-// Whether a statement is a cube line.
-fn is_cube(statement: Statement) -> bool
-    ensures { λ r. ⌜ r ≡ isCube statement ⌝ }
-{
-    match statement {
-        Statement::Cube(_) => true,
-        _ => false,
-    }
+    Row { keyword, at, end }
 }
 
 // The cube lines that stand directly at a place.
-fn cover_lines(text: &[u8], tokens: &[u32], at: usize) -> Lines
+fn cube_lines(text: &[u8], tokens: &[u32], at: usize) -> Lines
     requires { ⌜ StmtsAt (now text) (now tokens) (length (now tokens)) at ⌝ }
     ensures { λ r. ⌜ LinesAt (now (text .entry)) (now (tokens .entry)) (length (now (tokens .entry))) at (r .count) (r .end) ⌝ }
 {
     let mut count = 0;
     let mut i = at;
     while i < tokens.len() {
-        let row = row_at(text, tokens, i);
-        let statement = row.statement;
-        if !is_cube(statement) {
+        if has_leading_dot(token(text, tokens[i])) {
             return Lines { count, end: i };
         }
         count += 1;
-        i = row.end;
+        i = row_end(tokens, i);
     }
     Lines { count, end: i }
 }
 
 // What a row declares that is no cube line, a cover with its lines; nothing is left behind `.exdc`.
 fn declared_by(text: &[u8], tokens: &[u32], row: Row) -> Next
-    requires { ⌜ StmtsAt (now text) (now tokens) (length (now tokens)) (row .end) ⌝ }
+    requires { ⌜ RowIs (now text) (now tokens) (length (now tokens)) (row .at) (row .end) (row .keyword) ⌝ }
+    requires { ⌜ cubes (stmtsFrom (now text) (now tokens) (length (now tokens)) (row .at)) ≡ [] ⌝ }
     ensures { λ r.
-        ⌜ Declares (now (text .entry)) (now (tokens .entry)) (length (now (tokens .entry))) (row .statement) (row .end) (r .declaration)
+        ⌜ NextIs (now (text .entry)) (now (tokens .entry)) (length (now (tokens .entry))) (row .at) (r .declaration)
         (r .at) ⌝ }
 {
-    let statement = row.statement;
+    let keyword = row.keyword;
+    let names = names_run(row.at, row.end);
     let mut at = row.end;
-    let declaration = match statement {
-        Statement::Model => Declaration::Model,
-        Statement::End => Declaration::End,
-        Statement::Inputs(run) => Declaration::Inputs(run),
-        Statement::Outputs(run) => Declaration::Outputs(run),
-        Statement::Latch(first) => Declaration::Latch(first),
-        Statement::Names(run) => {
-            let lines = cover_lines(text, tokens, at);
+    let declaration = match keyword {
+        Keyword::Model => Declaration::Model,
+        Keyword::End => Declaration::End,
+        Keyword::Inputs => Declaration::Inputs(names),
+        Keyword::Outputs => Declaration::Outputs(names),
+        Keyword::Latch => Declaration::Latch(names.first),
+        Keyword::Names => {
+            let lines = cube_lines(text, tokens, at);
             at = lines.end;
             Declaration::Cover(Block {
-                first: run.first,
-                names: run.count,
+                first: names.first,
+                names: names.count,
                 lines: lines.count,
             })
         }
-        Statement::Exdc => {
+        Keyword::Exdc => {
             at = tokens.len();
             Declaration::None
         }
-        Statement::Cube(_) => Declaration::None,
-        Statement::Refused(_) => Declaration::None,
+        Keyword::Cube => Declaration::None,
+        Keyword::Unsupported => Declaration::None,
     };
     Next { declaration, at }
 }
@@ -120,17 +116,14 @@ pub fn next_declaration(text: &[u8], tokens: &[u32], at: usize) -> Next
     requires { ⌜ StmtsAt (now text) (now tokens) (length (now tokens)) at ⌝ }
     ensures { λ r. ⌜ NextIs (now (text .entry)) (now (tokens .entry)) (length (now (tokens .entry))) at (r .declaration) (r .at) ⌝ }
 {
-    let mut i = at;
-    while i < tokens.len() {
-        let row = row_at(text, tokens, i);
-        let statement = row.statement;
-        if !is_cube(statement) {
-            return declared_by(text, tokens, row);
-        }
-        i = row.end;
+    let stray = cube_lines(text, tokens, at);
+    let i = stray.end;
+    if i == tokens.len() {
+        return Next {
+            declaration: Declaration::None,
+            at: i,
+        };
     }
-    Next {
-        declaration: Declaration::None,
-        at: i,
-    }
+    let row = row_at(text, tokens, i);
+    declared_by(text, tokens, row)
 }

@@ -4,11 +4,13 @@ use mathlib.Core.Bool.{Bool, true, false}
 use mathlib.Core.List.{List, [], _∷_, _++_, headD}
 use Prim.Native.Nat.{ℕ, suc, _<_}
 use native.Mathlib.Omega.{arith}
+use lib.Dec.{eqb}
 use lib.ListN.{length, getD, take, drop, take-append-drop}
 use lib.Seq.{drop-cons}
-use borrow.Author.Tests.{eq-eqb, ne-eqb}
-use Rattle.lists.specs.Lists.{if_then_else_, Bytes, same}
-use Rattle.blif_text.specs.Keywords.{Spelling, spelling, keywords, keywordAmong, keywordOf}
+use Rattle.lists.specs.Lists.{if_then_else_, Bytes, any, same}
+use Rattle.lists.proofs.Tests.{by-test, or-left, or-right}
+use Rattle.blif_text.specs.Keywords.{Spelling, spelling, keywords, leadingDot, keywordAmong, keywordOf}
+use Rattle.blif_text.specs.declared.Keyword.{Keyword}
 use Rattle.blif_text.specs.declared.Keyword.the-variants as key
 
 -- name j
@@ -46,29 +48,58 @@ pub ruleset tried = (none, other)
 
 -- ---- the first byte
 
--- the first byte, or 0
-head-is : (k : Bytes) → headD k 0 ≡ getD k 0 0
+-- the first byte tells
+pub dot-told : (k : Bytes) → eqb (getD k 0 0) 46 ≡ leadingDot k
 unfolding headD
-head-is [] = refl
-head-is (c ∷ k) = refl
+dot-told [] = refl
+dot-told (c ∷ k) = refl
 
--- a dot first, and none of the keywords, of which the last is told apart: a search for all seven takes too long
-pub dot-first : {k : Bytes} {b : Bool} → NoneOf k (take 6 keywords) → b ≡ same k (nameAt 6 .name) → b ≡ false → getD k 0 0 ≡ 46 → key.Unsupported ≡ keywordOf k
+-- an empty token has no leading dot
+pub none-leads : (k : Bytes) → length k ≡ 0 → false ≡ leadingDot k
+unfolding headD
+none-leads [] h = refl
+none-leads (c ∷ k) h = absurd (omega arith)
+
+-- a leading dot, and none of the keywords, of which the last is told apart: a search for all seven takes too long
+pub dot-first : {k : Bytes} {b : Bool} → NoneOf k (take 6 keywords) → b ≡ same k (nameAt 6 .name) → b ≡ false → leadingDot k ≡ true → key.Unsupported ≡ keywordOf k
 dot-first {k} h e f d =
     sym
     (keyword-tests k
     ∙ tests-left (take 6 keywords) (drop 6 keywords) h
     ∙ tests-left (drop 6 keywords) [] (other e f none)
-    ∙ rw (eq-eqb 46 (headD k 0) (sym (head-is k ∙ d))))
+    ∙ rw d)
 
--- no dot first: no keyword
-pub no-dot-first : (k : Bytes) → (getD k 0 0 ≡ 46 → ⊥) → keywordOf k ≡ key.Cube
+-- no leading dot: no keyword
+pub no-dot-first : (k : Bytes) → leadingDot k ≡ false → keywordOf k ≡ key.Cube
 unfolding keywordOf same headD
 no-dot-first [] f = refl
-no-dot-first (c ∷ k) f = rw (ne-eqb c 46 f, ne-eqb 46 c (λ q. f (sym q)))
+no-dot-first (c ∷ k) f = rw f
 
--- an empty token is no keyword
-pub no-bytes : (k : Bytes) → length k ≡ 0 → keywordOf k ≡ key.Cube
-unfolding keywordOf same headD
-no-bytes [] h = refl
-no-bytes (c ∷ k) h = absurd (omega arith)
+-- whether a keyword is that of cube lines
+cubeKey : Keyword → Bool
+cubeKey key.Model = false
+cubeKey key.Inputs = false
+cubeKey key.Outputs = false
+cubeKey key.Latch = false
+cubeKey key.Names = false
+cubeKey key.End = false
+cubeKey key.Exdc = false
+cubeKey key.Unsupported = false
+cubeKey key.Cube = true
+
+-- where none of these is, a token with a leading dot is none
+dot-among : (ns : List Spelling) (k : Bytes) → leadingDot k ≡ true → any (λ (n : Spelling). cubeKey (n .keyword)) ns ≡ false → cubeKey (keywordAmong ns k) ≡ false
+unfolding cubeKey
+dot-among [] k d a = rw d
+dot-among (n ∷ ns) k d a =
+    by-test (same k (n .name))
+    (λ t. rw t (or-left (cubeKey (n .keyword)) (any (λ (m : Spelling). cubeKey (m .keyword)) ns) a))
+    (λ t. rw t (dot-among ns k d (or-right (cubeKey (n .keyword)) (any (λ (m : Spelling). cubeKey (m .keyword)) ns) a)))
+
+-- a leading dot: no cube line
+pub dot-no-cube : (k : Bytes) → leadingDot k ≡ true → key.Cube ≡ keywordOf k → ⊥
+unfolding cubeKey
+dot-no-cube k d e =
+    let q : true ≡ false = ap cubeKey (e ∙ keyword-tests k) ∙ dot-among keywords k d refl in
+    let z : _≡_ {A = ℕ} 0 1 = cc in
+    omega arith

@@ -15,9 +15,11 @@ use Rattle.blif_text.specs.Statements as stmt
 use Rattle.blif_text.specs.between.Rows.{rowStmt}
 use Rattle.blif_text.specs.between.Places.{tokenOf, tokensOf}
 use Rattle.blif_text.specs.Keywords.{keywordOf}
-use Rattle.blif_text.specs.between.PlacedStatements.{parsedFrom, statementOf, statementAt}
+use Rattle.blif_text.specs.between.PlacedStatements.{parsedFrom, namesRun, statementOf, statementAt}
 use Rattle.blif_text.specs.declared.Keyword.{Keyword}
 use Rattle.blif_text.specs.declared.Keyword.the-variants as key
+use Rattle.blif_text.specs.declared.Run.{Run}
+use Rattle.blif_text.specs.declared.Statement.{Statement}
 use Rattle.blif_text.specs.declared.Statement.the-variants as place
 use Rattle.lists.proofs.Tests.{by-order}
 use Rattle.blif_text.proofs.WordLaws.{drop-take}
@@ -80,21 +82,30 @@ module _ (text cells : List ℕ) where
 
 -- ---- the statement of places by its keyword
 
+-- how many names there are
+many : (at end : ℕ) {names : Run} → names ≡ namesRun at end → names .count ≡ end - at - 1
+many at end e = ap (λ (run : Run). run .count) e
+
 module _ {keyword : Keyword} (at end : ℕ) where
   pub of-keyword : {k : Keyword} → keyword ≡ k → statementOf k at end ≡ statementOf keyword at end
   of-keyword q = ap (λ (k : Keyword). statementOf k at end) (sym q)
 
-  pub of-no-model : keyword ≡ key.Model → end - at - 1 < 1 → place.Refused refusal.MissingName ≡ statementOf keyword at end
-  of-no-model q m = rw (lt-ltb (end - at - 1) 1 m) at (of-keyword q)
+  module _ {names : Run} (e : names ≡ namesRun at end) where
+    -- a statement that has the names
+    pub of-names : {k : Keyword} (f : Run → Statement) → f (namesRun at end) ≡ statementOf k at end → keyword ≡ k → f names ≡ statementOf keyword at end
+    of-names f p q = ap f e ∙ p ∙ of-keyword q
 
-  pub of-model : keyword ≡ key.Model → 1 ≤ end - at - 1 → place.Model ≡ statementOf keyword at end
-  of-model q m = rw (le-ltb (end - at - 1) 1 m) at (of-keyword q)
+    pub of-no-model : keyword ≡ key.Model → names .count < 1 → place.Refused refusal.MissingName ≡ statementOf keyword at end
+    of-no-model q m = rw (lt-ltb (end - at - 1) 1 (omega (arith, many at end e, m))) at (of-keyword q)
 
-  pub of-no-latch : keyword ≡ key.Latch → end - at - 1 < 2 → place.Refused refusal.MissingName ≡ statementOf keyword at end
-  of-no-latch q m = rw (lt-ltb (end - at - 1) 2 m) at (of-keyword q)
+    pub of-model : keyword ≡ key.Model → 1 ≤ names .count → place.Model ≡ statementOf keyword at end
+    of-model q m = rw (le-ltb (end - at - 1) 1 (omega (arith, many at end e, m))) at (of-keyword q)
 
-  pub of-latch : keyword ≡ key.Latch → 2 ≤ end - at - 1 → place.Latch (at + 1) ≡ statementOf keyword at end
-  of-latch q m = rw (le-ltb (end - at - 1) 2 m) at (of-keyword q)
+    pub of-no-latch : keyword ≡ key.Latch → names .count < 2 → place.Refused refusal.MissingName ≡ statementOf keyword at end
+    of-no-latch q m = rw (lt-ltb (end - at - 1) 2 (omega (arith, many at end e, m))) at (of-keyword q)
+
+    pub of-latch : keyword ≡ key.Latch → 2 ≤ names .count → place.Latch (names .first) ≡ statementOf keyword at end
+    of-latch q m = of-names (λ (run : Run). place.Latch (run .first)) (sym (rw (le-ltb (end - at - 1) 2 (omega (arith, many at end e, m))))) q
 
 -- ---- what the statement of places says
 

@@ -1,4 +1,5 @@
 -- The seven keywords (document 01, src/io/blif.rs). Assumes nothing: these are definitions.
+use mathlib.Core.Bool.{Bool}
 use mathlib.Core.List.{List, [], _∷_, headD}
 use lib.Dec.{eqb}
 use Rattle.lists.specs.Lists.{if_then_else_, Bytes, bytes, same}
@@ -28,10 +29,14 @@ keywords =
     ∷ spelling (bytes ".exdc") key.Exdc
     ∷ []
 
+-- "a leading dot"
+abbrev pub leadingDot : Bytes → Bool
+leadingDot k = eqb (headD k 0) 46
+
 -- the first of these that a token is: "compared byte for byte"; "another first token with a leading dot is unsupported; any other
 -- statement is a cube line"
 abbrev pub keywordAmong : List Spelling → Bytes → Keyword
-keywordAmong [] k = if eqb 46 (headD k 0) then key.Unsupported else key.Cube
+keywordAmong [] k = if leadingDot k then key.Unsupported else key.Cube
 keywordAmong (n ∷ ns) k = if same k (n .name) then n .keyword else keywordAmong ns k
 
 -- the keyword of a statement's first token

@@ -12,8 +12,8 @@ ghost use Rattle.lists.specs.Lists.{any, overwrite};
 ghost use Rattle.lists.specs.between.Lists.{overwriteAt};
 ghost use Rattle.blif_text.specs.Lines.{isBlank, maxText};
 ghost use Rattle.blif_text.specs.between.Places.{maxTokens, tokenCell, isFirst, tokenStart, tokenLength, InText, tokenOf, tokensOf, tokenCells, TokensMarked};
-ghost use Rattle.blif_text.specs.Keywords.{keywordOf};
-ghost use Rattle.blif_text.specs.between.PlacedStatements.{RowTo, statementOf, statementAt, refusalIn};
+ghost use Rattle.blif_text.specs.Keywords.{leadingDot, keywordOf};
+ghost use Rattle.blif_text.specs.between.PlacedStatements.{RowTo, namesRun, statementOf, statementAt, refusalIn};
 ghost use Rattle.blif_text.specs.Statements.{parsed, firstBad};
 ghost use Rattle.blif_text.specs.Decls.{columns};
 ghost use Rattle.blif_text.specs.between.Walk.{Inside};
@@ -352,14 +352,21 @@ pub fn token(text: &[u8], cell: u32) -> &[u8]
     &text[start..end]
 }
 
+// Whether a token has a leading dot: the first token of every statement but a cube line has.
+pub fn has_leading_dot(token: &[u8]) -> bool
+    ensures { λ r. ⌜ r ≡ leadingDot (now (token .entry)) ⌝ }
+{
+    if token.len() == 0 {
+        return false;
+    }
+    token[0] == b'.'
+}
+
 // The keyword that a statement's first token is.
 pub fn keyword_of(token: &[u8]) -> Keyword
     ensures { λ r. ⌜ r ≡ keywordOf (now (token .entry)) ⌝ }
 {
-    if token.len() == 0 {
-        return Keyword::Cube;
-    }
-    if token[0] != b'.' {
+    if !has_leading_dot(token) {
         return Keyword::Cube;
     }
     if equal(token, b".model") {
@@ -412,15 +419,23 @@ pub fn line_columns<'a, 'b>(text: &'a [u8], row: &'b [u32]) -> &'a [u8]
     token(text, row[0])
 }
 
+// The names of the row from at to end: its tokens behind the first.
+pub fn names_run(at: usize, end: usize) -> Run
+    requires { ⌜ at < end ⌝ }
+    ensures { λ r. ⌜ r ≡ namesRun at end ⌝ }
+{
+    Run {
+        first: at + 1,
+        count: end - at - 1,
+    }
+}
+
 // The statement of the row from at to end, whose first token has this keyword.
 fn statement_of(keyword: Keyword, at: usize, end: usize) -> Statement
     requires { ⌜ at < end ⌝ }
     ensures { λ r. ⌜ r ≡ statementOf keyword at end ⌝ }
 {
-    let names = Run {
-        first: at + 1,
-        count: end - at - 1,
-    };
+    let names = names_run(at, end);
     match keyword {
         Keyword::Model => {
             if names.count < 1 {
@@ -434,7 +449,7 @@ fn statement_of(keyword: Keyword, at: usize, end: usize) -> Statement
             if names.count < 2 {
                 return Statement::Refused(Refusal::MissingName);
             }
-            Statement::Latch(at + 1)
+            Statement::Latch(names.first)
         }
         Keyword::Names => Statement::Names(names),
         Keyword::End => Statement::End,
@@ -468,6 +483,19 @@ fn refusal_of(s: Statement) -> Checked
     }
 }
 
+// The refusal of 4 and 5 that the statement of the row from at to end is, if it is one; a cube line never is.
+fn refusal_at(text: &[u8], cells: &[u32], at: usize, end: usize) -> Checked
+    requires { ⌜ (at < end) × (end ≤ length (now cells)) ⌝ }
+    requires { ⌜ InText (now text) (getD (now cells) at 0) ⌝ }
+    ensures { λ r. ⌜ r ≡ refusalIn (statementAt (now (text .entry)) (now (cells .entry)) at end) ⌝ }
+{
+    let first = cells[at];
+    if !has_leading_dot(token(text, first)) {
+        return Checked::Fine;
+    }
+    refusal_of(statement_at(text, cells, at, end))
+}
+
 // The first refusal of 4 and 5 among the statements of marked tokens, if there is one.
 pub fn first_bad(text: &[u8], cells: &[u32]) -> Checked
     requires { ⌜ TokensMarked (now text) (now cells) (length (now cells)) ⌝ }
@@ -476,7 +504,7 @@ pub fn first_bad(text: &[u8], cells: &[u32]) -> Checked
     let mut at = 0;
     while at < cells.len() {
         let end = row_end(cells, at);
-        let bad = refusal_of(statement_at(text, cells, at, end));
+        let bad = refusal_at(text, cells, at, end);
         if let Checked::Refused(refusal) = bad {
             return Checked::Refused(refusal);
         }

@@ -1,7 +1,6 @@
 -- The declarations of a text by their places, one after the other (document 01: "`Statement` with lists: an enum of places"). Assumes
 -- nothing: these are definitions.
 use mathlib.Core.Path.{_≡_}
-use mathlib.Core.Bool.{false}
 use mathlib.Core.List.{List, [], _∷_, _++_}
 use Prim.Native.Nat.{ℕ, _+_, _≤_, _<_}
 use lib.ListN.{length}
@@ -10,8 +9,7 @@ use Rattle.blif_text.specs.Decls.{Decl, model, end, inputs, outputs, gate, decl
 use Rattle.blif_text.specs.between.Walk.{rowsFrom, stmtsFrom, RowsAt, StmtsAt}
 use Rattle.blif_text.specs.between.Blocks.{latchFrom, coverFrom}
 use Rattle.blif_text.specs.declared.Block.{Block}
-use Rattle.blif_text.specs.declared.Statement.{Statement}
-use Rattle.blif_declarations.specs.between.Rows.{names, RowIs, isCube}
+use Rattle.blif_declarations.specs.between.Rows.{names}
 use Rattle.blif_declarations.specs.declared.Declaration.{Declaration}
 use Rattle.blif_declarations.specs.declared.Declaration.the-variants as next
 
@@ -56,7 +54,3 @@ pub record NextIs (text tokens : List ℕ) (n at : ℕ) (d : Declaration) (behin
   pub are : decls (stmtsFrom text tokens n at) ≡ declAt text tokens n d ++ decls (stmtsFrom text tokens n behind)
   -- its places
   pub places : PlacesIn text tokens n behind d
-
--- d is what a statement declares whose row ends at stop, if it is no cube line
-abbrev pub Declares : Bytes → List ℕ → ℕ → Statement → ℕ → Declaration → ℕ → Type 0
-Declares text tokens n s stop d behind = (at : ℕ) → RowIs text tokens n at stop s → isCube s ≡ false → NextIs text tokens n at d behind

@@ -1,10 +1,9 @@
 -- `first_bad` passes one row after the other. Assumes nothing.
-use mathlib.Core.Path.{sym, ap, _∙_}
+use mathlib.Core.Path.{sym, _∙_}
 use Prim.Native.Nat.{_-_}
 use native.Mathlib.Omega.{arith}
 use lib.ListN.{length}
 use borrow.Author.Needs.{needs}
-use Rattle.blif_text.specs.between.PlacedStatements.{refusalIn}
 use Rattle.blif_text.proofs.RefusalLaws.{Passing, passing-start, passing-done, passing-stop, passing-next}
 use Rattle.blif_text.proofs.first_bad.Statement.{statement}
 use Rattle.blif_text.proofs.first_bad.Tie as tie
@@ -21,36 +20,31 @@ loop-holds c = passing-start (c .before .before .pre) (omega arith)
 row-end-requires : tie.Need-row-end-requires Inv-loop μ-loop
 row-end-requires c κs = c .loop-test .taken
 
-statement-at-requires : tie.Need-statement-at-requires Inv-loop μ-loop
-statement-at-requires c κs =
+refusal-at-requires : tie.Need-refusal-at-requires Inv-loop μ-loop
+refusal-at-requires c κs =
     let v = c .before .before .loop .inv in
     let w = c .row-end .ensures in
     ((w .low, omega (arith, w .high, v .rows .places .room)), v .rows .places .inside (c .before .before .loop .at) (c .before .loop-test .taken))
 
-refusal-of-requires : tie.Need-refusal-of-requires Inv-loop μ-loop
-refusal-of-requires c κs = tt
-
 returns : tie.Need-returns Inv-loop μ-loop
 returns c =
-    let v = c .before .before .before .before .before .before .before .loop .inv in
-    let taken = c .before .before .before .before .before .before .loop-test .taken in
-    let w = c .before .before .before .before .before .row-end .ensures in
-    let s = c .before .before .before .before .statement-at .ensures in
-    passing-stop v taken w (sym (c .before .before .before .refusal-of .ensures ∙ ap refusalIn s) ∙ c .before .bad .given .1)
+    let v = c .before .before .before .before .before .before .loop .inv in
+    let taken = c .before .before .before .before .before .loop-test .taken in
+    let w = c .before .before .before .before .row-end .ensures in
+    passing-stop v taken w (sym (c .before .before .before .refusal-at .ensures) ∙ c .before .bad .given .1)
 
 enum-told : tie.Need-enum-told Inv-loop μ-loop
 enum-told c = search needs
 
 loop-less : tie.Need-loop-less Inv-loop μ-loop
-loop-less c = omega (arith, c .before .before .before .before .row-end .ensures .low, c .before .before .before .before .before .loop-test .taken)
+loop-less c = omega (arith, c .before .before .before .row-end .ensures .low, c .before .before .before .before .loop-test .taken)
 
 loop-again : tie.Need-loop-again Inv-loop μ-loop
 loop-again c =
-    let v = c .before .before .before .before .before .before .loop .inv in
-    let taken = c .before .before .before .before .before .loop-test .taken in
-    let w = c .before .before .before .before .row-end .ensures in
-    let s = c .before .before .before .statement-at .ensures in
-    passing-next v taken w (sym (c .before .before .refusal-of .ensures ∙ ap refusalIn s) ∙ c .enum-told .given .1)
+    let v = c .before .before .before .before .before .loop .inv in
+    let taken = c .before .before .before .before .loop-test .taken in
+    let w = c .before .before .before .row-end .ensures in
+    passing-next v taken w (sym (c .before .before .refusal-at .ensures) ∙ c .enum-told .given .1)
 
 returns-2 : tie.Need-returns-2 Inv-loop μ-loop
 returns-2 c = passing-done (c .before .loop .inv) (c .loop-test .left)
@@ -59,5 +53,5 @@ pub first-bad-spec : {M : Type 1} → statement M
 first-bad-spec =
     tie.close
     (tie.spec
-    Inv-loop μ-loop loop-holds row-end-requires statement-at-requires refusal-of-requires (λ c. search needs)
+    Inv-loop μ-loop loop-holds row-end-requires refusal-at-requires (λ c. search needs)
     returns enum-told loop-less loop-again returns-2)
