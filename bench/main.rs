@@ -14,6 +14,17 @@ use part::{Lent, NetworkAnswer, TextAnswer};
 use std::hint::black_box;
 use std::time::Instant;
 
+extern "C" {
+    fn vumneath_read_blif(
+        text: *const u8, text_len: usize, gates: *mut u32, gates_len: usize, pins: *mut u32, pins_len: usize, outputs: *mut u32, outputs_len: usize,
+        work_gates: *mut u32, work_gates_len: usize, work_pins: *mut u32, work_pins_len: usize,
+    ) -> NetworkAnswer;
+    fn vumneath_write_blif(
+        inputs: u32, gate_count: u32, pin_count: u32, output_count: u32, gates: *const u32, gates_len: usize, pins: *const u32, pins_len: usize,
+        outputs: *const u32, outputs_len: usize, out: *mut u8, out_len: usize,
+    ) -> TextAnswer;
+}
+
 // The least times in nanoseconds of this part and of Quaigh; None where there is nothing to compare.
 #[derive(Clone, Copy)]
 pub struct Pair {
@@ -36,13 +47,13 @@ pub struct Measured {
 #[no_mangle]
 #[inline(never)]
 pub extern "C" fn counted_part_read(lent: &mut Lent, text: &Vec<u8>) -> NetworkAnswer {
-    lent.read(text)
+    lent.read(vumneath_read_blif, text)
 }
 
 #[no_mangle]
 #[inline(never)]
 pub extern "C" fn counted_part_write(lent: &mut Lent, n: NetworkAnswer) -> TextAnswer {
-    lent.write(n)
+    lent.write(vumneath_write_blif, n)
 }
 
 #[no_mangle]
@@ -82,7 +93,7 @@ fn read_both(lent: &mut Lent, input: &Input) -> (NetworkAnswer, Option<Network>)
         let (a, n) = xor_of_12(lent);
         return (a, Some(n));
     }
-    let a = lent.read(&input.text);
+    let a = lent.read(vumneath_read_blif, &input.text);
     let n = if a.refused == 0 { Some(read_blif(input.text.as_slice()).expect("Quaigh reads what is read here")) } else { None };
     (a, n)
 }
@@ -101,7 +112,7 @@ fn runs(input: &Input) -> usize {
 fn measure(input: &Input) -> Measured {
     let mut lent = Lent::new();
     let (a, n) = read_both(&mut lent, input);
-    let mut w = lent.write(a);
+    let mut w = lent.write(vumneath_write_blif, a);
     let mut out = Vec::with_capacity(1 << 20);
     let mut times = [f64::MAX; 5];
     for _ in 0..runs(input) {

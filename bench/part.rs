@@ -1,4 +1,4 @@
-// The part, as the static library exports it, and its cells.
+// The calls that the static library exports, and the cells and bytes that a caller lends.
 #[repr(C)]
 #[derive(Clone, Copy, Default)]
 pub struct NetworkAnswer {
@@ -16,16 +16,13 @@ pub struct TextAnswer {
     pub length: u32,
 }
 
-extern "C" {
-    fn vumneath_read_blif(
-        text: *const u8, text_len: usize, gates: *mut u32, gates_len: usize, pins: *mut u32, pins_len: usize, outputs: *mut u32, outputs_len: usize,
-        work_gates: *mut u32, work_gates_len: usize, work_pins: *mut u32, work_pins_len: usize,
-    ) -> NetworkAnswer;
-    fn vumneath_write_blif(
-        inputs: u32, gate_count: u32, pin_count: u32, output_count: u32, gates: *const u32, gates_len: usize, pins: *const u32, pins_len: usize,
-        outputs: *const u32, outputs_len: usize, out: *mut u8, out_len: usize,
-    ) -> TextAnswer;
-}
+// text, gates, pins, outputs, work gates, work pins: each with its length.
+pub type Read =
+    unsafe extern "C" fn(*const u8, usize, *mut u32, usize, *mut u32, usize, *mut u32, usize, *mut u32, usize, *mut u32, usize) -> NetworkAnswer;
+
+// inputs, gates, pins and outputs in use, then gates, pins, outputs and the text to be filled: each with its length.
+pub type Write =
+    unsafe extern "C" fn(u32, u32, u32, u32, *const u32, usize, *const u32, usize, *const u32, usize, *mut u8, usize) -> TextAnswer;
 
 // The cells and bytes that a caller lends, of exactly the sizes that are asked for.
 pub struct Lent {
@@ -49,18 +46,18 @@ impl Lent {
         }
     }
 
-    pub fn read(&mut self, text: &[u8]) -> NetworkAnswer {
+    pub fn read(&mut self, call: Read, text: &[u8]) -> NetworkAnswer {
         unsafe {
-            vumneath_read_blif(
+            call(
                 text.as_ptr(), text.len(), self.gates.as_mut_ptr(), self.gates.len(), self.pins.as_mut_ptr(), self.pins.len(),
                 self.outputs.as_mut_ptr(), self.outputs.len(), self.work_gates.as_mut_ptr(), self.work_gates.len(), self.work_pins.as_mut_ptr(), self.work_pins.len(),
             )
         }
     }
 
-    pub fn write(&mut self, n: NetworkAnswer) -> TextAnswer {
+    pub fn write(&mut self, call: Write, n: NetworkAnswer) -> TextAnswer {
         unsafe {
-            vumneath_write_blif(
+            call(
                 n.inputs, n.gates, n.pins, n.outputs, self.gates.as_ptr(), self.gates.len(), self.pins.as_ptr(), self.pins.len(),
                 self.outputs.as_ptr(), self.outputs.len(), self.out.as_mut_ptr(), self.out.len(),
             )
