@@ -23,11 +23,11 @@ use Rattle.blif_declarations.proofs.RowStarts.{row-found, row-is}
 -- ---- a row that is a cube line, and one that is none
 
 module _ {text tokens : List ℕ} {n at end : ℕ} where
-  pub cube-lines : RowIs text tokens n at end key.Cube → cubes (stmtsFrom text tokens n at) ≡ tokensOf text (slice at end tokens) ∷ cubes (stmtsFrom text tokens n end)
+  cube-lines : RowIs text tokens n at end key.Cube → cubes (stmtsFrom text tokens n at) ≡ tokensOf text (slice at end tokens) ∷ cubes (stmtsFrom text tokens n end)
   unfolding cubes
   cube-lines w = ap cubes (w .starts)
 
-  cube-decls : RowIs text tokens n at end key.Cube → decls (stmtsFrom text tokens n end) ≡ decls (stmtsFrom text tokens n at)
+  pub cube-decls : RowIs text tokens n at end key.Cube → decls (stmtsFrom text tokens n end) ≡ decls (stmtsFrom text tokens n at)
   unfolding decls
   cube-decls w = sym (ap decls (w .starts))
 
@@ -109,7 +109,6 @@ module _ {text tokens : List ℕ} {n at count i : ℕ} (c : Passed text tokens n
         lines = are ∙ sym first;
         enough = omega (arith, c .counted, ap length (c .rows), length-append (c .seen) (rowsFrom text tokens n i));
         counted = c .counted ∙ sym (ap length are);
-        none = e;
         same = c .same;
       }
 

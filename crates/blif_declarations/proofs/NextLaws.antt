@@ -1,21 +1,23 @@
--- The next declaration: what a row declares, and the stray cube lines before it. Assumes nothing.
+-- What a row declares, with the cube lines behind it. Assumes nothing.
 use mathlib.Core.Path.{_≡_, refl, sym, ap, ap₂, _∙_, subst}
-use mathlib.Core.List.{List, [], _∷_}
+use mathlib.Core.List.{List, [], _∷_, _++_}
 use Prim.Native.Nat.{ℕ, _+_, _-_, _≤_, _<_}
 use native.Mathlib.Omega.{arith}
 use lib.ListN.{length, take}
 use Rattle.lists.specs.Lists.{Bytes}
-use Rattle.blif_text.specs.Decls.{cover, Decl, gate, cubes, decls}
+use Rattle.blif_text.specs.Decls.{cover, Decl, model, inputs, outputs, gate, decls}
+use Rattle.blif_text.specs.Decls as decl
 use Rattle.blif_text.specs.between.PlacedStatements.{namesRun}
 use Rattle.blif_text.specs.between.Walk.{rowsFrom, stmtsFrom, RowsAt, StmtsAt}
+use Rattle.blif_text.specs.between.Blocks.{latchFrom}
+use Rattle.blif_text.specs.declared.Keyword.{Keyword}
 use Rattle.blif_text.specs.declared.Keyword.the-variants as key
 use Rattle.blif_text.proofs.RefusalLaws.{stmts-end}
 use Rattle.blif_declarations.specs.between.Rows.{names, RowIs, LinesAt}
-use Rattle.blif_declarations.specs.between.Declarations.{NextIs}
+use Rattle.blif_declarations.specs.between.Declarations.{declaredBy, behindRow, NextIs}
 use Rattle.blif_declarations.specs.declared.Declaration.{Declaration}
-use Rattle.blif_declarations.specs.declared.Declaration.the-variants as next
 use Rattle.blif_declarations.proofs.RowStarts.{stmts-behind}
-use Rattle.blif_declarations.proofs.LineWalk.{cube-lines}
+use Rattle.blif_declarations.proofs.LineWalk.{cube-decls}
 
 -- no statement, no declaration
 no-decls : decls [] ≡ []
@@ -30,38 +32,47 @@ decls-end c h = ap decls (stmts-end c h) ∙ no-decls
 pub next-as : {text tokens : List ℕ} {n at behind : ℕ} {d e : Declaration} → NextIs text tokens n at d behind → d ≡ e → NextIs text tokens n at e behind
 next-as {text} {tokens} {n} {at} {behind} x q = subst (λ (d : Declaration). NextIs text tokens n at d behind) q x
 
--- ---- what a row declares
+-- ---- what a row declares, with the cube lines behind it
 
-module _ {text tokens : List ℕ} {n at end : ℕ} where
-  pub next-model : RowIs text tokens n at end key.Model → NextIs text tokens n at next.Model end
+module _ {text tokens : List ℕ} {n end k e : ℕ} (l : LinesAt text tokens n end k e) where
+  -- a token is passed
+  moves : {at : ℕ} {keyword : Keyword} → RowIs text tokens n at end keyword → at < e
+  moves w = omega (arith, w .low, l .low)
+
+  -- cube lines "elsewhere .. are not looked at"
+  stray : (ds : List Decl) → ds ++ decls (stmtsFrom text tokens n end) ≡ ds ++ decls (stmtsFrom text tokens n e)
+  stray ds = ap (λ (x : List Decl). ds ++ x) (sym (l .same))
+
+  pub row-declares : {at : ℕ} (keyword : Keyword) → RowIs text tokens n at end keyword
+      → NextIs text tokens n at (declaredBy keyword (namesRun at end) k) (behindRow keyword e n)
   unfolding decls
-  next-model w = record { low = λ h. w .low; rest = w .rest; are = ap decls (w .starts); places = tt }
-
-  -- "statements after `.end` still count"
-  pub next-end : RowIs text tokens n at end key.End → NextIs text tokens n at next.End end
-  unfolding decls
-  next-end w = record { low = λ h. w .low; rest = w .rest; are = ap decls (w .starts); places = tt }
-
-  pub next-inputs : RowIs text tokens n at end key.Inputs → NextIs text tokens n at (next.Inputs (namesRun at end)) end
-  unfolding decls
-  next-inputs w = record { low = λ h. w .low; rest = w .rest; are = ap decls (w .starts); places = omega (arith, w .low, w .rest .rows .high) }
-
-  pub next-outputs : RowIs text tokens n at end key.Outputs → NextIs text tokens n at (next.Outputs (namesRun at end)) end
-  unfolding decls
-  next-outputs w = record { low = λ h. w .low; rest = w .rest; are = ap decls (w .starts); places = omega (arith, w .low, w .rest .rows .high) }
-
-  pub next-latch : RowIs text tokens n at end key.Latch → NextIs text tokens n at (next.Latch (at + 1)) end
-  unfolding decls
-  next-latch w = record { low = λ h. w .low; rest = w .rest; are = ap decls (w .starts .0); places = omega (arith, w .starts .1, w .rest .rows .high) }
-
+  row-declares {at} key.Model w = record { low = moves w; rest = l .rest; are = ap decls (w .starts) ∙ stray (model ∷ []); places = tt }
+  row-declares {at} key.Inputs w =
+      record {
+        low = moves w;
+        rest = l .rest;
+        are = ap decls (w .starts) ∙ stray (inputs (names text tokens (namesRun at end)) ∷ []);
+        places = omega (arith, w .low, w .rest .rows .high);
+      }
+  row-declares {at} key.Outputs w =
+      record {
+        low = moves w;
+        rest = l .rest;
+        are = ap decls (w .starts) ∙ stray (outputs (names text tokens (namesRun at end)) ∷ []);
+        places = omega (arith, w .low, w .rest .rows .high);
+      }
+  row-declares {at} key.Latch w =
+      record {
+        low = moves w;
+        rest = l .rest;
+        are = ap decls (w .starts .0) ∙ stray (gate (latchFrom text tokens (at + 1)) ∷ []);
+        places = omega (arith, w .starts .1, w .rest .rows .high);
+      }
   -- "Cube lines count only directly after their `.names`"
-  pub next-cover : {k e : ℕ} → RowIs text tokens n at end key.Names → LinesAt text tokens n end k e
-      → NextIs text tokens n at (next.Cover (record { first = at + 1; names = end - at - 1; lines = k })) e
-  unfolding decls
-  next-cover {k} {e} w l =
+  row-declares {at} key.Names w =
       let m : end ≡ at + 1 + (end - at - 1) = omega (arith, w .low) in
       record {
-        low = λ h. omega (arith, w .low, l .low);
+        low = moves w;
         rest = l .rest;
         are =
             ap decls (w .starts)
@@ -75,25 +86,11 @@ module _ {text tokens : List ℕ} {n at end : ℕ} where
               short = omega (arith, l .low, l .rest .rows .high);
             };
       }
-
+  -- "statements after `.end` still count"
+  row-declares {at} key.End w = record { low = moves w; rest = l .rest; are = ap decls (w .starts) ∙ stray (decl.end ∷ []); places = tt }
   -- "`.exdc` stops naming and building"
-  pub next-exdc : RowIs text tokens n at end key.Exdc → NextIs text tokens n at next.None n
-  unfolding decls
-  next-exdc w =
+  row-declares {at} key.Exdc w =
       let b = stmts-behind (w .rest) in
-      record { low = λ h. h; rest = b; are = ap decls (w .starts) ∙ sym (decls-end b (omega arith)); places = refl }
-
-  -- where no cube line stands, the row is none
-  pub cube-told : RowIs text tokens n at end key.Cube → cubes (stmtsFrom text tokens n at) ≡ [] → ⊥
-  cube-told w e = let z = ap length (sym (cube-lines w) ∙ e) in omega (arith, z)
-
--- ---- stray cube lines
-
--- cube lines "elsewhere .. are not looked at": what is declared behind them is the next declaration
-module _ {text tokens : List ℕ} {n at k i : ℕ} (c : LinesAt text tokens n at k i) where
-  pub stray-to : {d : Declaration} {behind : ℕ} → i < n → NextIs text tokens n i d behind → NextIs text tokens n at d behind
-  stray-to h w = record { low = λ l. omega (arith, c .low, w .low h); rest = w .rest; are = sym (c .same) ∙ w .are; places = w .places }
-
-  -- nothing stands behind them
-  pub stray-end : i ≡ n → NextIs text tokens n at next.None i
-  stray-end h = record { low = λ l. omega (arith, h); rest = c .rest; are = sym (c .same); places = h }
+      record { low = omega (arith, w .low, w .rest .rows .high); rest = b; are = ap decls (w .starts) ∙ sym (decls-end b (omega arith)); places = tt }
+  row-declares {at} key.Unsupported w = absurd (w .starts)
+  row-declares {at} key.Cube w = record { low = moves w; rest = l .rest; are = sym (cube-decls w) ∙ stray []; places = tt }

@@ -1,5 +1,5 @@
 -- The row at a place: its statement is the first of those from there on. Assumes nothing.
-use mathlib.Core.Path.{_≡_, refl, sym, ap, _∙_, subst}
+use mathlib.Core.Path.{_≡_, refl, sym, ap, _∙_}
 use mathlib.Core.Bool.{true, false}
 use mathlib.Core.List.{List, [], _∷_, map}
 use Prim.Native.Nat.{ℕ, zero, suc, _+_, _-_, _≤_, _<_}
@@ -39,10 +39,6 @@ names-length text cells run h =
     length-map (slice (run .first) (run .first + run .count) cells) (tokenOf text)
     ∙ length-slice (run .first) (run .first + run .count) cells h
     ∙ omega arith
-
--- the same row of an equal keyword
-pub row-as : {text cells : List ℕ} {n at r : ℕ} {k m : Keyword} → RowIs text cells n at r k → k ≡ m → RowIs text cells n at r m
-row-as {text} {cells} {n} {at} {r} w e = subst (RowIs text cells n at r) e w
 
 -- ---- the place behind all rows
 

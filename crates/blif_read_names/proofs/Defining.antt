@@ -22,7 +22,7 @@ use Rattle.refusals.specs.declared.Checked.{Checked}
 use Rattle.refusals.specs.declared.Checked.the-variants.{Fine, Refused}
 use Rattle.blif_reading.specs.Read.{naming}
 use Rattle.blif_read_names.specs.between.Entries.{inputEntries}
-use Rattle.blif_read_names.specs.between.Naming.{namesIn, InputsEntered, walkAt, stepOf, TablesTo, NamingSoFar, Steps, stops, goes}
+use Rattle.blif_read_names.specs.between.Naming.{namesIn, InputsEntered, seen, walkAt, stepOf, TablesTo, NamingSoFar, Steps, stops, goes}
 use Rattle.blif_read_names.specs.declared.Walk.{Walk}
 use Rattle.blif_read_names.specs.declared.Step.{Step}
 use Rattle.blif_read_names.specs.declared.Step.the-variants as step
@@ -64,7 +64,7 @@ step-is w e q = sym (e ∙ ap (λ (x : Checked). stepOf x w) q)
 module _ {text tokens : List ℕ} {n : ℕ} {index out blocks : List ℕ} {v : Walk} (c : NamingSoFar text tokens n index out blocks v) where
   -- the walk at another place, with these tables
   pub on : {index′ out′ blocks′ : List ℕ} (w : Walk) → StmtsAt text tokens n (w .at) → length out′ ≡ length out → length blocks′ ≡ length blocks
-      → naming false [] (decls (stmtsFrom text tokens n 0)) ≡ naming (w .seen) (namesIn text index′ (w .inputs + w .gates)) (decls (stmtsFrom text tokens n (w .at)))
+      → naming false [] (decls (stmtsFrom text tokens n 0)) ≡ naming (seen w) (namesIn text index′ (w .inputs + w .gates)) (decls (stmtsFrom text tokens n (w .at)))
       → TablesTo (decls (stmtsFrom text tokens n 0)) (decls (stmtsFrom text tokens n (w .at))) text tokens n index′ out′ blocks′ (w .inputs) (w .gates) (w .outputs)
       → NamingSoFar text tokens n index′ out′ blocks′ w
   on w r p q e t =
@@ -85,8 +85,8 @@ module _ {text tokens : List ℕ} {n : ℕ} {index out blocks : List ℕ} {v : W
 
   -- the refusal of the declarations that are left
   pub left-as : {l : List Decl} → decls (stmtsFrom text tokens n (v .at)) ≡ l
-      → naming false [] (decls (stmtsFrom text tokens n 0)) ≡ naming (v .seen) (namesIn text index (v .inputs + v .gates)) l
-  left-as e = c .left ∙ ap (naming (v .seen) (namesIn text index (v .inputs + v .gates))) e
+      → naming false [] (decls (stmtsFrom text tokens n 0)) ≡ naming (seen v) (namesIn text index (v .inputs + v .gates)) l
+  left-as e = c .left ∙ ap (naming (seen v) (namesIn text index (v .inputs + v .gates))) e
 
   -- a declaration is passed: its refusal counts, or the walk goes on
   pub step-on : {index′ out′ blocks′ : List ℕ} (b rest : Checked) (w : Walk) → v .at < w .at → naming false [] (decls (stmtsFrom text tokens n 0)) ≡ (b orElse rest)
@@ -116,30 +116,30 @@ module _ {text tokens : List ℕ} {n : ℕ} {index out blocks : List ℕ} {v : W
   module _ (h : v .at < n) {behind : ℕ} where
     -- none is left
     pub go-none : NextIs text tokens n (v .at) next.None behind → Steps text tokens n index out blocks v (step.Next (walkAt v behind))
-    go-none x = goes (x .low h) (on _ (x .rest) refl refl (left-as (x .are)) (tabled-as (x .are)))
+    go-none x = goes (x .low) (on _ (x .rest) refl refl (left-as (x .are)) (tabled-as (x .are)))
 
     -- "7 at a second `.model`"
     pub go-model : NextIs text tokens n (v .at) next.Model behind
         → Steps text tokens n index out blocks v
-        (stepOf (refuseIf (v .seen) refusal.SecondModel) (record { at = behind; seen = true; inputs = v .inputs; gates = v .gates; outputs = v .outputs }))
+        (stepOf (refuseIf (seen v) refusal.SecondModel) (record { at = behind; models = 1; inputs = v .inputs; gates = v .gates; outputs = v .outputs }))
     go-model x =
         let l = decls (stmtsFrom text tokens n behind) in
-        let q = left-as (x .are) ∙ naming-model (v .seen) (namesIn text index (v .inputs + v .gates)) l in
-        step-on _ _ _ (x .low h) q (λ z e. on _ (x .rest) refl refl e (tabled-model (tabled-as (x .are))))
+        let q = left-as (x .are) ∙ naming-model (seen v) (namesIn text index (v .inputs + v .gates)) l in
+        step-on _ _ _ (x .low) q (λ z e. on _ (x .rest) refl refl e (tabled-model (tabled-as (x .are))))
 
     -- "8 at `.end` before any `.model`"
     pub go-end : NextIs text tokens n (v .at) next.End behind
-        → Steps text tokens n index out blocks v (stepOf (refuseIf (not (v .seen)) refusal.EndBeforeModel) (walkAt v behind))
+        → Steps text tokens n index out blocks v (stepOf (refuseIf (not (seen v)) refusal.EndBeforeModel) (walkAt v behind))
     go-end x =
         let l = decls (stmtsFrom text tokens n behind) in
-        let q = left-as (x .are) ∙ naming-end (v .seen) (namesIn text index (v .inputs + v .gates)) l in
-        step-on _ _ _ (x .low h) q (λ z e. on _ (x .rest) refl refl e (tabled-end (tabled-as (x .are))))
+        let q = left-as (x .are) ∙ naming-end (seen v) (namesIn text index (v .inputs + v .gates)) l in
+        step-on _ _ _ (x .low) q (λ z e. on _ (x .rest) refl refl e (tabled-end (tabled-as (x .are))))
 
     -- "10 when a name is defined twice by inputs"
     pub go-inputs : {run : Run} {index′ : List ℕ} {b : Checked} → NextIs text tokens n (v .at) (next.Inputs run) behind
         → InputsEntered text (lent tokens run) index (entryCount index) (v .inputs) index′ b
         → Steps text tokens n index′ out blocks v
-        (stepOf b (record { at = behind; seen = v .seen; inputs = v .inputs + run .count; gates = v .gates; outputs = v .outputs }))
+        (stepOf b (record { at = behind; models = v .models; inputs = v .inputs + run .count; gates = v .gates; outputs = v .outputs }))
     go-inputs {run} {index′} {b} x entered =
         let cs = lent tokens run in
         let ns = tokensOf text cs in
@@ -148,15 +148,15 @@ module _ {text tokens : List ℕ} {n : ℕ} {index out blocks : List ℕ} {v : W
         let l = decls (stmtsFrom text tokens n behind) in
         let m = lent-length run (x .rest .rows .places) (x .places) in
         let k : v .inputs + v .gates + length cs ≡ v .inputs + run .count + v .gates = omega (arith, m) in
-        let rest = naming (v .seen) (namesIn text index (v .inputs + v .gates) ++ ns) l in
-        let q = left-as (inputs-are x) ∙ naming-inputs (v .seen) (namesIn text index (v .inputs + v .gates)) l ns ∙ ap (λ (y : Checked). y orElse rest) (sym (e .refused)) in
-        step-on b rest _ (x .low h) q
+        let rest = naming (seen v) (namesIn text index (v .inputs + v .gates) ++ ns) l in
+        let q = left-as (inputs-are x) ∙ naming-inputs (seen v) (namesIn text index (v .inputs + v .gates)) l ns ∙ ap (λ (y : Checked). y orElse rest) (sym (e .refused)) in
+        step-on b rest _ (x .low) q
         (λ z left.
         let a : entriesOf text index′ (v .inputs + run .count + v .gates) ≡ entriesOf text index (v .inputs + v .gates) ++ inputEntries (v .inputs) ns =
         ap (entriesOf text index′) (sym k) ∙ e .added z in
         on _ (x .rest) refl refl
         (left
-        ∙ ap (λ (y : List Bytes). naming (v .seen) y l)
+        ∙ ap (λ (y : List Bytes). naming (seen v) y l)
         (sym (names-more (entriesOf text index (v .inputs + v .gates)) (inputEntries (v .inputs) ns) a ∙ ap (λ (y : List Bytes). namesIn text index (v .inputs + v .gates) ++ y) (input-names (v .inputs) ns))))
         (tabled-inputs (tabled-as (inputs-are x)) (length-map cs (tokenOf text) ∙ m) (subst (Index text index′) k (e .index-is z)) a))
 
@@ -164,12 +164,12 @@ module _ {text tokens : List ℕ} {n : ℕ} {index out blocks : List ℕ} {v : W
     pub go-outputs : {run : Run} {out′ : List ℕ} → NextIs text tokens n (v .at) (next.Outputs run) behind
         → take (v .outputs + length (lent tokens run)) out′ ≡ take (v .outputs) out ++ lent tokens run → length out′ ≡ length out
         → Steps text tokens n index out′ blocks v
-        (step.Next (record { at = behind; seen = v .seen; inputs = v .inputs; gates = v .gates; outputs = v .outputs + run .count }))
+        (step.Next (record { at = behind; models = v .models; inputs = v .inputs; gates = v .gates; outputs = v .outputs + run .count }))
     go-outputs {run} {out′} x e p =
         let cs = lent tokens run in
         let t = tabled-as (outputs-are x) in
-        let w : ℕ → Walk = λ m. record { at = behind; seen = v .seen; inputs = v .inputs; gates = v .gates; outputs = v .outputs + m } in
+        let w : ℕ → Walk = λ m. record { at = behind; models = v .models; inputs = v .inputs; gates = v .gates; outputs = v .outputs + m } in
         subst (λ (m : ℕ). Steps text tokens n index out′ blocks v (step.Next (w m))) (lent-length run (x .rest .rows .places) (x .places))
-        (goes (x .low h)
-        (on _ (x .rest) p refl (left-as (outputs-are x) ∙ naming-outputs (v .seen) (namesIn text index (v .inputs + v .gates)) (decls (stmtsFrom text tokens n behind)) (tokensOf text cs))
+        (goes (x .low)
+        (on _ (x .rest) p refl (left-as (outputs-are x) ∙ naming-outputs (seen v) (namesIn text index (v .inputs + v .gates)) (decls (stmtsFrom text tokens n behind)) (tokensOf text cs))
         (tabled-outputs cs t e (inside-more (lent-inside run (x .rest .rows .places) (x .places)) (t .outputs-in) e (omega (arith, outputs-fit x, p))))))

@@ -25,7 +25,7 @@ use Rattle.refusals.specs.Order.{_orElse_, refuseIf}
 use Rattle.refusals.specs.declared.Refusal.the-variants as refusal
 use Rattle.refusals.specs.declared.Checked.{Checked}
 use Rattle.blif_reading.specs.Read.{gateCount, naming}
-use Rattle.blif_read_names.specs.between.Naming.{namesIn, GateDefined, walkAt, gateWalk, stepOf, LatchStep, CoverStep, NamingSoFar, Steps, stops}
+use Rattle.blif_read_names.specs.between.Naming.{namesIn, GateDefined, seen, walkAt, gateWalk, stepOf, LatchStep, CoverStep, NamingSoFar, Steps, stops}
 use Rattle.blif_read_names.specs.declared.Walk.{Walk}
 use Rattle.blif_read_names.specs.declared.Step.{Step}
 use Rattle.blif_read_names.specs.declared.Step.the-variants as step
@@ -73,8 +73,8 @@ module _ {text tokens : List ℕ} {n : ℕ} {index out blocks : List ℕ} {v : W
   -- a gate is defined
   go-gate : {d : Def} {x : Bytes} {a k l at : ℕ} {b : Checked} {index′ blocks′ : List ℕ} → v .at < at → StmtsAt text tokens n at
       → decls (stmtsFrom text tokens n (v .at)) ≡ gate d ∷ decls (stmtsFrom text tokens n at)
-      → naming (v .seen) (namesIn text index (v .inputs + v .gates)) (gate d ∷ decls (stmtsFrom text tokens n at))
-      ≡ (refuseIf (known x (namesIn text index (v .inputs + v .gates))) refusal.DefinedTwice orElse naming (v .seen) (namesIn text index (v .inputs + v .gates) ++ (x ∷ [])) (decls (stmtsFrom text tokens n at)))
+      → naming (seen v) (namesIn text index (v .inputs + v .gates)) (gate d ∷ decls (stmtsFrom text tokens n at))
+      ≡ (refuseIf (known x (namesIn text index (v .inputs + v .gates))) refusal.DefinedTwice orElse naming (seen v) (namesIn text index (v .inputs + v .gates) ++ (x ∷ [])) (decls (stmtsFrom text tokens n at)))
       → x ≡ defines d → defFrom text tokens n a k l ≡ d → BlockIn text tokens n a k l
       → GateDefined text index (entryCount index) (v .gates) x (record { first = a; names = k; lines = l }) blocks index′ blocks′ b → length blocks′ ≡ length blocks
       → Steps text tokens n index′ out blocks′ v (stepOf b (gateWalk (walkAt v at)))
@@ -85,11 +85,11 @@ module _ {text tokens : List ℕ} {n : ℕ} {index out blocks : List ℕ} {v : W
       let t = tabled-as c e in
       let few = sizes-within (decls (stmtsFrom text tokens n 0)) (c .small) in
       let room : v .gates * 3 + 2 < length blocks = omega (arith, gate-few t, defs-few (defs (decls (stmtsFrom text tokens n 0))), few .gates, c .blocks-room) in
-      step-on c b _ _ h (left-as c e ∙ q ∙ ap (λ (w : Checked). w orElse naming (v .seen) (namesIn text index (v .inputs + v .gates) ++ (x ∷ [])) (decls (stmtsFrom text tokens n at))) (sym (s .refused)))
+      step-on c b _ _ h (left-as c e ∙ q ∙ ap (λ (w : Checked). w orElse naming (seen v) (namesIn text index (v .inputs + v .gates) ++ (x ∷ [])) (decls (stmtsFrom text tokens n at))) (sym (s .refused)))
       (λ z left.
       let g = ap (entriesOf text index′) (sym m) ∙ s .added z in
       on c _ r refl p
-      (left ∙ ap (λ (w : List Bytes). naming (v .seen) w (decls (stmtsFrom text tokens n at))) (sym (names-more (entriesOf text index (v .inputs + v .gates)) _ g)))
+      (left ∙ ap (λ (w : List Bytes). naming (seen v) w (decls (stmtsFrom text tokens n at))) (sym (names-more (entriesOf text index (v .inputs + v .gates)) _ g)))
       (tabled-gate t y (subst (Index text index′) m (s .index-is z)) g (blocks-more (v .gates) a k l room (t .blocks-in) (s .block-is z) i)
       (defs-more (v .gates) a k l room (t .blocks-in) (s .block-is z) ∙ ap (λ (w : Def). defsAt text tokens n blocks (v .gates) ++ (w ∷ [])) f)))
 
@@ -102,8 +102,8 @@ module _ {text tokens : List ℕ} {n : ℕ} {index out blocks : List ℕ} {v : W
         let q = tokenOf text (getD tokens (first + 1) 0) in
         let l = decls (stmtsFrom text tokens n behind) in
         subst (Steps text tokens n index′ out blocks′ v) (sym (s .walk))
-        (go-gate (x .low h) (x .rest) (x .are)
-        (naming-latch (v .seen) (namesIn text index (v .inputs + v .gates)) l (plainLatch d q))
+        (go-gate (x .low) (x .rest) (x .are)
+        (naming-latch (seen v) (namesIn text index (v .inputs + v .gates)) l (plainLatch d q))
         (latch-defines (plainLatch d q)) refl
         (record { latchNames = λ z. x .places; coverNames = omega (arith, x .places); behind = λ z. absurd (omega arith); enough = λ z. absurd (omega arith) })
         (s .gate) p)
@@ -127,7 +127,7 @@ module _ {text tokens : List ℕ} {n : ℕ} {index out blocks : List ℕ} {v : W
           let e : w ≡ step.Refused refusal.NamesEmpty = s .walk ∙ ap (λ (b : Checked). stepOf b (gateWalk (walkAt v behind))) (s .cover .empty z) in
           subst (Steps text tokens n index′ out blocks′ v) (sym e)
           (stops (left-as c (x .are)
-          ∙ naming-empty (v .seen) (namesIn text index (v .inputs + v .gates)) (decls (stmtsFrom text tokens n behind)) (names text tokens run) lines (names-length text tokens run there ∙ z)))
+          ∙ naming-empty (seen v) (namesIn text index (v .inputs + v .gates)) (decls (stmtsFrom text tokens n behind)) (names text tokens run) lines (names-length text tokens run there ∙ z)))
 
       -- a cover with names
       cover-some : (block .names ≡ 0 → ⊥) → length blocks′ ≡ length blocks → Steps text tokens n index′ out blocks′ v w
@@ -137,9 +137,9 @@ module _ {text tokens : List ℕ} {n : ℕ} {index out blocks : List ℕ} {v : W
           let last = tokenOf text (getD tokens (block .first + block .names - 1) 0) in
           let y : coverOut ns ≡ last = cover-last text tokens run (by-order (block .names) 0 (λ a. absurd (f (omega arith))) (λ a. a)) there in
           subst (Steps text tokens n index′ out blocks′ v) (sym (s .walk))
-          (go-gate (x .low h) (x .rest) (x .are)
-          (naming-cover (v .seen) (namesIn text index (v .inputs + v .gates)) l ns lines (λ z. f (sym (names-length text tokens run there) ∙ z))
-          ∙ ap (λ (k : Bytes). refuseIf (known k (namesIn text index (v .inputs + v .gates))) refusal.DefinedTwice orElse naming (v .seen) (namesIn text index (v .inputs + v .gates) ++ (k ∷ [])) l) y)
+          (go-gate (x .low) (x .rest) (x .are)
+          (naming-cover (seen v) (namesIn text index (v .inputs + v .gates)) l ns lines (λ z. f (sym (names-length text tokens run there) ∙ z))
+          ∙ ap (λ (k : Bytes). refuseIf (known k (namesIn text index (v .inputs + v .gates))) refusal.DefinedTwice orElse naming (seen v) (namesIn text index (v .inputs + v .gates) ++ (k ∷ [])) l) y)
           (sym y ∙ cover-defines ns lines)
           (cover-from text tokens n (block .first) (block .names) (block .lines) f)
           (record { latchNames = λ z. absurd (f z); coverNames = x .places .few; behind = λ z. x .places .behind; enough = λ z. x .places .enough })

@@ -22,7 +22,7 @@ use Rattle.blif_declarations.proofs.NextLaws.{decls-end}
 use Rattle.name_index.specs.between.Index.{maxNames, indexCells, entryCount, entriesOf, Index}
 use Rattle.name_index.proofs.IndexLaws.{index-empty, index-counted}
 use Rattle.blif_reading.specs.Read.{tooLarge, naming}
-use Rattle.blif_read_names.specs.between.Naming.{namesIn, InputsFit, CoverFits, walkAt, LatchFits, TablesTo, NamingSoFar, Steps, stops, goes}
+use Rattle.blif_read_names.specs.between.Naming.{namesIn, InputsFit, CoverFits, seen, walkAt, LatchFits, TablesTo, NamingSoFar, Steps, stops, goes}
 use Rattle.blif_read_names.specs.between.Tables.{Tables, DefinedBy}
 use Rattle.blif_read_names.specs.declared.Walk.{Walk}
 use Rattle.blif_read_names.specs.declared.Step.the-variants as step
@@ -100,7 +100,7 @@ module _ {text tokens : List ℕ} {n : ℕ} {index out blocks : List ℕ} {v : W
 -- before the first declaration
 pub going-start : {text tokens : List ℕ} {n : ℕ} {index out blocks : List ℕ} → StmtsAt text tokens n 0 → n ≤ maxTokens
     → tooLarge (decls (stmtsFrom text tokens n 0)) ≡ false → index ≡ zeros indexCells → maxOutputs ≤ length out → maxGates * blockWidth ≤ length blocks
-    → NamingSoFar text tokens n index out blocks (record { at = 0; seen = false; inputs = 0; gates = 0; outputs = 0 })
+    → NamingSoFar text tokens n index out blocks (record { at = 0; models = 0; inputs = 0; gates = 0; outputs = 0 })
 going-start {text} {tokens} {n} {index} {out} {blocks} c h s e o b =
     record {
       rest = c;
@@ -164,4 +164,4 @@ pub going-done : {text tokens : List ℕ} {n : ℕ} {index out blocks : List ℕ
     (defined.Names (record { inputs = w .inputs; gates = w .gates; outputs = w .outputs }))
 going-done {text} {tokens} {n} {index} {out} {blocks} {w} c h =
     let e : decls (stmtsFrom text tokens n (w .at)) ≡ [] = decls-end (c .rest) h in
-    (c .left ∙ naming-none e (w .seen) (namesIn text index (w .inputs + w .gates)), tables-all (tabled-as c e))
+    (c .left ∙ naming-none e (seen w) (namesIn text index (w .inputs + w .gates)), tables-all (tabled-as c e))

@@ -40,11 +40,10 @@ pub enum Defined {
     Refused(Refusal),
 }
 
-// A walk that enters names: its place, whether there was a `.model`, and how many inputs, gates and outputs are declared before the
-// place.
+// A walk that enters names: its place, and how many models, inputs, gates and outputs are declared before it.
 struct Walk {
     at: usize,
-    seen: bool,
+    models: usize,
     inputs: usize,
     gates: usize,
     outputs: usize,
@@ -211,10 +210,10 @@ fn define_declaration(
     after.at = next.at;
     match declaration {
         Declaration::Model => {
-            after.seen = true;
-            step_of(refuse_if(w.seen, Refusal::SecondModel), after)
+            after.models = 1;
+            step_of(refuse_if(0 < w.models, Refusal::SecondModel), after)
         }
-        Declaration::End => step_of(refuse_if(!w.seen, Refusal::EndBeforeModel), after),
+        Declaration::End => step_of(refuse_if(!(0 < w.models), Refusal::EndBeforeModel), after),
         Declaration::Inputs(run) => {
             let first = run.first;
             let end = first + run.count;
@@ -253,7 +252,7 @@ pub fn build_name_to_sig(
 {
     let mut w = Walk {
         at: 0,
-        seen: false,
+        models: 0,
         inputs: 0,
         gates: 0,
         outputs: 0,

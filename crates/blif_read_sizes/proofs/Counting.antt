@@ -61,14 +61,14 @@ counting-start c h =
 module _ {text tokens : List ℕ} {n at : ℕ} {v : Sizes} {d : Declaration} {behind : ℕ} (c : Counting text tokens n at v) (x : NextIs text tokens n at d behind) where
   -- it can be counted
   pub counting-few : Few d
-  counting-few = few-of text tokens n behind d (c .few) (x .places)
+  counting-few = few-of text tokens n d (c .few) (x .places)
 
   module _ {w : Sizes} (a : Added v (sizesOf d) w) where
     -- the text's sizes
     now-totals : Totals (decls (stmtsFrom text tokens n 0)) w (decls (stmtsFrom text tokens n behind))
     now-totals =
         let ds : List Decl = decls (stmtsFrom text tokens n 0) in
-        totals-more ds (declAt text tokens n d) (decls (stmtsFrom text tokens n behind)) (counts-of text tokens (c .rest .rows .places .room) behind d (x .places)) a
+        totals-more ds (declAt text tokens n d) (decls (stmtsFrom text tokens n behind)) (counts-of text tokens (c .rest .rows .places .room) d (x .places)) a
         (subst (Totals ds v) (x .are) (c .totals))
 
     -- a size is passed: what is left does not make it smaller

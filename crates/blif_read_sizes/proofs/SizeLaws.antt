@@ -71,17 +71,17 @@ module _ (text tokens : List ℕ) {n : ℕ} (h : n ≤ length tokens) where
       }
 
   -- of what a declaration of places declares
-  pub counts-of : (behind : ℕ) (d : Declaration) → PlacesIn text tokens n behind d → Counts (declAt text tokens n d) (sizesOf d)
+  pub counts-of : (d : Declaration) → PlacesIn text tokens n d → Counts (declAt text tokens n d) (sizesOf d)
   unfolding ins outs defs flatMap insOf outsOf defsOf gateCount pinCount
-  counts-of behind next.Model p = record { ins-are = refl; outs-are = refl; gates-are = refl; pins-are = refl }
-  counts-of behind next.End p = record { ins-are = refl; outs-are = refl; gates-are = refl; pins-are = refl }
-  counts-of behind (next.Inputs run) p =
+  counts-of next.Model p = record { ins-are = refl; outs-are = refl; gates-are = refl; pins-are = refl }
+  counts-of next.End p = record { ins-are = refl; outs-are = refl; gates-are = refl; pins-are = refl }
+  counts-of (next.Inputs run) p =
       record { ins-are = ap length (append-nil (names text tokens run)) ∙ names-length text tokens run (omega arith); outs-are = refl; gates-are = refl; pins-are = refl }
-  counts-of behind (next.Outputs run) p =
+  counts-of (next.Outputs run) p =
       record { ins-are = refl; outs-are = ap length (append-nil (names text tokens run)) ∙ names-length text tokens run (omega arith); gates-are = refl; pins-are = refl }
-  counts-of behind (next.Latch first) p = record { ins-are = refl; outs-are = refl; gates-are = refl; pins-are = refl }
-  counts-of behind (next.Cover block) p = cover-counts block p
-  counts-of behind next.None p = record { ins-are = refl; outs-are = refl; gates-are = refl; pins-are = refl }
+  counts-of (next.Latch first) p = record { ins-are = refl; outs-are = refl; gates-are = refl; pins-are = refl }
+  counts-of (next.Cover block) p = cover-counts block p
+  counts-of next.None p = record { ins-are = refl; outs-are = refl; gates-are = refl; pins-are = refl }
 
 -- ---- more declarations
 
@@ -135,14 +135,14 @@ module _ {v : Sizes} {d : Declaration} where
 -- ---- sizes that fit
 
 -- names and lines are among the tokens
-pub few-of : (text tokens : List ℕ) (n behind : ℕ) (d : Declaration) → n ≤ maxTokens → PlacesIn text tokens n behind d → Few d
-few-of text tokens n behind next.Model h p = tt
-few-of text tokens n behind next.End h p = tt
-few-of text tokens n behind (next.Inputs run) h p = omega arith
-few-of text tokens n behind (next.Outputs run) h p = omega arith
-few-of text tokens n behind (next.Latch first) h p = tt
-few-of text tokens n behind (next.Cover block) h p = (omega (arith, p .few), omega (arith, p .short))
-few-of text tokens n behind next.None h p = tt
+pub few-of : (text tokens : List ℕ) (n : ℕ) (d : Declaration) → n ≤ maxTokens → PlacesIn text tokens n d → Few d
+few-of text tokens n next.Model h p = tt
+few-of text tokens n next.End h p = tt
+few-of text tokens n (next.Inputs run) h p = omega arith
+few-of text tokens n (next.Outputs run) h p = omega arith
+few-of text tokens n (next.Latch first) h p = tt
+few-of text tokens n (next.Cover block) h p = (omega (arith, p .few), omega (arith, p .short))
+few-of text tokens n next.None h p = tt
 
 -- as few of an equal declaration
 pub few-as : {d e : Declaration} → Few d → d ≡ e → Few e

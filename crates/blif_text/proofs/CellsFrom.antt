@@ -14,7 +14,7 @@ use Rattle.lists.proofs.Tests.{by-order, by-test}
 use Rattle.blif_text.specs.Lines.{continues, isBlank}
 use Rattle.blif_text.specs.between.PlaceRows.{byteAt, bytesAt, crBeforeLf, placeLines, placeTokens, placeRows}
 use Rattle.blif_text.specs.between.Places.{tokenCell, placesCell, rowCells, rowsCells}
-use Rattle.blif_text.specs.between.Scan.{endsWord, NoneTo, SpacesTo, LineAfter, StopTo, at-end, at-lf, cellsFrom}
+use Rattle.blif_text.specs.between.Scan.{endsWord, NoneTo, RunTo, LineAfter, StopTo, at-end, at-lf, cellsFrom}
 use Rattle.blif_text.proofs.Loops.{none-as}
 use Rattle.blif_text.proofs.Parts.{firstOf, restOf}
 use Rattle.blif_text.proofs.ScanBytes.{word-blank, not-lf, space-blank, stop-le}
@@ -73,17 +73,22 @@ module _ (text : Bytes) (f : Bool) where
         from-line i (line-byte text i h n (hash-in text i e)) (behind-none text (a .to .passed) ∙ stops text (a .end) next (line-stops a) .1)
         ∙ cells-comment text f (placeLines text next) i (lineFrom text (i + 1)) e
 
--- ---- spaces
+-- ---- a run of one byte
 
-from-space : (text : Bytes) (f : Bool) (n i r : ℕ) → i + n ≡ r → r ≤ length text → ((k : ℕ) → i ≤ k → k < r → byteAt text k ≡ 32) → cellsFrom text i f ≡ cellsFrom text r f
-from-space text f zero i r q h s = let p : i ≡ r = omega arith in ap (λ (j : ℕ). cellsFrom text j f) p
-from-space text f (suc n) i r q h s =
-    let e : byteAt text i ≡ 32 = s i (omega arith) (omega arith) in
-    from-blank text f i (omega arith) (ap isBlank e ∙ space-blank) (rw e)
-    ∙ from-space text f n (i + 1) r (omega arith) h (λ k a b. s k (omega arith) b)
+module _ (text : Bytes) (f : Bool) (c : ℕ) (one : (k : ℕ) → k < length text → byteAt text k ≡ c → cellsFrom text k f ≡ cellsFrom text (k + 1) f) where
+  from-bytes : (n i r : ℕ) → i + n ≡ r → r ≤ length text → ((k : ℕ) → i ≤ k → k < r → byteAt text k ≡ c) → cellsFrom text i f ≡ cellsFrom text r f
+  from-bytes zero i r q h s = let p : i ≡ r = omega arith in ap (λ (j : ℕ). cellsFrom text j f) p
+  from-bytes (suc n) i r q h s = one i (omega arith) (s i (omega arith) (omega arith)) ∙ from-bytes n (i + 1) r (omega arith) h (λ k a b. s k (omega arith) b)
 
-pub from-spaces : (text : Bytes) (f : Bool) {i r : ℕ} → SpacesTo text i r → cellsFrom text i f ≡ cellsFrom text r f
-from-spaces text f {i} {r} s = from-space text f (r - i) i r (omega (arith, s .low)) (s .high) (s .spaces)
+  -- what one such byte leaves as it is, a run of them does
+  from-run : {i r : ℕ} → RunTo c text i r → cellsFrom text i f ≡ cellsFrom text r f
+  from-run {i} {r} s = from-bytes (r - i) i r (omega (arith, s .low)) (s .high) (s .same)
+
+pub from-spaces : (text : Bytes) (f : Bool) {i r : ℕ} → RunTo 32 text i r → cellsFrom text i f ≡ cellsFrom text r f
+from-spaces text f s = from-run text f 32 (λ k h e. from-blank text f k h (ap isBlank e ∙ space-blank) (rw e)) s
+
+pub from-lfs : (text : Bytes) {i r : ℕ} → RunTo 10 text i r → cellsFrom text i true ≡ cellsFrom text r true
+from-lfs text s = from-run text true 10 (λ k h e. from-stop text true k (k + 1) (at-lf h e refl)) s
 
 -- ---- a word
 

@@ -12,7 +12,7 @@ use Rattle.lists.proofs.Range.{any-none}
 use Rattle.lists.proofs.Tests.{by-order}
 use Rattle.blif_text.specs.between.Places.{isFirst}
 use Rattle.blif_text.specs.between.PlacedStatements.{RowTo}
-use Rattle.blif_text.specs.between.Scan.{NoneTo, SpacesTo}
+use Rattle.blif_text.specs.between.Scan.{NoneTo, RunTo}
 
 -- where none passes, no element does
 none-passes : (p : ℕ → Bool) (l : List ℕ) → any p l ≡ false → (k : ℕ) → k < length l → p (getD l k 0) ≡ false
@@ -59,15 +59,15 @@ none-join {i = i} c d =
 pub none-as : {p q : ℕ → Bool} {t : Bytes} {a e : ℕ} → ((c : ℕ) → p c ≡ false → q c ≡ false) → NoneTo p t a e → NoneTo q t a e
 none-as {t = t} f c = record { low = c .low; high = c .high; none = λ k x y. f (getD t k 0) (c .none k x y) }
 
-pub spaces-start : {t : Bytes} {at : ℕ} → at ≤ length t → SpacesTo t at at
-spaces-start h = record { low = omega arith; high = h; spaces = λ k a b. absurd (omega arith) }
+pub run-start : (c : ℕ) {t : Bytes} {at : ℕ} → at ≤ length t → RunTo c t at at
+run-start c h = record { low = omega arith; high = h; same = λ k a b. absurd (omega arith) }
 
-pub spaces-next : {t : Bytes} {at i : ℕ} → SpacesTo t at i → i < length t → getD t i 0 ≡ 32 → SpacesTo t at (i + 1)
-spaces-next {t} {at} {i} c h e =
+pub run-next : {c : ℕ} {t : Bytes} {at i : ℕ} → RunTo c t at i → i < length t → getD t i 0 ≡ c → RunTo c t at (i + 1)
+run-next {c} {t} {at} {i} s h e =
     record {
-      low = omega (arith, c .low);
+      low = omega (arith, s .low);
       high = omega arith;
-      spaces = λ k a b. by-order i k (λ m. let q : i ≡ k = omega arith in subst (λ (j : ℕ). getD t j 0 ≡ 32) q e) (λ m. c .spaces k a m);
+      same = λ k a b. by-order i k (λ m. let q : i ≡ k = omega arith in subst (λ (j : ℕ). getD t j 0 ≡ c) q e) (λ m. s .same k a m);
     }
 
 -- a row's end, where each cell behind its first has been passed

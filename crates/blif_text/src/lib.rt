@@ -18,7 +18,7 @@ ghost use Rattle.blif_text.specs.Statements.{parsed, firstBad};
 ghost use Rattle.blif_text.specs.Decls.{columns};
 ghost use Rattle.blif_text.specs.between.Walk.{Inside};
 ghost use Rattle.blif_text.specs.between.Blocks.{blockWidth, firstName, nameCount, lineCount};
-ghost use Rattle.blif_text.specs.between.Scan.{endsWord, NoneTo, FirstTo, SpacesTo, LineAfter, StopOf, WordPut, ScanAt, Scanned};
+ghost use Rattle.blif_text.specs.between.Scan.{endsWord, NoneTo, FirstTo, RunTo, LineAfter, StopOf, WordPut, ScanAt, Scanned};
 
 pub const MAX_TEXT: usize = 32768;
 
@@ -119,14 +119,14 @@ fn word_end(text: &[u8], at: usize) -> usize
     i
 }
 
-// The place behind the spaces from at on.
-fn skip_spaces(text: &[u8], at: usize) -> usize
+// The place behind the run of this byte from at on.
+fn run_end(text: &[u8], at: usize, byte: u8) -> usize
     requires { ⌜ at ≤ length (now text) ⌝ }
-    ensures { λ r. ⌜ SpacesTo (now (text .entry)) at r ⌝ }
+    ensures { λ r. ⌜ RunTo byte (now (text .entry)) at r ⌝ }
 {
     let mut i = at;
     while i < text.len() {
-        if text[i] != b' ' {
+        if text[i] != byte {
             return i;
         }
         i += 1;
@@ -289,7 +289,7 @@ fn mark_word(text: &[u8], cells: &mut [u32], w: Marks) -> Marks
     put_word(cells, w, end - 1, next)
 }
 
-// One step of the scan: a word, a comment with its line's end, a line's end, or another blank with the spaces behind it.
+// One step of the scan: a word, a comment with its line's end, line ends, or another blank with the spaces behind it.
 fn mark_step(text: &[u8], cells: &mut [u32], w: Marks) -> Marks
     requires { ⌜ ScanAt (now text) (now cells) (w .at) (w .count) × (w .at < length (now text)) ⌝ }
     ensures { λ r.
@@ -311,13 +311,14 @@ fn mark_step(text: &[u8], cells: &mut [u32], w: Marks) -> Marks
         };
     }
     if c == b'\n' {
+        let next = run_end(text, at + 1, b'\n');
         return Marks {
-            at: at + 1,
+            at: next,
             count: w.count,
             fresh: true,
         };
     }
-    let next = skip_spaces(text, at + 1);
+    let next = run_end(text, at + 1, b' ');
     Marks {
         at: next,
         count: w.count,

@@ -1,6 +1,6 @@
 -- The row at a place, and the cube lines that stand there. Assumes nothing: these are definitions.
 use mathlib.Core.Path.{_≡_}
-use mathlib.Core.List.{List, [], _∷_}
+use mathlib.Core.List.{List, _∷_}
 use Prim.Native.Nat.{ℕ, _+_, _≤_, _<_}
 use lib.ListN.{length, getD, take}
 use lib.Seq.{slice}
@@ -58,7 +58,5 @@ pub record LinesAt (text tokens : List ℕ) (n at count end : ℕ) : Type 0 wher
   pub enough : count ≤ length (rowsFrom text tokens n at)
   -- "Cube lines count only directly after their `.names`"
   pub counted : count ≡ length (cubes (stmtsFrom text tokens n at))
-  -- no other stands there
-  pub none : cubes (stmtsFrom text tokens n end) ≡ []
   -- elsewhere they declare nothing
   pub same : decls (stmtsFrom text tokens n end) ≡ decls (stmtsFrom text tokens n at)

@@ -22,7 +22,7 @@ loop-holds c =
     (going-start (p .0 .0) (p .0 .1) (p .1 .0) (p .1 .1 .0) (p .1 .1 .1) (p .1 .1 .2), refl, refl, refl)
 
 next-declaration-requires : tie.Need-next-declaration-requires Inv-loop μ-loop
-next-declaration-requires c κs = c .before .before .loop .inv .0 .rest
+next-declaration-requires c κs = (c .before .before .loop .inv .0 .rest, c .if1 .taken)
 
 define-declaration-requires : tie.Need-define-declaration-requires Inv-loop μ-loop
 define-declaration-requires c κs =

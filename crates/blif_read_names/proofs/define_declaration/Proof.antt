@@ -83,8 +83,8 @@ define-cover-requires c κs =
 
 returns : tie.Need-returns
 returns c =
-    let pre = c .before .before .before .before .before .before .before .before .before .pre in
-    let x = next-as (pre .1) (c .before .before .enum-told .given .1) in
+    let pre = c .before .before .before .before .before .before .before .before .before .before .pre in
+    let x = next-as (pre .1) (c .before .before .before .enum-told .given .1) in
     subst (Steps _ _ _ _ _ _ _) (step-is _ (c .step-of .ensures) (c .before .refuse-if .ensures)) (go-model (pre .0 .0) (pre .0 .1) x)
 
 returns-2 : tie.Need-returns-2

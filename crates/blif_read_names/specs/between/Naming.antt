@@ -1,9 +1,10 @@
 -- Names entered declaration by declaration, up to a refusal of 7 to 10 (document 01, src/io/blif.rs: `build_name_to_sig`). Assumes nothing:
 -- these are definitions.
 use mathlib.Core.Path.{_≡_}
-use mathlib.Core.Bool.{false}
+use mathlib.Core.Bool.{Bool, false}
 use mathlib.Core.List.{List, [], _∷_, _++_, map}
 use Prim.Native.Nat.{ℕ, _+_, _-_, _*_, _≤_, _<_}
+use lib.Dec.{ltb}
 use lib.ListN.{length, getD, take}
 use Rattle.lists.specs.Lists.{Bytes, known}
 use Rattle.lists.specs.between.Lists.{overwriteAt}
@@ -109,13 +110,17 @@ pub record CoverDefined (text tokens index : List ℕ) (k g : ℕ) (block : Bloc
 abbrev pub latchBlock : ℕ → Block
 latchBlock first = record { first = first; names = 0; lines = 0 }
 
+-- whether there was a `.model`
+abbrev pub seen : Walk → Bool
+seen w = ltb 0 (w .models)
+
 -- the walk at another place
 abbrev pub walkAt : Walk → ℕ → Walk
-walkAt w at = record { at = at; seen = w .seen; inputs = w .inputs; gates = w .gates; outputs = w .outputs }
+walkAt w at = record { at = at; models = w .models; inputs = w .inputs; gates = w .gates; outputs = w .outputs }
 
 -- the walk behind a gate
 abbrev pub gateWalk : Walk → Walk
-gateWalk w = record { at = w .at; seen = w .seen; inputs = w .inputs; gates = w .gates + 1; outputs = w .outputs }
+gateWalk w = record { at = w .at; models = w .models; inputs = w .inputs; gates = w .gates + 1; outputs = w .outputs }
 
 -- the walk goes on where nothing is refused
 abbrev pub stepOf : Checked → Walk → Step
@@ -181,7 +186,7 @@ pub record NamingSoFar (text tokens : List ℕ) (n : ℕ) (index outNames blocks
   -- room for the blocks
   pub blocks-room : maxGates * blockWidth ≤ length blocks
   -- the refusal is that of what is left
-  pub left : naming false [] (decls (stmtsFrom text tokens n 0)) ≡ naming (w .seen) (namesIn text index (w .inputs + w .gates)) (decls (stmtsFrom text tokens n (w .at)))
+  pub left : naming false [] (decls (stmtsFrom text tokens n 0)) ≡ naming (seen w) (namesIn text index (w .inputs + w .gates)) (decls (stmtsFrom text tokens n (w .at)))
   -- the tables so far
   pub tabled : TablesTo (decls (stmtsFrom text tokens n 0)) (decls (stmtsFrom text tokens n (w .at))) text tokens n index outNames blocks (w .inputs) (w .gates) (w .outputs)
 

@@ -17,7 +17,7 @@ loop-holds : tie.Need-loop-holds Inv-loop μ-loop
 loop-holds c = counting-start (c .before .before .pre .0) (c .before .before .pre .1)
 
 next-declaration-requires : tie.Need-next-declaration-requires Inv-loop μ-loop
-next-declaration-requires c κs = c .before .loop .inv .rest
+next-declaration-requires c κs = (c .before .loop .inv .rest, c .loop-test .taken)
 
 count-declaration-requires : tie.Need-count-declaration-requires Inv-loop μ-loop
 count-declaration-requires c κs =
@@ -35,7 +35,7 @@ returns c =
 loop-less : tie.Need-loop-less Inv-loop μ-loop
 loop-less c =
     let loop-test = c .before .before .before .before .loop-test in
-    omega (arith, c .before .before .before .next-declaration .ensures .low (loop-test .taken), loop-test .taken)
+    omega (arith, c .before .before .before .next-declaration .ensures .low, loop-test .taken)
 
 loop-again : tie.Need-loop-again Inv-loop μ-loop
 loop-again c =

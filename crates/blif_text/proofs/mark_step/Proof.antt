@@ -24,15 +24,17 @@ returns-2 c =
     )
 
 returns-3 : tie.Need-returns-3
-returns-3 c = let s = c .before .before .before .before .before .before .before in (scan-lf (s .pre .0) (s .pre .1) (c .if3 .taken), omega arith)
+returns-3 c =
+    let s = c .before .before .before .before .before .before .before .before in
+    (scan-lf (s .pre .0) (s .pre .1) (c .before .if3 .taken) (c .run-end .ensures), omega (arith, c .run-end .ensures .low))
 
 returns-4 : tie.Need-returns-4
 returns-4 c =
     let before = c .before .before .before .before .before .before .before .before in
     let s = before in (
       scan-blank (s .pre .0) (s .pre .1) (sym (c .before .before .before .before .ends-word .ensures) ∙ not-false _ (c .before .before .before .if1 .left)) (c .before .before .if2 .left) (c .before .if3 .left)
-          (c .skip-spaces .ensures),
-      omega (arith, c .skip-spaces .ensures .low),
+          (c .run-end2 .ensures),
+      omega (arith, c .run-end2 .ensures .low),
     )
 
 pub mark-step-spec : {M : Type 1} → statement M
@@ -40,5 +42,5 @@ mark-step-spec =
     tie.close
     (tie.spec
     (λ c. search needs) (λ c κs. search needs) mark-word-requires (λ c. search needs) returns
-    (λ c κs. search needs) returns-2 (λ c. search needs) returns-3 (λ c. search needs) (λ c κs. search needs)
+    (λ c κs. search needs) returns-2 (λ c. search needs) (λ c κs. search needs) returns-3 (λ c. search needs) (λ c κs. search needs)
     returns-4)

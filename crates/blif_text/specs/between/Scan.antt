@@ -32,14 +32,14 @@ pub record FirstTo (p : ℕ → Bool) (t : Bytes) (at r : ℕ) : Type 0 where
   -- it does
   pub stop : r < length t → p (getD t r 0) ≡ true
 
--- from at to r stand spaces
-pub record SpacesTo (t : Bytes) (at r : ℕ) : Type 0 where
+-- from at to r stands a run of the byte c
+pub record RunTo (c : ℕ) (t : Bytes) (at r : ℕ) : Type 0 where
   -- not before the start
   pub low : at ≤ r
   -- within the text
   pub high : r ≤ length t
   -- nothing else between
-  pub spaces : (k : ℕ) → at ≤ k → k < r → getD t k 0 ≡ 32
+  pub same : (k : ℕ) → at ≤ k → k < r → getD t k 0 ≡ c
 
 -- the first line from at on ends before next
 pub record LineAfter (t : Bytes) (at next : ℕ) : Type 0 where
