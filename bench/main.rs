@@ -1,5 +1,5 @@
 // Measures the part and Quaigh on the same inputs, by turns.
-// usage: bench names [FILES] | once NAME [FILES] | measure COUNTS DOCS [FILES]
+// usage: bench names [FILES] | once PLACED NAME [FILES] | measure PLACED COUNTS DOCS [FILES]      PLACED is a folder that bench/place filled
 mod inputs;
 mod io;
 mod network;
@@ -10,22 +10,11 @@ pub use network::{BinaryType, Gate, NaryType, Network, Signal, TernaryType};
 
 use inputs::Input;
 use io::blif::{read_blif, write_blif};
-use part::{Lent, NetworkAnswer, TextAnswer};
+use part::{Lent, NetworkAnswer, Part, TextAnswer};
 use std::hint::black_box;
 use std::time::Instant;
 
-extern "C" {
-    fn vumneath_read_blif(
-        text: *const u8, text_len: usize, gates: *mut u32, gates_len: usize, pins: *mut u32, pins_len: usize, outputs: *mut u32, outputs_len: usize,
-        work_gates: *mut u32, work_gates_len: usize, work_pins: *mut u32, work_pins_len: usize,
-    ) -> NetworkAnswer;
-    fn vumneath_write_blif(
-        inputs: u32, gate_count: u32, pin_count: u32, output_count: u32, gates: *const u32, gates_len: usize, pins: *const u32, pins_len: usize,
-        outputs: *const u32, outputs_len: usize, out: *mut u8, out_len: usize,
-    ) -> TextAnswer;
-}
-
-// The least times in nanoseconds of this part and of Quaigh; None where there is nothing to compare.
+// The least times in nanoseconds of this part, the mean over its places, and of Quaigh; None where there is nothing to compare.
 #[derive(Clone, Copy)]
 pub struct Pair {
     pub part: f64,
@@ -46,14 +35,14 @@ pub struct Measured {
 
 #[no_mangle]
 #[inline(never)]
-pub extern "C" fn counted_part_read(lent: &mut Lent, text: &Vec<u8>) -> NetworkAnswer {
-    lent.read(vumneath_read_blif, text)
+pub extern "C" fn counted_part_read(lent: &mut Lent, part: Part, text: &Vec<u8>) -> NetworkAnswer {
+    lent.read(part, text)
 }
 
 #[no_mangle]
 #[inline(never)]
-pub extern "C" fn counted_part_write(lent: &mut Lent, n: NetworkAnswer) -> TextAnswer {
-    lent.write(vumneath_write_blif, n)
+pub extern "C" fn counted_part_write(lent: &mut Lent, part: Part, n: NetworkAnswer) -> TextAnswer {
+    lent.write(part, n)
 }
 
 #[no_mangle]
@@ -88,12 +77,12 @@ fn xor_of_12(lent: &mut Lent) -> (NetworkAnswer, Network) {
 }
 
 // The network of an input on both sides, if it is read.
-fn read_both(lent: &mut Lent, input: &Input) -> (NetworkAnswer, Option<Network>) {
+fn read_both(lent: &mut Lent, part: Part, input: &Input) -> (NetworkAnswer, Option<Network>) {
     if input.name == "xor-of-12" {
         let (a, n) = xor_of_12(lent);
         return (a, Some(n));
     }
-    let a = lent.read(vumneath_read_blif, &input.text);
+    let a = lent.read(part, &input.text);
     let n = if a.refused == 0 { Some(read_blif(input.text.as_slice()).expect("Quaigh reads what is read here")) } else { None };
     (a, n)
 }
@@ -109,37 +98,52 @@ fn runs(input: &Input) -> usize {
     (200_000_000 / (input.text.len() * 60 + 20_000)).clamp(100, 5_000)
 }
 
-fn measure(input: &Input) -> Measured {
+// This part's least times at one place: of a read, of one with ones in every cell before, and of a write.
+#[derive(Clone, Copy)]
+struct Times {
+    read: f64,
+    filled: f64,
+    write: f64,
+}
+
+fn measure(parts: &[Part], input: &Input) -> Measured {
     let mut lent = Lent::new();
-    let (a, n) = read_both(&mut lent, input);
-    let mut w = lent.write(vumneath_write_blif, a);
+    let (a, n) = read_both(&mut lent, parts[0], input);
+    let mut w = lent.write(parts[0], a);
     let mut out = Vec::with_capacity(1 << 20);
-    let mut times = [f64::MAX; 5];
+    let mut times = vec![Times { read: f64::MAX, filled: f64::MAX, write: f64::MAX }; parts.len()];
+    let mut rust = [f64::MAX; 2];
+    // comments, blanks and the like are all the network without anything; no-gates stands for it
+    let written = n.as_ref().filter(|n| n.nb_nodes() + n.nb_inputs() > 0);
     for _ in 0..runs(input) {
-        if !input.text.is_empty() {
-            lent.fill(u32::MAX);
-            least(&mut times[2], || drop(black_box(counted_part_read(&mut lent, &input.text))));
-            least(&mut times[0], || drop(black_box(counted_part_read(&mut lent, &input.text))));
-            if n.is_some() {
-                least(&mut times[1], || counted_rust_read(&input.text));
+        for (part, t) in parts.iter().zip(times.iter_mut()) {
+            if !input.text.is_empty() {
+                lent.fill(u32::MAX);
+                least(&mut t.filled, || drop(black_box(counted_part_read(&mut lent, *part, &input.text))));
+                least(&mut t.read, || drop(black_box(counted_part_read(&mut lent, *part, &input.text))));
+            }
+            if written.is_some() {
+                least(&mut t.write, || w = black_box(counted_part_write(&mut lent, *part, a)));
             }
         }
-        // comments, blanks and the like are all the network without anything; no-gates stands for it
-        if let Some(n) = n.as_ref().filter(|n| n.nb_nodes() + n.nb_inputs() > 0) {
-            least(&mut times[3], || w = black_box(counted_part_write(&mut lent, a)));
-            least(&mut times[4], || counted_rust_write(&mut out, n));
+        if n.is_some() && !input.text.is_empty() {
+            least(&mut rust[0], || counted_rust_read(&input.text));
+        }
+        if let Some(n) = written {
+            least(&mut rust[1], || counted_rust_write(&mut out, n));
         }
     }
     // covers of two or more lines with output 0 are built otherwise here (docs/DIFFERENCES.md); only a file may have one
     let same = w.refused == 0 && lent.out[..w.length as usize] == out[..];
-    assert!(same || input.file || w.refused != 0 || times[4] == f64::MAX, "the two texts of {} differ", input.name);
+    assert!(same || input.file || w.refused != 0 || rust[1] == f64::MAX, "the two texts of {} differ", input.name);
+    let mean = |f: fn(&Times) -> f64| times.iter().map(f).sum::<f64>() / parts.len() as f64;
     let compared = |part: f64, rust: f64| if rust < f64::MAX { Some(Pair { part, rust }) } else { None };
     Measured {
         name: input.name.clone(),
         bytes: input.text.len(),
-        read: compared(times[0], times[1]),
-        read_filled: times[2],
-        write: if same { compared(times[3], times[4]) } else { None },
+        read: compared(mean(|t| t.read), rust[0]),
+        read_filled: mean(|t| t.filled),
+        write: if same { compared(mean(|t| t.write), rust[1]) } else { None },
         written: w.length as usize,
         refused: (a.refused, w.refused),
     }
@@ -179,26 +183,28 @@ fn main() {
     match words[0].as_str() {
         "names" => all(words.get(1)).iter().for_each(|i| println!("{}", i.name)),
         "once" => {
-            let all = all(words.get(2));
-            let input = all.iter().find(|i| i.name == words[1]).expect("no such input");
+            let part = part::load_all(&words[1])[0];
+            let all = all(words.get(3));
+            let input = all.iter().find(|i| i.name == words[2]).expect("no such input");
             let mut lent = Lent::new();
-            let (a, n) = read_both(&mut lent, input);
+            let (a, n) = read_both(&mut lent, part, input);
             if !input.text.is_empty() {
-                black_box(counted_part_read(&mut lent, &input.text));
+                black_box(counted_part_read(&mut lent, part, &input.text));
             }
             if let Some(n) = n {
                 if !input.text.is_empty() {
                     counted_rust_read(&input.text);
                 }
-                black_box(counted_part_write(&mut lent, a));
+                black_box(counted_part_write(&mut lent, part, a));
                 counted_rust_write(&mut Vec::with_capacity(1 << 20), &n);
             }
         }
         _ => {
             let made = all(None).len();
-            let measured: Vec<Measured> = all(words.get(3)).iter().map(measure).collect();
-            let worst = inputs::worst().each_ref().map(measure);
-            report::report(&measured, made, &worst, &rule(), &words[1], &words[2]);
+            let parts = part::load_all(&words[1]);
+            let measured: Vec<Measured> = all(words.get(4)).iter().map(|i| measure(&parts, i)).collect();
+            let worst = inputs::worst().each_ref().map(|i| measure(&parts, i));
+            report::report(&measured, made, &worst, &rule(), &words[2], &words[3]);
         }
     }
 }

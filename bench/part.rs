@@ -1,4 +1,11 @@
 // The calls that the static library exports, and the cells and bytes that a caller lends.
+use std::ffi::{c_char, c_int, c_void, CString};
+
+extern "C" {
+    fn dlopen(file: *const c_char, mode: c_int) -> *mut c_void;
+    fn dlsym(library: *mut c_void, name: *const c_char) -> *mut c_void;
+}
+
 #[repr(C)]
 #[derive(Clone, Copy, Default)]
 pub struct NetworkAnswer {
@@ -24,6 +31,42 @@ pub type Read =
 pub type Write =
     unsafe extern "C" fn(u32, u32, u32, u32, *const u32, usize, *const u32, usize, *const u32, usize, *mut u8, usize) -> TextAnswer;
 
+// The calls of one library at one place in memory.
+#[derive(Clone, Copy)]
+pub struct Part {
+    pub read: Read,
+    pub write: Write,
+}
+
+fn symbol(library: *mut c_void, name: &str) -> *mut c_void {
+    let name = CString::new(name).unwrap();
+    let found = unsafe { dlsym(library, name.as_ptr()) };
+    assert!(!found.is_null(), "no {name:?}");
+    found
+}
+
+// The library in a file that bench/place made.
+pub fn load(file: &str) -> Part {
+    let name = CString::new(file).unwrap();
+    let now = 2;
+    let library = unsafe { dlopen(name.as_ptr(), now) };
+    assert!(!library.is_null(), "{file} cannot be loaded");
+    unsafe {
+        Part {
+            read: std::mem::transmute::<*mut c_void, Read>(symbol(library, "vumneath_read_blif")),
+            write: std::mem::transmute::<*mut c_void, Write>(symbol(library, "vumneath_write_blif")),
+        }
+    }
+}
+
+// The places at which a library is linked: so many bytes behind a multiple of 64.
+pub const PLACES: [usize; 4] = [0, 16, 32, 48];
+
+// A library at all its places, from the folder that bench/place filled.
+pub fn load_all(folder: &str) -> Vec<Part> {
+    PLACES.iter().map(|bytes| load(&format!("{folder}/{bytes}.so"))).collect()
+}
+
 // The cells and bytes that a caller lends, of exactly the sizes that are asked for.
 pub struct Lent {
     pub gates: Vec<u32>,
@@ -46,18 +89,18 @@ impl Lent {
         }
     }
 
-    pub fn read(&mut self, call: Read, text: &[u8]) -> NetworkAnswer {
+    pub fn read(&mut self, part: Part, text: &[u8]) -> NetworkAnswer {
         unsafe {
-            call(
+            (part.read)(
                 text.as_ptr(), text.len(), self.gates.as_mut_ptr(), self.gates.len(), self.pins.as_mut_ptr(), self.pins.len(),
                 self.outputs.as_mut_ptr(), self.outputs.len(), self.work_gates.as_mut_ptr(), self.work_gates.len(), self.work_pins.as_mut_ptr(), self.work_pins.len(),
             )
         }
     }
 
-    pub fn write(&mut self, call: Write, n: NetworkAnswer) -> TextAnswer {
+    pub fn write(&mut self, part: Part, n: NetworkAnswer) -> TextAnswer {
         unsafe {
-            call(
+            (part.write)(
                 n.inputs, n.gates, n.pins, n.outputs, self.gates.as_ptr(), self.gates.len(), self.pins.as_ptr(), self.pins.len(),
                 self.outputs.as_ptr(), self.outputs.len(), self.out.as_mut_ptr(), self.out.len(),
             )
