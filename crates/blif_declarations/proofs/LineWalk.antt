@@ -9,7 +9,6 @@ use lib.Seq.{slice, append-snoc, take-at, length-slice}
 use Rattle.lists.specs.Lists.{Bytes, sumOf}
 use Rattle.lists.proofs.Counting.{sum-append}
 use Rattle.blif_text.specs.Decls.{cubes, decls}
-use Rattle.blif_text.specs.Statements.{Stmt}
 use Rattle.blif_text.specs.between.Places.{tokenOf, tokensOf}
 use Rattle.blif_text.specs.between.Walk.{rowsFrom, stmtsFrom, StmtsAt}
 use Rattle.blif_text.specs.Keywords.{leadingDot, keywordOf}

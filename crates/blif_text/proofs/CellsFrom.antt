@@ -7,14 +7,14 @@ use Prim.Native.Nat.{ℕ, zero, suc, _+_, _-_, _≤_, _<_}
 use native.Mathlib.Omega.{arith}
 use lib.Dec.{eqb}
 use lib.ListN.{length}
-use borrow.Author.Tests.{ne-eqb, eqb-true}
+use borrow.Author.Tests.{ne-eqb, eqb-true, not-false}
 use Rattle.lists.specs.Lists.{Bytes, range}
 use Rattle.lists.proofs.Range.{length-range}
 use Rattle.lists.proofs.Tests.{by-order, by-test}
 use Rattle.blif_text.specs.Lines.{continues, isBlank}
 use Rattle.blif_text.specs.between.PlaceRows.{byteAt, bytesAt, crBeforeLf, placeLines, placeTokens, placeRows}
 use Rattle.blif_text.specs.between.Places.{tokenCell, placesCell, rowCells, rowsCells}
-use Rattle.blif_text.specs.between.Scan.{endsWord, NoneTo, RunTo, LineAfter, StopTo, at-end, at-lf, cellsFrom}
+use Rattle.blif_text.specs.between.Scan.{endsWord, otherThan, NoneTo, LineAfter, StopTo, at-end, at-lf, cellsFrom}
 use Rattle.blif_text.proofs.Loops.{none-as}
 use Rattle.blif_text.proofs.Parts.{firstOf, restOf}
 use Rattle.blif_text.proofs.ScanBytes.{word-blank, not-lf, space-blank, stop-le}
@@ -81,13 +81,14 @@ module _ (text : Bytes) (f : Bool) (c : ℕ) (one : (k : ℕ) → k < length tex
   from-bytes (suc n) i r q h s = one i (omega arith) (s i (omega arith) (omega arith)) ∙ from-bytes n (i + 1) r (omega arith) h (λ k a b. s k (omega arith) b)
 
   -- what one such byte leaves as it is, a run of them does
-  from-run : {i r : ℕ} → RunTo c text i r → cellsFrom text i f ≡ cellsFrom text r f
-  from-run {i} {r} s = from-bytes (r - i) i r (omega (arith, s .low)) (s .high) (s .same)
+  from-run : {i r : ℕ} → NoneTo (otherThan c) text i r → cellsFrom text i f ≡ cellsFrom text r f
+  from-run {i} {r} s =
+      from-bytes (r - i) i r (omega (arith, s .low)) (s .high) (λ k a b. sym (eqb-true c (byteAt text k) (not-false (eqb c (byteAt text k)) (s .none k a b))))
 
-pub from-spaces : (text : Bytes) (f : Bool) {i r : ℕ} → RunTo 32 text i r → cellsFrom text i f ≡ cellsFrom text r f
+pub from-spaces : (text : Bytes) (f : Bool) {i r : ℕ} → NoneTo (otherThan 32) text i r → cellsFrom text i f ≡ cellsFrom text r f
 from-spaces text f s = from-run text f 32 (λ k h e. from-blank text f k h (ap isBlank e ∙ space-blank) (rw e)) s
 
-pub from-lfs : (text : Bytes) {i r : ℕ} → RunTo 10 text i r → cellsFrom text i true ≡ cellsFrom text r true
+pub from-lfs : (text : Bytes) {i r : ℕ} → NoneTo (otherThan 10) text i r → cellsFrom text i true ≡ cellsFrom text r true
 from-lfs text s = from-run text true 10 (λ k h e. from-stop text true k (k + 1) (at-lf h e refl)) s
 
 -- ---- a word

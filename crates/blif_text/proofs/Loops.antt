@@ -12,7 +12,7 @@ use Rattle.lists.proofs.Range.{any-none}
 use Rattle.lists.proofs.Tests.{by-order}
 use Rattle.blif_text.specs.between.Places.{isFirst}
 use Rattle.blif_text.specs.between.PlacedStatements.{RowTo}
-use Rattle.blif_text.specs.between.Scan.{NoneTo, RunTo}
+use Rattle.blif_text.specs.between.Scan.{NoneTo}
 
 -- where none passes, no element does
 none-passes : (p : ℕ → Bool) (l : List ℕ) → any p l ≡ false → (k : ℕ) → k < length l → p (getD l k 0) ≡ false
@@ -58,17 +58,6 @@ none-join {i = i} c d =
 -- by a test that what fails the first one fails too
 pub none-as : {p q : ℕ → Bool} {t : Bytes} {a e : ℕ} → ((c : ℕ) → p c ≡ false → q c ≡ false) → NoneTo p t a e → NoneTo q t a e
 none-as {t = t} f c = record { low = c .low; high = c .high; none = λ k x y. f (getD t k 0) (c .none k x y) }
-
-pub run-start : (c : ℕ) {t : Bytes} {at : ℕ} → at ≤ length t → RunTo c t at at
-run-start c h = record { low = omega arith; high = h; same = λ k a b. absurd (omega arith) }
-
-pub run-next : {c : ℕ} {t : Bytes} {at i : ℕ} → RunTo c t at i → i < length t → getD t i 0 ≡ c → RunTo c t at (i + 1)
-run-next {c} {t} {at} {i} s h e =
-    record {
-      low = omega (arith, s .low);
-      high = omega arith;
-      same = λ k a b. by-order i k (λ m. let q : i ≡ k = omega arith in subst (λ (j : ℕ). getD t j 0 ≡ c) q e) (λ m. s .same k a m);
-    }
 
 -- a row's end, where each cell behind its first has been passed
 pub row-stop : {t : List ℕ} {at n i : ℕ} → NoneTo isFirst t (at + 1) i → i ≤ n → (i < n → isFirst (getD t i 0) ≡ true) → RowTo t at n i

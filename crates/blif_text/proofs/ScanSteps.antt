@@ -13,7 +13,7 @@ use Rattle.lists.proofs.Over.{length-overwrite, take-overwrite}
 use Rattle.lists.proofs.OverAt.{overwriteAt-nil, overwrite-first}
 use Rattle.lists.proofs.Tests.{by-order}
 use Rattle.blif_text.specs.between.Places.{tokenCell, tokenCells, TokensMarked}
-use Rattle.blif_text.specs.between.Scan.{endsWord, NoneTo, FirstTo, RunTo, LineAfter, StopTo, at-lf, cellsFrom, ScanAt, Scanned, WordPut}
+use Rattle.blif_text.specs.between.Scan.{endsWord, otherThan, NoneTo, FirstTo, LineAfter, StopTo, at-lf, cellsFrom, ScanAt, Scanned, WordPut}
 use Rattle.blif_text.proofs.Loops.{none-start, none-next, none-join}
 use Rattle.blif_text.proofs.ScanBytes.{blank-of, stop-le, stop-high}
 use Rattle.blif_text.proofs.CellsFrom.{line-stops, from-end, from-stop, from-blank, from-spaces, from-lfs, from-comment, comment-moves, from-word, from-alone, from-goes}
@@ -50,14 +50,14 @@ module _ {text cells : List ℕ} {i count : ℕ} (c : ScanAt text cells i count)
   further a b = record { small = c .small; room = c .room; high = b; few = omega (arith, c .few); fewer = λ l e. omega (arith, c .few) }
 
   -- an LF, and those behind it
-  pub scan-lf : {next : ℕ} {fresh : Bool} → getD text i 0 ≡ 10 → RunTo 10 text (i + 1) next → Scanned text cells i count fresh cells next count true
+  pub scan-lf : {next : ℕ} {fresh : Bool} → getD text i 0 ≡ 10 → NoneTo (otherThan 10) text (i + 1) next → Scanned text cells i count fresh cells next count true
   scan-lf {fresh = fresh} e s = scan-on (further (omega (arith, s .low)) (s .high)) (from-stop text fresh i (i + 1) (at-lf h e refl) ∙ from-lfs text s)
 
   pub scan-comment : {next : ℕ} {fresh : Bool} → getD text i 0 ≡ 35 → LineAfter text i next → Scanned text cells i count fresh cells next count true
   scan-comment {fresh = fresh} e a = scan-on (further (comment-moves h e a) (stop-high text (a .end) _ (a .to .passed .high) (line-stops a))) (from-comment text fresh i h e a)
 
   -- a blank that is no LF, and spaces
-  pub scan-blank : {next : ℕ} {fresh : Bool} → endsWord (getD text i 0) ≡ true → (getD text i 0 ≡ 35 → ⊥) → (getD text i 0 ≡ 10 → ⊥) → RunTo 32 text (i + 1) next → Scanned text cells i count fresh cells next count fresh
+  pub scan-blank : {next : ℕ} {fresh : Bool} → endsWord (getD text i 0) ≡ true → (getD text i 0 ≡ 35 → ⊥) → (getD text i 0 ≡ 10 → ⊥) → NoneTo (otherThan 32) text (i + 1) next → Scanned text cells i count fresh cells next count fresh
   scan-blank {fresh = fresh} e f g s =
       scan-on (further (omega (arith, s .low)) (s .high))
       (from-blank text fresh i h (blank-of (getD text i 0) e (ne-eqb 35 (getD text i 0) (λ q. f (sym q)))) (ne-eqb 10 (getD text i 0) (λ q. g (sym q))) ∙ from-spaces text fresh s)

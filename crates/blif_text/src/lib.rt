@@ -18,7 +18,7 @@ ghost use Rattle.blif_text.specs.Statements.{parsed, firstBad};
 ghost use Rattle.blif_text.specs.Decls.{columns};
 ghost use Rattle.blif_text.specs.between.Walk.{Inside};
 ghost use Rattle.blif_text.specs.between.Blocks.{blockWidth, firstName, nameCount, lineCount};
-ghost use Rattle.blif_text.specs.between.Scan.{endsWord, NoneTo, FirstTo, RunTo, LineAfter, StopOf, WordPut, ScanAt, Scanned};
+ghost use Rattle.blif_text.specs.between.Scan.{endsWord, otherThan, NoneTo, FirstTo, LineAfter, StopOf, WordPut, ScanAt, Scanned};
 
 pub const MAX_TEXT: usize = 32768;
 
@@ -122,7 +122,7 @@ fn word_end(text: &[u8], at: usize) -> usize
 // The place behind the run of this byte from at on.
 fn run_end(text: &[u8], at: usize, byte: u8) -> usize
     requires { ⌜ at ≤ length (now text) ⌝ }
-    ensures { λ r. ⌜ RunTo byte (now (text .entry)) at r ⌝ }
+    ensures { λ r. ⌜ FirstTo (otherThan byte) (now (text .entry)) at r ⌝ }
 {
     let mut i = at;
     while i < text.len() {

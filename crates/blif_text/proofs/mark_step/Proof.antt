@@ -26,15 +26,15 @@ returns-2 c =
 returns-3 : tie.Need-returns-3
 returns-3 c =
     let s = c .before .before .before .before .before .before .before .before in
-    (scan-lf (s .pre .0) (s .pre .1) (c .before .if3 .taken) (c .run-end .ensures), omega (arith, c .run-end .ensures .low))
+    (scan-lf (s .pre .0) (s .pre .1) (c .before .if3 .taken) (c .run-end .ensures .passed), omega (arith, c .run-end .ensures .passed .low))
 
 returns-4 : tie.Need-returns-4
 returns-4 c =
     let before = c .before .before .before .before .before .before .before .before in
     let s = before in (
       scan-blank (s .pre .0) (s .pre .1) (sym (c .before .before .before .before .ends-word .ensures) ∙ not-false _ (c .before .before .before .if1 .left)) (c .before .before .if2 .left) (c .before .if3 .left)
-          (c .run-end2 .ensures),
-      omega (arith, c .run-end2 .ensures .low),
+          (c .run-end2 .ensures .passed),
+      omega (arith, c .run-end2 .ensures .passed .low),
     )
 
 pub mark-step-spec : {M : Type 1} → statement M

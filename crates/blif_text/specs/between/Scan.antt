@@ -1,6 +1,6 @@
 -- What the functions that scan a text promise to each other: records over places in the text. Assumes nothing: these are definitions.
 use mathlib.Core.Path.{_≡_}
-use mathlib.Core.Bool.{Bool, true, false, _||_}
+use mathlib.Core.Bool.{Bool, true, false, not, _||_}
 use mathlib.Core.List.{List, [], _∷_}
 use mathlib.Core.Logic.{_⊎_}
 use Prim.Native.Nat.{ℕ, _+_, _-_, _*_, _≤_, _<_}
@@ -15,6 +15,10 @@ use Rattle.blif_text.specs.between.Places.{maxTokens, tokenCell, isFirst
 -- what ends a word: "Blanks are 9 to 13 and 32", and "`#` cuts the line"
 unfoldable pub endsWord : ℕ → Bool
 endsWord c = isBlank c || eqb 35 c
+
+-- a byte other than c: none between two places is a run of c
+abbrev pub otherThan : ℕ → ℕ → Bool
+otherThan c b = not (eqb c b)
 
 -- from at to r no byte passes the test
 pub record NoneTo (p : ℕ → Bool) (t : Bytes) (at r : ℕ) : Type 0 where
@@ -31,15 +35,6 @@ pub record FirstTo (p : ℕ → Bool) (t : Bytes) (at r : ℕ) : Type 0 where
   pub passed : NoneTo p t at r
   -- it does
   pub stop : r < length t → p (getD t r 0) ≡ true
-
--- from at to r stands a run of the byte c
-pub record RunTo (c : ℕ) (t : Bytes) (at r : ℕ) : Type 0 where
-  -- not before the start
-  pub low : at ≤ r
-  -- within the text
-  pub high : r ≤ length t
-  -- nothing else between
-  pub same : (k : ℕ) → at ≤ k → k < r → getD t k 0 ≡ c
 
 -- the first line from at on ends before next
 pub record LineAfter (t : Bytes) (at next : ℕ) : Type 0 where
