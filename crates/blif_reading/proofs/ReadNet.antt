@@ -1,18 +1,17 @@
--- A network that is read: valid, formed, without a loop, and within the sizes. Assumes nothing.
+-- A network that is read: valid, formed, sorted, without a loop, and within the sizes. Assumes nothing.
 use mathlib.Core.Path.{_≡_, ap, _∙_}
+use mathlib.Core.Bool.{true}
 use mathlib.Core.List.{List}
-use mathlib.Core.Option.{some}
-use Prim.Native.Nat.{ℕ, _<_}
 use native.Mathlib.Omega.{arith}
 use lib.ListN.{length, getElem?, length-map}
 use Rattle.lists.specs.Lists.{Bytes}
 use Rattle.lists.proofs.Every.{every-place}
 use Rattle.gates.specs.Gate.{Gate}
-use Rattle.network.specs.Net.{Net, Valid, Formed, Path, last, more, Loop}
+use Rattle.network.specs.Net.{Net, Valid, Formed, Loop, topoSorted}
 use Rattle.network.specs.between.Sizes.{WithinSizes}
 use Rattle.network.specs.Record.{pinCells}
-use Rattle.sort_order.specs.Sorted.{sorted}
-use Rattle.sort_order.proofs.Summary.{sorted-keeps, inputs-lower}
+use Rattle.network.proofs.Summary.{sorted-free}
+use Rattle.sort_order.proofs.Summary.{sorted-keeps, sort-sorts}
 use Rattle.blif_text.specs.Decls.{Decl, outs, defs, declsOf}
 use Rattle.blif_reading.specs.Read.{read, signalOf, builtFrom, readText}
 use Rattle.blif_reading.proofs.BuiltCounts.{built-gates, built-pins, built-formed}
@@ -25,21 +24,9 @@ use Rattle.blif_reading.proofs.Accepted.{passed-read}
 pub record NetRead (net : Net) : Type 0 where
   pub valid : Valid net
   pub formed : Formed net
+  pub sorted : topoSorted net ≡ true
   pub free : Loop net → ⊥
   pub sizes : WithinSizes (net .inputs) (length (net .outputs)) (length (net .gates)) (length (pinCells (net .gates)))
-
-module _ (net new : Net) (valid : Valid net) (e : sorted net ≡ some new) where
-  -- a way goes upwards in a sorted network
-  path-rises : {a b : ℕ} → Path new a b → a < b
-  path-rises (last f) = inputs-lower net new valid e _ _ (f .formB) (f .pinsB) (f .by) (f .isB) (f .among) (f .points)
-  path-rises (more f w) =
-      let h = inputs-lower net new valid e _ _ (f .formB) (f .pinsB) (f .by) (f .isB) (f .among) (f .points) in
-      let k = path-rises w in
-      omega (arith, h, k)
-
-  -- so none comes back
-  pub sorted-no-loop : Loop new → ⊥
-  sorted-no-loop l = let h = path-rises (l .1) in absurd (omega (arith, h))
 
 -- the gates as built have pin counts that their forms can have
 formed-built : (ds : List Decl) → Formed (builtFrom ds)
@@ -53,12 +40,14 @@ read-net s new e =
     let w = sizes-within ds (r .0 .within) in
     let valid = passed-valid ds (r .0) in
     let k = sorted-keeps (builtFrom ds) new valid (r .1) in
+    let sorts = sort-sorts (builtFrom ds) new valid (r .1) in
     let g = ap length (gates-are ds) in
     let p = ap (λ (l : List Gate). length (pinCells l)) (gates-are ds) in
     record {
       valid = k .valid;
       formed = k .formed (formed-built ds);
-      free = sorted-no-loop (builtFrom ds) new valid (r .1);
+      sorted = sorts;
+      free = sorted-free new sorts;
       sizes =
           record {
             inputs = omega (arith, k .inputs, w .inputs);

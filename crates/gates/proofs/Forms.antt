@@ -250,3 +250,7 @@ takes-formed x = number-tells x .0
 
 pub comb-number : (x : Gate) → kindComb (kindOf (formCell x)) ≡ isComb x
 comb-number x = number-tells x .1
+
+-- no combinational gate has the number of a flip-flop
+pub comb-other : (f : Form) (ps : List Signal) → formNumber f ≡ flopNumber → ⊥
+comb-other f ps e = false≢true (ap (λ (n : ℕ). kindComb (kindOf n)) (sym e) ∙ comb-number (Comb f ps))

@@ -1,10 +1,10 @@
 -- Gates as data, and what a form makes of bits (document 01, src/network/gates.rs). Assumes nothing: these are definitions.
 use mathlib.Core.Path.{_≡_}
-use mathlib.Core.Bool.{Bool, true, false, not, cond}
+use mathlib.Core.Bool.{Bool, true, false, not, _&&_, cond}
 use mathlib.Core.List.{List, [], _∷_}
 use lib.ListN.{getD}
 use Rattle.lists.specs.Lists.{all, any}
-use Rattle.signal.specs.Signal.{Signal, zeroS, oneS, invertIf}
+use Rattle.signal.specs.Signal.{Signal, zeroS, oneS, isZero, isOne, invertIf}
 
 -- the combinational forms with their types, in document 01's order: "Binary (And, Xor), Ternary (And, Xor, Maj, Mux),
 -- Nary (And, Or, Nand, Nor, Xor, Xnor), Buf"
@@ -36,6 +36,11 @@ pub data Gate : Type 0 where
 abbrev pub pins : Gate → List Signal
 pins (Comb f ps) = ps
 pins (Dff ff) = ff .dataIn ∷ ff .enable ∷ ff .reset ∷ []
+
+-- whether a gate is no flip-flop, or a plain one
+abbrev pub isPlain : Gate → Bool
+isPlain (Comb f ps) = true
+isPlain (Dff ff) = isOne (ff .enable) && isZero (ff .reset)
 
 -- "Every form but Dff is combinational"
 abbrev pub isComb : Gate → Bool

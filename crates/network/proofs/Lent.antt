@@ -21,12 +21,13 @@ use Rattle.gates.specs.Gate.{Gate, pins}
 use Rattle.gates.specs.Forms.{formed}
 use Rattle.network.specs.Net.{Net, GateIs, ValidNode, Valid, Formed}
 use Rattle.network.specs.Cells.{Lent, sizesFit, startAt, recordFits, recordsFit, validNode, allValid, isNetwork, netOf, countsOf, Words}
-use Rattle.network.specs.between.Cells.{Laid}
-use Rattle.network.specs.Record.{gateWidth, runAt, gateAt, pinCells}
+use Rattle.network.specs.between.Cells.{Laid, NetCells}
+use Rattle.network.specs.Record.{gateWidth, firstAt, runAt, gateAt, pinCells}
 use Rattle.network.specs.declared.Counts.{Counts}
 use Rattle.network.proofs.Records.{Sizes, sizes-give, sizes-from}
+use Rattle.network.proofs.RecordCells.{record-in}
 use Rattle.network.proofs.PinCells.{pin-mem}
-use Rattle.network.proofs.FittingRecords.{Fitting, heldAt, read-at, held-is, run-mem, gates-laid, pins-laid}
+use Rattle.network.proofs.FittingRecords.{Fitting, heldAt, run-inside, read-at, held-is, run-mem, gates-laid, pins-laid}
 use Rattle.network.proofs.HeldGates.{Holds, Again, held-again}
 
 -- ---- valid nodes
@@ -162,6 +163,30 @@ network-laid l w e = let t : Tests l = tests-give l e in (net-laid l w t, net-va
 -- each of its gates can be read
 pub network-readable : (l : Lent) → Words l → isNetwork l ≡ true → (g : ℕ) → g < l .counts .gates → (x : Gate) × (gateAt (l .cells) (l .pinsLent) g ≡ some x)
 network-readable l w e g h = let r = read-at (fitting l w (tests-give l e)) g h in (r .gate, r .is)
+
+-- and stands in the cells as they are
+pub network-cells : (l : Lent) → Words l → isNetwork l ≡ true → NetCells (l .counts .inputs) (l .counts .gates) (l .cells) (l .pinsLent)
+network-cells l w e =
+    let t : Tests l = tests-give l e in
+    let fit = fitting l w t in
+    record {
+      fewInputs = t .sizes .few .inputs;
+      fewGates = t .sizes .few .gates;
+      each = λ g h.
+          let r = read-at fit g h in
+          let first : firstAt (l .cells) g ≡ startAt (l .cells) g = r .first in
+          record {
+            gate = r .gate;
+            has = record { cells = record-in h (t .sizes .gates-lent); within = omega (arith, run-inside fit g h, t .sizes .pins-lent) };
+            is = r .is;
+            form = sym (r .number);
+            run = r .run;
+            count = r .count;
+            good = r .good;
+            words = λ c m. fit .words c (run-mem fit g h c m);
+            valid = λ c m. t .pinsGood c (run-mem fit g h c m);
+          };
+    }
 
 -- its sizes are within the limits and within its slices
 pub network-sizes : (l : Lent) → isNetwork l ≡ true → Sizes (l .counts) (length (l .cells)) (length (l .pinsLent)) (length (l .outsLent))

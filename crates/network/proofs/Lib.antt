@@ -1,6 +1,7 @@
 pub mod Runs
 pub mod Depth
 pub mod OneChoice
+pub mod TopoSorted
 pub mod Steps
 pub mod Renumbering
 pub mod Permuting

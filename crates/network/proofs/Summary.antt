@@ -1,15 +1,16 @@
 -- The network's theorems, as a reviewer would read them. Assumes nothing.
 use mathlib.Core.Path.{_≡_, refl, sym, _∙_, subst}
-use mathlib.Core.Bool.{Bool}
+use mathlib.Core.Bool.{Bool, true}
 use mathlib.Core.List.{List}
 use mathlib.Core.Logic.{_↔_}
 use Prim.Native.Nat.{ℕ, _<_}
 use lib.ListN.{length}
-use Rattle.network.specs.Net.{Net, Valid, Loop}
+use Rattle.network.specs.Net.{Net, Valid, Loop, topoSorted}
 use Rattle.network.specs.Clock.{Fits, Clock, Runs, zeroBits, NetRuns}
 use Rattle.network.specs.Settle.{settle, runFrom, OneRun, SameOutputs}
 use Rattle.network.specs.Renumber.{Renumbered}
-use Rattle.network.proofs.OneChoice.{ranked, settle-fits, fits-unique, run-is, runs-unique}
+use Rattle.network.proofs.OneChoice.{ranked, settle-fits, fits-unique, run-is, runs-unique, rises-free}
+use Rattle.network.proofs.TopoSorted.{sorted-rises}
 use Rattle.network.proofs.Renumbering.{renumbered-same}
 
 -- "without a loop just one choice fits": `settle` fits, and whatever fits is `settle` on every gate, for any row and any held bits
@@ -32,6 +33,10 @@ one-run net valid free held rows outs = (
 -- the same from zero
 pub one-run-zero : (net : Net) → Valid net → (Loop net → ⊥) → OneRun net
 one-run-zero net valid free = one-run net valid free zeroBits
+
+-- a sorted network has no loop: each gate of a ring would have a lower number than the next
+pub sorted-free : (net : Net) → topoSorted net ≡ true → Loop net → ⊥
+sorted-free net t = rises-free net (λ g. g) (sorted-rises net t)
 
 -- networks with the same outputs have the same runs by the relation
 pub same-runs : {a b : Net} → SameOutputs a b → (rows outs : List (List Bool)) → NetRuns a rows outs ↔ NetRuns b rows outs

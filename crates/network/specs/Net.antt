@@ -1,12 +1,14 @@
--- Networks, valid signals and combinational loops (document 01, src/network/network.rs). Assumes nothing: these are definitions.
+-- Networks, valid signals, combinational loops and sorted networks (document 01, src/network/network.rs). Assumes nothing: these are definitions.
 use mathlib.Core.Path.{_≡_}
-use mathlib.Core.Bool.{true}
-use mathlib.Core.List.{List, List·Memᴰ}
+use mathlib.Core.Bool.{Bool, true, _&&_}
+use mathlib.Core.List.{List, [], _∷_, List·Memᴰ}
 use mathlib.Core.Option.{some}
-use Prim.Native.Nat.{ℕ, _<_}
+use Prim.Native.Nat.{ℕ, suc, _<_}
+use lib.Dec.{ltb}
 use lib.ListN.{length, getElem?}
+use Rattle.lists.specs.Lists.{all}
 use Rattle.signal.specs.Signal.{Node, Const, Input, Var, Signal}
-use Rattle.gates.specs.Gate.{Form, Gate, Comb, pins}
+use Rattle.gates.specs.Gate.{Form, Gate, Comb, Dff, pins}
 use Rattle.gates.specs.Forms.{formed}
 
 -- a network: how many inputs, the gates by their numbers, the outputs in order
@@ -72,3 +74,25 @@ pub data Path (net : Net) : ℕ → ℕ → Type 0 where
 -- "A combinational loop is a ring of one or more combinational gates, each an input of the next"
 abbrev pub Loop : Net → Type 0
 Loop net = (g : ℕ) × Path net g g
+
+-- ---- sorted
+
+-- the node is no gate's, or that of a gate with a number below g
+abbrev pub lowerThan : ℕ → Node → Bool
+lowerThan g Const = true
+lowerThan g (Input i) = true
+lowerThan g (Var h) = ltb h g
+
+-- gate g is a flip-flop, or each of its gate inputs has a lower number than its own
+abbrev pub inputsLower : ℕ → Gate → Bool
+inputsLower g (Comb f ps) = all (λ s. lowerThan g (s .node)) ps
+inputsLower g (Dff ff) = true
+
+-- the same of each of these gates, of which the first is gate g
+unfoldable pub sortedFrom : ℕ → List Gate → Bool
+sortedFrom g [] = true
+sortedFrom g (x ∷ xs) = inputsLower g x && sortedFrom (suc g) xs
+
+-- `is_topo_sorted`: "every gate input of a combinational gate has a lower number"
+abbrev pub topoSorted : Net → Bool
+topoSorted net = sortedFrom 0 (net .gates)

@@ -6,15 +6,17 @@ use lists::copy_cells;
 use signal::Signal;
 ghost use mathlib.Core.Path.{_≡_};
 ghost use mathlib.Core.List.{[], _∷_};
-ghost use Prim.Native.Nat.{_+_, _*_, _≤_, _<_};
+ghost use Prim.Native.Nat.{ℕ, _+_, _*_, _≤_, _<_};
 ghost use lib.ListN.{length};
 ghost use Rattle.lists.specs.between.Lists.{overwriteAt};
 ghost use Rattle.signal.specs.Cell.{nodeOf};
-ghost use Rattle.network.specs.Cells.{lent, sizesFit, startAt, recordFits, recordsFit, validNode, allValid, isNetwork};
+ghost use Rattle.network.specs.Net.{inputsLower, sortedFrom};
+ghost use Rattle.network.specs.Cells.{lent, sizesFit, startAt, recordFits, recordsFit, validNode, allValid, isNetwork, orBuf, cellGates};
+ghost use Rattle.network.specs.between.Cells.{GateCells, NetCells};
 ghost use Rattle.network.specs.Sizes.{maxGates, maxPins};
 ghost use Rattle.gates.specs.between.Decode.{pinCount, pinsIn};
-ghost use Rattle.network.specs.Record.{gateWidth, formAt, firstAt, countAt};
-ghost use Rattle.network.specs.between.Record.{RecordIn, RunFrom, LayRoom, GateLaid, handRecord, withFirst, recordAt, decodedAt, CellIs};
+ghost use Rattle.network.specs.Record.{gateWidth, formAt, firstAt, countAt, runAt, gateAt};
+ghost use Rattle.network.specs.between.Record.{RecordIn, HasRun, RunFrom, LayRoom, GateLaid, handRecord, withFirst, recordAt, decodedAt, CellIs};
 
 pub const MAX_INPUTS: usize = 256;
 
@@ -109,6 +111,16 @@ pub fn count_at(gates: &[u32], g: usize) -> usize
     ensures { λ r. ⌜ CellIs (countAt (now (gates .entry)) g) r ⌝ }
 {
     gates[g * GATE_CELLS + 2] as usize
+}
+
+// The pins of gate g.
+pub fn gate_pins<'a, 'b>(gates: &'a [u32], pins: &'b [u32], g: usize) -> &'b [u32]
+    requires { ⌜ HasRun (now gates) (now pins) g ⌝ }
+    ensures { λ r. ⌜ now r ≡ runAt (now (gates .entry)) (now (pins .entry)) g ⌝ }
+{
+    let first = first_at(gates, g);
+    let end = first + count_at(gates, g);
+    &pins[first..end]
 }
 
 // Writes the record of a gate in hand, whose pins start at cell first, as gate g.
@@ -222,6 +234,32 @@ pub fn check_layout(counts: Counts, gates: &[u32], pins: &[u32], outputs: &[u32]
         return false;
     }
     all_valid(counts.inputs, n, &outputs[..o])
+}
+
+// Whether gate g is a flip-flop, or each of its gate inputs has a lower number: each input is a valid signal of the gates before it.
+fn inputs_lower(inputs: usize, gates: &[u32], pins: &[u32], g: usize) -> bool
+    requires { ⌜ ((n : ℕ) × GateCells inputs n (now gates) (now pins) g) ⌝ }
+    ensures { λ r. ⌜ r ≡ inputsLower g (orBuf (gateAt (now (gates .entry)) (now (pins .entry)) g)) ⌝ }
+{
+    if form_at(gates, g) == gates::DFF {
+        return true;
+    }
+    all_valid(inputs, g, gate_pins(gates, pins, g))
+}
+
+// Whether every gate input of a combinational gate, of n gates, has a lower number.
+pub fn is_topo_sorted(inputs: usize, gates: &[u32], pins: &[u32], n: usize) -> bool
+    requires { ⌜ NetCells inputs n (now gates) (now pins) ⌝ }
+    ensures { λ r. ⌜ r ≡ sortedFrom 0 (cellGates (now (gates .entry)) (now (pins .entry)) 0 n) ⌝ }
+{
+    let mut g = 0;
+    while g < n {
+        if !inputs_lower(inputs, gates, pins, g) {
+            return false;
+        }
+        g += 1;
+    }
+    true
 }
 
 // Gate g of the cells.

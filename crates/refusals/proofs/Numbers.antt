@@ -27,6 +27,9 @@ number-pos refusal.CombinationalLoop = omega arith
 number-pos refusal.NotANetwork = omega arith
 number-pos refusal.WideExclusive = omega arith
 number-pos refusal.TextDoesNotFit = omega arith
+number-pos refusal.NotSorted = omega arith
+number-pos refusal.OtherFlipFlop = omega arith
+number-pos refusal.WrongRows = omega arith
 
 -- the refusal of each number; the first stands where there is none
 byNumber : List Refusal
@@ -54,6 +57,15 @@ byNumber =
     ∷ refusal.NotANetwork
     ∷ refusal.WideExclusive
     ∷ refusal.TextDoesNotFit
+    ∷ refusal.TooFewCells
+    ∷ refusal.TooFewCells
+    ∷ refusal.TooFewCells
+    ∷ refusal.TooFewCells
+    ∷ refusal.TooFewCells
+    ∷ refusal.TooFewCells
+    ∷ refusal.NotSorted
+    ∷ refusal.OtherFlipFlop
+    ∷ refusal.WrongRows
     ∷ []
 
 number-again : (r : Refusal) → getD byNumber (numberOf r) refusal.TooFewCells ≡ r
@@ -75,6 +87,9 @@ number-again refusal.CombinationalLoop = refl
 number-again refusal.NotANetwork = refl
 number-again refusal.WideExclusive = refl
 number-again refusal.TextDoesNotFit = refl
+number-again refusal.NotSorted = refl
+number-again refusal.OtherFlipFlop = refl
+number-again refusal.WrongRows = refl
 
 -- no two refusals share a number
 pub number-one : (a b : Refusal) → numberOf a ≡ numberOf b → a ≡ b

@@ -3,11 +3,15 @@
 --   numberOf r   document 01's number of a refusal
 --   InReading r  one that reading answers
 --   InWriting r  one that writing answers
+--   InRunning r  one that a run answers
+use mathlib.Core.Path.{_≡_}
+use mathlib.Core.Logic.{_⊎_}
 use Prim.Native.Nat.{ℕ, _≤_}
 use Rattle.refusals.specs.declared.Refusal.{Refusal}
 use Rattle.refusals.specs.declared.Refusal.the-variants as refusal
 
--- "Reading refuses, in order: 1 .. 14"; "Writing refuses, in order: 20 .. 22"
+-- "Reading refuses, in order: 1 .. 14"; "Writing refuses, in order: 20 .. 22"; document 02, CR 1: "The order is 20, then these. 29 .. 30 ..
+-- and 31"
 abbrev pub numberOf : Refusal → ℕ
 numberOf refusal.TooFewCells = 1
 numberOf refusal.TextTooLong = 2
@@ -26,6 +30,9 @@ numberOf refusal.CombinationalLoop = 14
 numberOf refusal.NotANetwork = 20
 numberOf refusal.WideExclusive = 21
 numberOf refusal.TextDoesNotFit = 22
+numberOf refusal.NotSorted = 29
+numberOf refusal.OtherFlipFlop = 30
+numberOf refusal.WrongRows = 31
 
 -- a refusal of reading: 1 to 14
 pub record InReading (r : Refusal) : Type 0 where
@@ -40,3 +47,7 @@ pub record InWriting (r : Refusal) : Type 0 where
   pub low : 20 ≤ numberOf r
   -- to 22
   pub high : numberOf r ≤ 22
+
+-- a refusal of a run: 20, or 29 to 31
+abbrev pub InRunning : Refusal → Type 0
+InRunning r = (numberOf r ≡ 20) ⊎ (numberOf r ≡ 29) ⊎ (numberOf r ≡ 30) ⊎ (numberOf r ≡ 31)

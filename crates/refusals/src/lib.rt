@@ -1,4 +1,4 @@
-// Refusals: a case for each number of document 01. What Quaigh answers by a message or a panic is one of these.
+// Refusals: a case for each number of documents 01 and 02. What Quaigh answers by a message or a panic is one of these.
 ghost use mathlib.Core.Path.{_≡_};
 ghost use Rattle.refusals.specs.Numbers.{numberOf};
 ghost use Rattle.refusals.specs.Order.{refuseIf};
@@ -33,12 +33,18 @@ pub enum Refusal {
     OutputsDiffer,
     // there is a combinational loop
     CombinationalLoop,
-    // what is lent to the writer is no network
+    // what is lent is no network
     NotANetwork,
     // an Xor or Xnor of any number of inputs has over 12
     WideExclusive,
     // the text does not fit into the output slice or into 32,768 bytes
     TextDoesNotFit,
+    // a combinational gate has a gate input whose number is not lower than its own
+    NotSorted,
+    // a flip-flop has another enable or reset
+    OtherFlipFlop,
+    // a row has the wrong length, another character or no LF, or the output rows do not fit
+    WrongRows,
 }
 
 // What a check answers: nothing is wrong, or the refusal.
@@ -80,6 +86,9 @@ impl Refusal {
             Refusal::NotANetwork => 20,
             Refusal::WideExclusive => 21,
             Refusal::TextDoesNotFit => 22,
+            Refusal::NotSorted => 29,
+            Refusal::OtherFlipFlop => 30,
+            Refusal::WrongRows => 31,
         }
     }
 }

@@ -1,5 +1,5 @@
 -- Signals as data (document 01, src/network/signal.rs). Assumes nothing: these are definitions.
-use mathlib.Core.Bool.{Bool, true, false, not}
+use mathlib.Core.Bool.{Bool, true, false, not, _&&_}
 use Prim.Native.Nat.{ℕ}
 
 -- what a signal stands for before inversion: the constant zero, an input or a gate, by its number
@@ -45,6 +45,14 @@ abbrev pub constNode : Node → Bool
 constNode Const = true
 constNode (Input i) = false
 constNode (Var g) = false
+
+-- whether the signal is the constant zero
+abbrev pub isZero : Signal → Bool
+isZero s = constNode (s .node) && not (s .inv)
+
+-- whether it is the constant one
+abbrev pub isOne : Signal → Bool
+isOne s = constNode (s .node) && s .inv
 
 -- the node with gate g renumbered π g
 abbrev pub remapNode : (ℕ → ℕ) → Node → Node

@@ -2,6 +2,7 @@
 use network::Counts;
 use network::GATE_CELLS;
 use network::check_layout;
+use network::gate_pins;
 use signal::Signal;
 ghost use mathlib.Core.Path.{_≡_};
 ghost use mathlib.Core.List.{List, map};
@@ -46,16 +47,6 @@ fn is_comb(gates: &[u32], g: usize) -> bool
     ensures { λ r. ⌜ r ≡ formComb (now (gates .entry)) g ⌝ }
 {
     gates::kind_of(network::form_at(gates, g)).is_comb()
-}
-
-// The pins of gate g.
-fn gate_pins<'a, 'b>(gates: &'a [u32], pins: &'b [u32], g: usize) -> &'b [u32]
-    requires { ⌜ HasRun (now gates) (now pins) g ⌝ }
-    ensures { λ r. ⌜ now r ≡ runAt (now (gates .entry)) (now (pins .entry)) g ⌝ }
-{
-    let first = network::first_at(gates, g);
-    let end = first + network::count_at(gates, g);
-    &pins[first..end]
 }
 
 // Counts one pin.

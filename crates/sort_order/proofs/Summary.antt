@@ -1,6 +1,6 @@
 -- The sort's theorems, as a reviewer would read them (document 01, src/network/network.rs). Assumes nothing.
 use mathlib.Core.Path.{_≡_, refl, sym, subst}
-use mathlib.Core.Bool.{Bool}
+use mathlib.Core.Bool.{Bool, true}
 use mathlib.Core.List.{List, [], List·Memᴰ, map}
 use mathlib.Core.Option.{none, some}
 use mathlib.Core.Logic.{_↔_}
@@ -11,12 +11,13 @@ use Rattle.lists.specs.Lists.{occ, range}
 use Rattle.lists.proofs.Counting.{length-table, getD-table}
 use Rattle.signal.specs.Signal.{Var, Signal}
 use Rattle.gates.specs.Gate.{Form, Comb}
-use Rattle.network.specs.Net.{Net, GateIs, Valid, Loop}
+use Rattle.network.specs.Net.{Net, GateIs, Valid, Loop, topoSorted}
 use Rattle.network.specs.Record.{pinCells}
 use Rattle.network.specs.Clock.{zeroBits}
 use Rattle.network.specs.Settle.{runFrom, run}
 use Rattle.network.specs.Renumber.{placeOf, permuted}
 use Rattle.network.proofs.Summary.{renumbered-runs}
+use Rattle.network.proofs.TopoSorted.{rises-sorted}
 use Rattle.sort_order.specs.Order.{useCount, startTo, walk, recorded, sortOrder}
 use Rattle.sort_order.specs.Sorted.{graph, sorted, Preserved}
 use Rattle.sort_order.proofs.WalkEnds.{good-start, budget-start, walk-enough}
@@ -46,11 +47,11 @@ pops-enough net valid k h =
     walk-enough G (graph-valid net valid) k (G .size) c (startTo (G .comb) (useCount G) (G .size)) [] (good-start G c same long) (omega (arith, b)) b
 
 -- "After a sort, every gate input of a combinational gate has a lower number"
-pub inputs-lower : (net new : Net) → Valid net → sorted net ≡ some new → (i d : ℕ) (f : Form) (ps : List Signal) (s : Signal)
-    → GateIs new i (Comb f ps) → List·Memᴰ s ps → s .node ≡ Var d → d < i
-inputs-lower net new valid e i d f ps s is m q =
+pub sort-sorts : (net new : Net) → Valid net → sorted net ≡ some new → topoSorted new ≡ true
+sort-sorts net new valid e =
     let o = sorted-order net valid new e in
-    lower net valid (o .0) (o .1) i d f ps s (subst (λ (n : Net). GateIs n i (Comb f ps)) (sym (o .2)) is) m q
+    rises-sorted new (λ i d f ps s is m q.
+    lower net valid (o .0) (o .1) i d f ps s (subst (λ (n : Net). GateIs n i (Comb f ps)) (sym (o .2)) is) m q)
 
 -- "A combinational gate never recorded means a loop": the sort gives none exactly where there is a loop
 pub loop-exactly : (net : Net) → Valid net → (sorted net ≡ none) ↔ Loop net

@@ -1,13 +1,19 @@
 -- Beside specs/Cells: what contracts between the crates and proofs use, and no promise reaches.
 -- Assumes nothing: these are definitions.
 use mathlib.Core.Path.{_≡_}
-use mathlib.Core.List.{map}
-use Prim.Native.Nat.{_*_}
+use mathlib.Core.Bool.{true}
+use mathlib.Core.List.{List, map, List·Memᴰ}
+use mathlib.Core.Option.{some}
+use Prim.Native.Nat.{ℕ, _*_, _^_, _≤_, _<_}
 use lib.ListN.{length, take}
-use Rattle.signal.specs.Cell.{sigCell}
+use Rattle.signal.specs.Cell.{sigCell, nodeOf, sigOf}
+use Rattle.gates.specs.Gate.{Gate, pins}
+use Rattle.gates.specs.Forms.{formCell, formed}
 use Rattle.network.specs.Net.{Net}
-use Rattle.network.specs.Record.{gateWidth, gateCells, pinCells}
-use Rattle.network.specs.Cells.{Lent, countsOf}
+use Rattle.network.specs.Sizes.{maxInputs, maxGates}
+use Rattle.network.specs.Record.{gateWidth, formAt, countAt, runAt, gateAt, gateCells, pinCells}
+use Rattle.network.specs.Cells.{Lent, validNode, countsOf}
+use Rattle.network.specs.between.Record.{HasRun}
 
 -- ---- a lent network
 
@@ -21,3 +27,35 @@ pub record Laid (net : Net) (l : Lent) : Type 0 where
   pub pinsLaid : take (length (pinCells (net .gates))) (l .pinsLent) ≡ pinCells (net .gates)
   -- the outputs in use
   pub outsLaid : take (length (net .outputs)) (l .outsLent) ≡ map sigCell (net .outputs)
+
+-- ---- the gates of a network in cells
+
+-- gate g of n, with so many inputs, as the cells of a network have it
+pub record GateCells (inputs n : ℕ) (cells ps : List ℕ) (g : ℕ) : Type 0 where
+  -- the gate
+  pub gate : Gate
+  -- its record and its run of pins are there
+  pub has : HasRun cells ps g
+  -- they hold it
+  pub is : gateAt cells ps g ≡ some gate
+  -- its form's number
+  pub form : formAt cells g ≡ formCell gate
+  -- its inputs are the run's
+  pub run : pins gate ≡ map sigOf (runAt cells ps g)
+  -- as many as the record says
+  pub count : length (pins gate) ≡ countAt cells g
+  -- and as its form can have
+  pub good : formed gate ≡ true
+  -- each cell of the run is a 32-bit number
+  pub words : (c : ℕ) → List·Memᴰ c (runAt cells ps g) → c < 2 ^ 32
+  -- and a valid signal
+  pub valid : (c : ℕ) → List·Memᴰ c (runAt cells ps g) → validNode inputs n (nodeOf c) ≡ true
+
+-- n gates in cells, with so many inputs, as the cells of a network have them
+pub record NetCells (inputs n : ℕ) (cells ps : List ℕ) : Type 0 where
+  -- "256 inputs"
+  pub fewInputs : inputs ≤ maxInputs
+  -- "1,024 gates"
+  pub fewGates : n ≤ maxGates
+  -- each gate
+  pub each : (g : ℕ) → g < n → GateCells inputs n cells ps g

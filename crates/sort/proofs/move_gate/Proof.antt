@@ -6,7 +6,7 @@ use borrow.Author.Needs.{needs}
 use Rattle.sort.proofs.move_gate.Statement.{statement}
 use Rattle.sort.proofs.move_gate.Tie as tie
 use Rattle.network.proofs.copy_record.Reads as copy-record-reads
-use Rattle.sort.proofs.gate_pins.Reads as gate-pins-reads
+use Rattle.network.proofs.gate_pins.Reads as gate-pins-reads
 use Rattle.sort.proofs.move_pins.Reads as move-pins-reads
 
 move-pins-requires : tie.Need-move-pins-requires

@@ -1,8 +1,8 @@
 -- A gate's run is cut out of the pins. Assumes nothing.
 use borrow.Author.Needs.{needs}
 use Rattle.network.proofs.Records.{cut-run}
-use Rattle.sort.proofs.gate_pins.Statement.{statement}
-use Rattle.sort.proofs.gate_pins.Tie as tie
+use Rattle.network.proofs.gate_pins.Statement.{statement}
+use Rattle.network.proofs.gate_pins.Tie as tie
 
 returns : tie.Need-returns
 returns c =
