@@ -4,7 +4,7 @@ use mathlib.Core.Bool.{Bool, true, false, not, _&&_, cond}
 use mathlib.Core.List.{List, [], _∷_, _++_, map, flatMap}
 use Prim.Native.Nat.{ℕ}
 use Rattle.lists.specs.Lists.{Bytes, all, known}
-use Rattle.lists.proofs.Range.{all-append}
+use Rattle.lists.proofs.Range.{all-append, all-map}
 use Rattle.lists.proofs.Tests.{by-test, and-left, and-right, and-false}
 use Rattle.refusals.specs.declared.Checked.the-variants.{Fine}
 use Rattle.signal.specs.Cell.{sigCell}
@@ -16,10 +16,6 @@ use Rattle.blif_read_signals.specs.between.Resolve.{isFound, Signals}
 use Rattle.blif_read_names.proofs.EntryLaws.{entry-signal, entry-found}
 
 -- ---- a test of every element
-
-all-map : {A B : Type 0} (p : B → Bool) (f : A → B) (l : List A) → all p (map f l) ≡ all (λ (x : A). p (f x)) l
-all-map p f [] = refl
-all-map p f (x ∷ l) = ap (λ (b : Bool). p (f x) && b) (all-map p f l)
 
 all-same : {A : Type 0} (p q : A → Bool) → ((x : A) → p x ≡ q x) → (l : List A) → all p l ≡ all q l
 all-same p q h [] = refl

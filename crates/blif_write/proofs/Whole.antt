@@ -3,16 +3,15 @@ use mathlib.Core.Path.{_≡_, sym, _∙_, ap, ap₂}
 use mathlib.Core.Bool.{Bool, true, false, _||_, or-true}
 use mathlib.Core.List.{List, [], _∷_, _++_, map, flatMap, append-assoc}
 use Prim.Native.Nat.{ℕ, zero, suc, _-_, _^_, _≤_, _<_, min}
-use native.Mathlib.Nat.{sub-zero}
 use native.Mathlib.Omega.{arith}
 use lib.Dec.{ltb}
-use lib.ListN.{length, getD, take, drop, length-append, length-drop, length-replicate}
+use lib.ListN.{length, getD, take, drop, length-append, length-drop}
 use lib.Seq.{take-append-le, length-take-le}
 use borrow.Author.Tests.{lt-ltb, le-ltb}
 use Rattle.lists.specs.Lists.{if_then_else_, Bytes, bytes, zeros, any, overwrite}
 use Rattle.lists.proofs.Places.{flatMap-append}
-use Rattle.lists.proofs.Over.{length-overwrite, overwrite-is, take-overwrite}
-use Rattle.lists.proofs.OverAt.{part-is, part-back}
+use Rattle.lists.proofs.Over.{length-overwrite, take-overwrite}
+use Rattle.lists.proofs.OverAt.{zeros-behind}
 use Rattle.lists.proofs.Tests.{by-order}
 use Rattle.refusals.specs.declared.Refusal.the-variants as refusal
 use Rattle.network.specs.Net.{Net}
@@ -90,11 +89,6 @@ too-long t n h =
 short-enough : (t : Bytes) (n : ℕ) → length t ≤ min n maxText → tooLong t n ≡ false
 short-enough t n h = ap₂ (λ (a b : Bool). a || b) (le-ltb n (length t) (omega arith)) (le-ltb maxText (length t) (omega arith))
 
-drop-zeros : (k n : ℕ) → drop k (zeros n) ≡ zeros (n - k)
-drop-zeros zero n = ap zeros (sym (sub-zero n))
-drop-zeros (suc k) zero = ap zeros (let e : 0 ≡ 0 - suc k = omega arith in e)
-drop-zeros (suc k) (suc n) = drop-zeros k n ∙ ap zeros (let e : n - k ≡ suc n - suc k = omega arith in e)
-
 -- a slice of which the room was lent to a writer of the text t, and what the writer left of it
 module _ (t o q : Bytes) (room end : ℕ) (r : room ≡ min (length o) maxText) (w : Wrote t (take room o) q end) where
   room-length : length (take room o) ≡ room
@@ -123,17 +117,6 @@ module _ (t o q : Bytes) (room end : ℕ) (r : room ≡ min (length o) maxText) 
         ∙ ap (take (length t)) (w .out)
         ∙ take-overwrite t (take room o) (omega (arith, end-is, room-length))
 
-    -- zeros in all of what is left behind the text
-    zeros-behind : {z : Bytes} → z ≡ zeros (length (take (length (q ++ drop room o) - end) (drop end (q ++ drop room o))))
-        → take end (q ++ drop room o) ++ (z ++ drop (length (q ++ drop room o) - end) (drop end (q ++ drop room o))) ≡ overwrite t (zeros (length o))
-    zeros-behind {z} e =
-        let p : Bytes = q ++ drop room o in
-        let k : length (take (length p - end) (drop end p)) ≡ length o - length t =
-        ap length (part-is end p) ∙ length-drop end p ∙ omega (arith, after-length, end-is) in
-        part-back end p z
-        ∙ ap₂ (λ (a b : Bytes). a ++ b) text-kept (e ∙ ap zeros k ∙ sym (drop-zeros (length t) (length o)))
-        ∙ sym (overwrite-is t (zeros (length o)) (omega (arith, end-is, r, length-replicate {A = ℕ} (length o) 0)))
-
 -- the same, where the text is the network's
 module _ (l : Lent) (o : Bytes) {q : Bytes} {room end : ℕ} (w : Writable l) (r : room ≡ min (length o) maxText)
     (v : Wrote (textOf (netOf l)) (take room o) q end) where
@@ -146,5 +129,6 @@ module _ (l : Lent) (o : Bytes) {q : Bytes} {room end : ℕ} (w : Writable l) (r
       → writeOutcome (Written end) (take end (q ++ drop room o) ++ (z ++ drop (length (q ++ drop room o) - end) (drop end (q ++ drop room o)))) ≡ writeInto l (length o)
   ends-written h e =
       let t : Bytes = textOf (netOf l) in
-      ap₂ (λ (n : ℕ) (p : Bytes). writeOutcome (Written n) p) (end-is t o q room end r v h) (zeros-behind t o q room end r v h e)
+      ap₂ (λ (n : ℕ) (p : Bytes). writeOutcome (Written n) p) (end-is t o q room end r v h)
+      (zeros-behind (q ++ drop room o) end (text-kept t o q room end r v h) (sym (end-is t o q room end r v h)) (after-length t o q room end r v) e)
       ∙ answers-written l (length o) w (wrote-short t o q room end r v h)

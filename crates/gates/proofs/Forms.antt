@@ -254,3 +254,19 @@ comb-number x = number-tells x .1
 -- no combinational gate has the number of a flip-flop
 pub comb-other : (f : Form) (ps : List Signal) → formNumber f ≡ flopNumber → ⊥
 comb-other f ps e = false≢true (ap (λ (n : ℕ). kindComb (kindOf n)) (sym e) ∙ comb-number (Comb f ps))
+
+-- the kind of a form's number is the form's
+pub number-kind : (f : Form) → kindOf (formNumber f) ≡ kindOfForm f
+number-kind And2 = refl
+number-kind Xor2 = refl
+number-kind And3 = refl
+number-kind Xor3 = refl
+number-kind Maj3 = refl
+number-kind Mux3 = refl
+number-kind AndN = refl
+number-kind OrN = refl
+number-kind NandN = refl
+number-kind NorN = refl
+number-kind XorN = refl
+number-kind XnorN = refl
+number-kind Buf = refl

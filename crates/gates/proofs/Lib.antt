@@ -1,3 +1,4 @@
 pub mod Forms
 pub mod Decode
 pub mod Bits
+pub mod Plain

@@ -1,14 +1,14 @@
 -- A list laid over another from a cell on, and the stores that lay it. Assumes nothing.
-use mathlib.Core.Path.{_≡_, refl, sym, ap, _∙_}
+use mathlib.Core.Path.{_≡_, refl, sym, ap, ap₂, _∙_}
 use mathlib.Core.List.{List, [], _∷_, _++_, append-nil}
 use Prim.Native.Nat.{ℕ, zero, suc, _+_, _-_, _≤_, _<_}
 use native.Mathlib.Omega.{arith}
-use native.Mathlib.Nat.{suc-add, add-zero, zero-add}
-use lib.ListN.{length, getD, take, drop, set, length-drop, drop-of-length-le}
+use native.Mathlib.Nat.{suc-add, add-zero, zero-add, sub-zero}
+use lib.ListN.{length, getD, take, drop, set, length-take, length-drop, length-replicate, drop-of-length-le}
 use lib.Seq.{take-all, getD-take, getD-drop}
-use Rattle.lists.specs.Lists.{overwrite}
+use Rattle.lists.specs.Lists.{zeros, overwrite}
 use Rattle.lists.specs.between.Lists.{overwriteAt}
-use Rattle.lists.proofs.Over.{length-overwrite, take-overwrite}
+use Rattle.lists.proofs.Over.{length-overwrite, overwrite-is, take-overwrite}
 
 pub length-overwriteAt : (k : ℕ) (t o : List ℕ) → length (overwriteAt k t o) ≡ length o
 length-overwriteAt zero t o = length-overwrite t o
@@ -163,3 +163,20 @@ pub overwriteAt-again : (k : ℕ) (t r o : List ℕ) → length r ≤ length t �
 overwriteAt-again zero t r o h = overwrite-again t r o h
 overwriteAt-again (suc k) t r [] h = refl
 overwriteAt-again (suc k) t r (z ∷ o) h = ap (λ (l : List ℕ). z ∷ l) (overwriteAt-again k t r o h)
+
+-- ---- zeros behind a text
+
+drop-zeros : (k n : ℕ) → drop k (zeros n) ≡ zeros (n - k)
+drop-zeros zero n = ap zeros (sym (sub-zero n))
+drop-zeros (suc k) zero = ap zeros (let e : 0 ≡ 0 - suc k = omega arith in e)
+drop-zeros (suc k) (suc n) = drop-zeros k n ∙ ap zeros (let e : n - k ≡ suc n - suc k = omega arith in e)
+
+-- a slice p whose first `end` elements are t, and zeros in the part behind them
+pub zeros-behind : {t z : List ℕ} {n : ℕ} (p : List ℕ) (end : ℕ) → take end p ≡ t → length t ≡ end → length p ≡ n → z ≡ zeros (length (take (length p - end) (drop end p)))
+    → take end p ++ (z ++ drop (length p - end) (drop end p)) ≡ overwrite t (zeros n)
+zeros-behind {t} {z} {n} p end is l m e =
+    let within : end ≤ length p = omega (arith, ap length is, length-take end p) in
+    let k : length (take (length p - end) (drop end p)) ≡ n - length t = ap length (part-is end p) ∙ length-drop end p ∙ omega arith in
+    part-back end p z
+    ∙ ap₂ (λ (a b : List ℕ). a ++ b) is (e ∙ ap zeros k ∙ sym (drop-zeros (length t) n))
+    ∙ sym (overwrite-is t (zeros n) (omega (arith, length-replicate {A = ℕ} n 0)))

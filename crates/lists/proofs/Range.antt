@@ -26,6 +26,10 @@ module _ {A : Type 0} (p : A → Bool) where
   all-append [] k = refl
   all-append (x ∷ l) k = ap (λ (b : Bool). p x && b) (all-append l k) ∙ sym (and-assoc (p x) (all p l) (all p k))
 
+  pub all-map : {B : Type 0} (f : B → A) (l : List B) → all p (map f l) ≡ all (λ (x : B). p (f x)) l
+  all-map f [] = refl
+  all-map f (x ∷ l) = ap (λ (b : Bool). p (f x) && b) (all-map f l)
+
 -- no element passes a test that none passes
 pub any-none : {A : Type 0} (p : A → Bool) (l : List A) → any p l ≡ false → (x : A) → List·Memᴰ x l → p x ≡ false
 any-none p _ e x (List·Memᴰ·head {x = y} {xs = l} q) = ap p q ∙ or-left (p y) (any p l) e

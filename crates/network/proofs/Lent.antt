@@ -188,6 +188,11 @@ network-cells l w e =
           };
     }
 
+-- and so do its outputs
+pub network-outs : (l : Lent) → isNetwork l ≡ true → (c : ℕ) → List·Memᴰ c (take (l .counts .outputs) (l .outsLent))
+    → validNode (l .counts .inputs) (l .counts .gates) (nodeOf c) ≡ true
+network-outs l e = tests-give l e .outsGood
+
 -- its sizes are within the limits and within its slices
 pub network-sizes : (l : Lent) → isNetwork l ≡ true → Sizes (l .counts) (length (l .cells)) (length (l .pinsLent)) (length (l .outsLent))
 network-sizes l e = tests-give l e .sizes

@@ -1,0 +1,4 @@
+pub mod FormTables
+pub mod SlotBits
+pub mod PinBits
+pub mod Masks

@@ -1,0 +1,13 @@
+pub mod RowsOf
+pub mod PlainFlops
+pub mod LayingOut
+pub mod Starting
+pub mod RowTexts
+pub mod Showing
+pub mod GateBit
+pub mod Working
+pub mod Settling
+pub mod Stepping
+pub mod Prepared
+pub mod Clocking
+pub mod Outcomes

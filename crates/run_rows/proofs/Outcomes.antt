@@ -1,0 +1,139 @@
+-- What a run answers and leaves, from whether the rows fit and what the clocks leave. Assumes nothing.
+use mathlib.Core.Path.{_≡_, refl, sym, ap, ap₂, _∙_, subst}
+use mathlib.Core.Bool.{Bool, true, false, _&&_, true≢false, false≢true}
+use mathlib.Core.List.{List, _++_}
+use mathlib.Core.Option.{Option, none, some}
+use Prim.Native.Nat.{ℕ, suc, _-_, _*_, _/_, _%_, _^_, _≤_, _<_}
+use native.Mathlib.Omega.{arith}
+use native.Mathlib.Nat.{div-eq-of-eq-mul-left, mul-mod-left, div-lt-iff-lt-mul, le-div-iff-mul-le, div-add-mod'}
+use lib.Dec.{eqb, leb, ltb}
+use lib.ListN.{length, take, drop, length-append, length-drop}
+use lib.Seq.{take-at}
+use borrow.Author.Tests.{eqb-true, eq-eqb, leb-true, leb-false, lt-ltb, le-ltb}
+use Rattle.lists.specs.Lists.{Bytes, zeros, all}
+use Rattle.lists.proofs.OverAt.{zeros-behind}
+use Rattle.lists.proofs.Tests.{and-left, and-right}
+use Rattle.lists.proofs.Places.{run-getD}
+use Rattle.refusals.specs.declared.Refusal.the-variants as refusal
+use Rattle.gates.specs.Gate.{isPlain}
+use Rattle.network.specs.Net.{Net, topoSorted}
+use Rattle.network.specs.Clock.{zeroBits}
+use Rattle.network.specs.Settle.{run}
+use Rattle.network.specs.Cells.{Lent, Words, isNetwork, netOf}
+use Rattle.network.proofs.Lent.{network-cells, network-outs}
+use Rattle.run_rows.specs.Rows.{rowsText, rowsOf}
+use Rattle.run_rows.specs.Into.{RunOutcome, runOutcome, refusedRun, ranRows, outputRows, runOn, runInto}
+use Rattle.run_rows.specs.between.Steps.{Clocked}
+use Rattle.run_rows.specs.between.Asks.{Runnable}
+use Rattle.run_rows.specs.declared.RunAnswer.the-variants.{Ran, Refused}
+use Rattle.run_rows.proofs.RowsOf.{rows-are, length-rowsText, length-outputs}
+
+-- of a network and the rows' text into n bytes; a row has w bytes, and a row of outputs l
+module _ (net : Net) (rows : Bytes) (n w l : ℕ) (ew : w ≡ suc (net .inputs)) (el : l ≡ suc (length (net .outputs))) where
+  abbrev count : ℕ
+  count = length rows / w
+
+  -- whether the rows are whole, and as many rows of outputs fit
+  abbrev fits : Bool
+  fits = eqb (length rows % w) 0 && leb count (n / l)
+
+  some-byte : 0 < w
+  some-byte = omega arith
+
+  some-out : 0 < l
+  some-out = omega arith
+
+  -- as many rows as the text has
+  rows-long : {rs : List (List Bool)} → rowsOf (net .inputs) rows ≡ some rs → length rows ≡ length rs * w
+  rows-long {rs} e =
+      let t = rows-are (net .inputs) rows rs .0 e in
+      ap length (t .0) ∙ length-rowsText (net .inputs) rs (t .1) ∙ ap (λ (k : ℕ). length rs * k) (sym ew)
+
+  count-is : {rs : List (List Bool)} → rowsOf (net .inputs) rows ≡ some rs → count ≡ length rs
+  count-is e = div-eq-of-eq-mul-left some-byte (rows-long e)
+
+  outputs-long : (rs : List (List Bool)) → length (rowsText (run net rs)) ≡ length rs * l
+  outputs-long rs = length-outputs net zeroBits rs ∙ ap (λ (k : ℕ). length rs * k) (sym el)
+
+  pub not-fitting : fits ≡ false → refusedRun refusal.WrongRows n ≡ runOn net (rowsOf (net .inputs) rows) n
+  not-fitting f = by (rowsOf (net .inputs) rows) refl
+    where
+      by : (o : Option (List (List Bool))) → rowsOf (net .inputs) rows ≡ o → refusedRun refusal.WrongRows n ≡ runOn net o n
+      by none e = refl
+      by (some rs) e =
+          let whole : eqb (length rows % w) 0 ≡ true = eq-eqb _ 0 (ap (λ (k : ℕ). k % w) (rows-long e) ∙ mul-mod-left (length rs) w) in
+          let over : n / l < count = leb-false count (n / l) (rw whole at f) in
+          let long : n < length rs * l = div-lt-iff-lt-mul some-out .0 (omega (arith, over, count-is e)) in
+          rw (lt-ltb n (length (rowsText (run net rs))) (omega (arith, long, outputs-long rs)))
+
+  module _ (f : fits ≡ true) where
+    pub rows-whole : length rows ≡ count * w
+    rows-whole =
+        let z : length rows % w ≡ 0 = eqb-true _ 0 (and-left (eqb (length rows % w) 0) (leb count (n / l)) f) in
+        omega (arith, div-add-mod' (length rows) w)
+
+    pub lines-fit : count * l ≤ n
+    lines-fit = le-div-iff-mul-le {k = l} {x = count} {y = n} some-out .0 (leb-true count (n / l) (and-right (eqb (length rows % w) 0) (leb count (n / l)) f))
+
+  -- where a clock was refused
+  pub ran-not : (out : Bytes) {r : Bool} → r ≡ false → Clocked net (rowsOf (net .inputs) rows) zeroBits out r → refusedRun refusal.WrongRows n ≡ runOn net (rowsOf (net .inputs) rows) n
+  ran-not out {r} e c = by (rowsOf (net .inputs) rows) c
+    where
+      by : (o : Option (List (List Bool))) → Clocked net o zeroBits out r → refusedRun refusal.WrongRows n ≡ runOn net o n
+      by none c = refl
+      by (some rs) c = absurd (false≢true (sym e ∙ c .0))
+
+  -- where each row has run: the output rows, and zeros behind them
+  pub ran-all : (q o : Bytes) {z : Bytes} {r : Bool} → length o ≡ n → count * l ≤ n → length q ≡ count * l → r ≡ true → Clocked net (rowsOf (net .inputs) rows) zeroBits q r
+      → let end = count * l in let p = q ++ drop end o in
+      z ≡ zeros (length (take (length p - end) (drop end p)))
+      → runOutcome (Ran end) (take end p ++ (z ++ drop (length p - end) (drop end p))) ≡ runOn net (rowsOf (net .inputs) rows) n
+  ran-all q o {z} {r} lo fit lq t c zs = by (rowsOf (net .inputs) rows) refl c
+    where
+      end : ℕ
+      end = count * l
+
+      p : Bytes
+      p = q ++ drop end o
+
+      by : (os : Option (List (List Bool))) → rowsOf (net .inputs) rows ≡ os → Clocked net os zeroBits q r
+          → runOutcome (Ran end) (take end p ++ (z ++ drop (length p - end) (drop end p))) ≡ runOn net os n
+      by none h c = absurd (true≢false (sym t ∙ c))
+      by (some rs) h c =
+          let long : length (rowsText (run net rs)) ≡ end = outputs-long rs ∙ ap (λ (k : ℕ). k * l) (sym (count-is h)) in
+          let whole : length p ≡ n = omega (arith, length-append q (drop end o), length-drop end o) in
+          rw (le-ltb n (length (rowsText (run net rs))) (omega arith))
+          (ap₂ (λ (k : ℕ) (b : Bytes). runOutcome (Ran k) b) (sym long) (zeros-behind p end (take-at q (drop end o) end lq ∙ c .1) long whole zs))
+
+-- ---- the order of refusals
+
+module _ (l : Lent) (t : Bytes) (n : ℕ) where
+  pub not-network : isNetwork l ≡ false → refusedRun refusal.NotANetwork n ≡ runInto l t n
+  unfolding runInto
+  not-network e = rw e
+
+  module _ (is : isNetwork l ≡ true) where
+    pub not-sorted : topoSorted (netOf l) ≡ false → refusedRun refusal.NotSorted n ≡ runInto l t n
+    unfolding runInto
+    not-sorted e = rw (is, e)
+
+    module _ (sorted : topoSorted (netOf l) ≡ true) where
+      pub not-plain : all isPlain (netOf l .gates) ≡ false → refusedRun refusal.OtherFlipFlop n ≡ runInto l t n
+      unfolding runInto
+      not-plain e = rw (is, sorted, e)
+
+      pub runs-on : all isPlain (netOf l .gates) ≡ true → runOn (netOf l) (rowsOf (netOf l .inputs) t) n ≡ runInto l t n
+      unfolding runInto
+      runs-on e = rw (is, sorted, e)
+
+-- a lent network that is sorted, with plain flip-flops
+pub lent-runnable : (l : Lent) → Words l → isNetwork l ≡ true → topoSorted (netOf l) ≡ true → all isPlain (netOf l .gates) ≡ true
+    → Runnable (l .counts .inputs) (l .counts .gates) (l .cells) (l .pinsLent) (take (l .counts .outputs) (l .outsLent))
+unfolding netOf
+lent-runnable l w is sorted plain = record {
+  gates = network-cells l w is;
+  sorted = sorted;
+  plain = plain;
+  words = λ c m. run-getD 0 (λ (x : ℕ). x < 2 ^ 32) 0 (l .counts .outputs) (l .outsLent) (w .outWords) c m;
+  valid = network-outs l is;
+}

@@ -1,0 +1,228 @@
+-- `run_sorted` lays out the gates, then runs a clock for each row. Assumes nothing.
+use mathlib.Core.Path.{_≡_, refl, sym, _∙_, subst}
+use Prim.Native.Nat.{ℕ, _-_}
+use native.Mathlib.Omega.{arith}
+use mathlib.Core.List.{List, [], _++_}
+use lib.ListN.{length, replicate, length-replicate}
+use lib.Seq.{length-take-le}
+use borrow.Author.Needs.{needs}
+use borrow.Author.Tests.{not-true, not-false}
+use Rattle.network.specs.Cells.{cellNet}
+use Rattle.network.specs.between.Cells.{NetCells}
+use Rattle.run_rows.proofs.Prepared.{Prepared, prepared-from, taken-tables, prepared-workable, prepared-takes, prepared-holds}
+use Rattle.run_rows.proofs.Clocking.{Clocking, clocking-start, row-within, line-within, row-part, row-room, line-room, clocking-refused, row-some, clocking-next, clocking-done}
+use Rattle.run_rows.proofs.run_sorted.Statement.{statement}
+use Rattle.run_rows.proofs.run_sorted.Tie as tie
+
+abbrev Inv-loop : tie.InvT-loop
+Inv-loop gates pins outputs rows out₀ inputs n slots tables flops bits₀ next₀ k width line at₀ to₀ out bits next at to =
+    (length next ≡ 1024) × Clocking (cellNet inputs gates pins n outputs) gates n rows out₀ out bits at to
+
+abbrev μ-loop : tie.MeasureT-loop
+μ-loop gates pins outputs rows out₀ inputs n slots tables flops bits₀ next₀ k width line at₀ to₀ out bits next at to =
+    length rows - at
+
+-- where the loop starts: the entry, and what is laid out
+abbrev entry : tie.After-bits2 Inv-loop μ-loop → tie.Start Inv-loop μ-loop
+entry c = c .before .before .before .before .before .before .before .before .before .before .before .before .before .before .before .before
+
+abbrev slots : tie.After-bits2 Inv-loop μ-loop → List ℕ
+slots c = c .before .before .before .before .before .before .before .before .lay-gates .last .1 .1 .0
+
+abbrev laid : tie.After-bits2 Inv-loop μ-loop → List ℕ
+laid c = c .before .before .before .before .before .before .before .before .lay-gates .last .1 .1 .1 .0
+
+abbrev flops : tie.After-bits2 Inv-loop μ-loop → List ℕ
+flops c = c .before .before .before .before .list-flops .last .1 .1 .0
+
+prepared : (c : tie.After-bits2 Inv-loop μ-loop) (rest : List ℕ) → let a = entry c .args in
+    Prepared (a .counts .inputs) (a .counts .gates) (a .gates .now) (a .pins .now) (a .outputs .now) (slots c) (laid c ++ rest) (flops c) (c .before .before .before .before .list-flops .result)
+prepared c rest =
+    let lay = c .before .before .before .before .before .before .before .before .lay-gates in
+    let list = c .before .before .before .before .list-flops in
+    let few = entry c .pre .0 .gates .fewGates in
+    prepared-from rest (entry c .pre .0) (lay .kept .1 .1 .1 .0 ∙ length-take-le {A = ℕ} _ (replicate 1024 0) few) (lay .ensures)
+    (omega (arith, few, lay .kept .1 .1 .0, length-replicate {A = ℕ} 6144 0))
+    (omega (arith, few, list .ensures .few, list .kept .1 .1 .0, length-replicate {A = ℕ} 1024 0)) (list .ensures)
+
+slice-aggregate-lay-gates : tie.Need-slice-aggregate-lay-gates Inv-loop μ-loop
+slice-aggregate-lay-gates c = search needs
+
+array-borrow-prefix-tables : tie.Need-array-borrow-prefix-tables Inv-loop μ-loop
+array-borrow-prefix-tables c = c .before .before .before .before .before .before .pre .0 .gates .fewGates
+
+slice-aggregate-lay-gates-2 : tie.Need-slice-aggregate-lay-gates-2 Inv-loop μ-loop
+slice-aggregate-lay-gates-2 c = sym (length-take-le {A = ℕ} _ (replicate 1024 0) (c .before .before .before .before .before .before .before .pre .0 .gates .fewGates))
+
+lay-gates-requires : tie.Need-lay-gates-requires Inv-loop μ-loop
+lay-gates-requires c κs =
+    let start = c .before .before .before .before .before .before .before in
+    let gates = start .pre .0 .gates in
+    let long = length-take-le {A = ℕ} _ (replicate 1024 0) (gates .fewGates) in
+    ((_, subst (λ (k : ℕ). NetCells (start .args .counts .inputs) k (start .args .gates .now) (start .args .pins .now)) (sym long) gates), omega (arith, long, gates .fewGates))
+
+slice-aggregate-list-flops : tie.Need-slice-aggregate-list-flops Inv-loop μ-loop
+slice-aggregate-list-flops c = search needs
+
+list-flops-requires : tie.Need-list-flops-requires Inv-loop μ-loop
+list-flops-requires c κs =
+    let gates = c .before .before .before .before .before .before .before .before .before .before .before .pre .0 .gates in
+    record { few = gates .fewGates; records = λ g h. gates .each g h .has .cells; room = omega (arith, gates .fewGates, length-replicate {A = ℕ} 1024 0) }
+
+slice-aggregate-start-bits : tie.Need-slice-aggregate-start-bits Inv-loop μ-loop
+slice-aggregate-start-bits c = search needs
+
+start-bits-requires : tie.Need-start-bits-requires Inv-loop μ-loop
+start-bits-requires c κs = (c .before .before .before .before .before .before .before .before .before .before .before .before .before .before .pre .0 .gates .fewGates, refl)
+
+add-width : tie.Need-add-width Inv-loop μ-loop
+add-width c = omega (arith, entry c .pre .0 .gates .fewInputs)
+
+add-line : tie.Need-add-line Inv-loop μ-loop
+add-line c = search needs
+
+loop-holds : tie.Need-loop-holds Inv-loop μ-loop
+loop-holds c = (refl, clocking-start (prepared c []) (entry c .pre .1) (c .before .start-bits .ensures))
+
+add-end : tie.Need-add-end Inv-loop μ-loop
+add-end c = omega (arith, row-within (prepared (c .before .before) []) (c .before .loop .inv .1) (c .loop-test .taken))
+
+add-upto : tie.Need-add-upto Inv-loop μ-loop
+add-upto c = omega (arith, line-within (prepared (c .before .before) []) (c .before .loop .inv .1) (c .loop-test .taken))
+
+slice-aggregate-settle-row : tie.Need-slice-aggregate-settle-row Inv-loop μ-loop
+slice-aggregate-settle-row c = search needs
+
+array-share-prefix-tables : tie.Need-array-share-prefix-tables Inv-loop μ-loop
+array-share-prefix-tables c = prepared (c .before .before .before) _ .tablesLong
+
+slice-aggregate-settle-row-2 : tie.Need-slice-aggregate-settle-row-2 Inv-loop μ-loop
+slice-aggregate-settle-row-2 c = sym (taken-tables (prepared (c .before .before .before .before) _))
+
+sub-settle-row : tie.Need-sub-settle-row Inv-loop μ-loop
+sub-settle-row c = search needs
+
+part-settle-row-start : tie.Need-part-settle-row-start Inv-loop μ-loop
+part-settle-row-start c = search needs
+
+part-settle-row-end : tie.Need-part-settle-row-end Inv-loop μ-loop
+part-settle-row-end c = omega (arith, row-within (prepared (c .before .before .before .before) []) (c .before .before .before .loop .inv .1) (c .before .before .loop-test .taken))
+
+slice-aggregate-settle-row-3 : tie.Need-slice-aggregate-settle-row-3 Inv-loop μ-loop
+slice-aggregate-settle-row-3 c = search needs
+
+settle-row-requires : tie.Need-settle-row-requires Inv-loop μ-loop
+settle-row-requires c κs =
+    let inv = c .before .before .before .before .before .loop .inv .1 in
+    (prepared-workable (prepared (c .before .before .before .before .before .before) _) (inv .holds), row-room (prepared (c .before .before .before .before .before .before) []) inv (c .before .before .before .before .loop-test .taken))
+
+same-length : tie.Need-same-length Inv-loop μ-loop
+same-length c = search needs
+
+returns : tie.Need-returns Inv-loop μ-loop
+returns c =
+    let p = prepared (c .before .before .before .before .before .before .before .before .before) _ in
+    let inv = c .before .before .before .before .before .before .before .before .loop .inv .1 in
+    let more = c .before .before .before .before .before .before .before .loop-test .taken in
+    clocking-refused p inv more (c .before .before .settle-row .ensures) (taken-tables p) (row-part p inv more) (not-true _ (c .if1 .taken))
+
+slice-aggregate-write-row : tie.Need-slice-aggregate-write-row Inv-loop μ-loop
+slice-aggregate-write-row c = search needs
+
+sub-write-row : tie.Need-sub-write-row Inv-loop μ-loop
+sub-write-row c = search needs
+
+part-write-row-start : tie.Need-part-write-row-start Inv-loop μ-loop
+part-write-row-start c = search needs
+
+part-write-row-end : tie.Need-part-write-row-end Inv-loop μ-loop
+part-write-row-end c = omega (arith, line-within (prepared (c .before .before .before .before .before .before .before .before .before .before) []) (c .before .before .before .before .before .before .before .before .before .loop .inv .1) (c .before .before .before .before .before .before .before .before .loop-test .taken))
+
+write-row-requires : tie.Need-write-row-requires Inv-loop μ-loop
+write-row-requires c κs =
+    let inv = c .before .before .before .before .before .before .before .before .before .before .loop .inv .1 in
+    (c .before .before .before .before .settle-row .kept .1 .1 .1 .1 .1 .0 ∙ inv .holds .size, line-room (prepared (c .before .before .before .before .before .before .before .before .before .before .before) []) inv (c .before .before .before .before .before .before .before .before .before .loop-test .taken))
+
+array-share-prefix-flops : tie.Need-array-share-prefix-flops Inv-loop μ-loop
+array-share-prefix-flops c = prepared (c .before .before .before .before .before .before .before .before .before .before .before .before .before .before) [] .flopsLong
+
+slice-aggregate-step : tie.Need-slice-aggregate-step Inv-loop μ-loop
+slice-aggregate-step c = sym (length-take-le _ _ (prepared (c .before .before .before .before .before .before .before .before .before .before .before .before .before .before .before) [] .flopsLong))
+
+slice-aggregate-step-2 : tie.Need-slice-aggregate-step-2 Inv-loop μ-loop
+slice-aggregate-step-2 c = search needs
+
+slice-aggregate-step-3 : tie.Need-slice-aggregate-step-3 Inv-loop μ-loop
+slice-aggregate-step-3 c = search needs
+
+slice-aggregate-step-4 : tie.Need-slice-aggregate-step-4 Inv-loop μ-loop
+slice-aggregate-step-4 c = search needs
+
+step-requires : tie.Need-step-requires Inv-loop μ-loop
+step-requires c κs =
+    let p = prepared (c .before .before .before .before .before .before .before .before .before .before .before .before .before .before .before .before .before .before) [] in
+    let loop = c .before .before .before .before .before .before .before .before .before .before .before .before .before .before .before .before .before .loop in
+    let size = c .before .before .before .before .before .before .before .before .before .before .before .settle-row .kept .1 .1 .1 .1 .1 .0 ∙ loop .inv .1 .holds .size in
+    (prepared-takes p size (loop .inv .0), prepared-holds p size (loop .inv .0))
+
+loop-less : tie.Need-loop-less Inv-loop μ-loop
+loop-less c = search needs
+
+loop-again : tie.Need-loop-again Inv-loop μ-loop
+loop-again c =
+    let p = prepared (c .before .before .before .before .before .before .before .before .before .before .before .before .before .before .before .before .before .before .before .before .before) _ in
+    let loop = c .before .before .before .before .before .before .before .before .before .before .before .before .before .before .before .before .before .before .before .before .loop in
+    let more = c .before .before .before .before .before .before .before .before .before .before .before .before .before .before .before .before .before .before .before .loop-test .taken in
+    let row = row-some p (loop .inv .1) more (c .before .before .before .before .before .before .before .before .before .before .before .before .before .before .settle-row .ensures) (taken-tables p) (row-part p (loop .inv .1) more) (not-false _ (c .before .before .before .before .before .before .before .before .before .before .before .before .if1 .left)) in
+    (c .before .before .step .kept .1 .1 .0 ∙ loop .inv .0, clocking-next p (loop .inv .1) more row (c .before .before .before .before .before .before .before .before .before .write-row .ensures) (c .before .before .step .ensures))
+
+same-length-2 : tie.Need-same-length-2 Inv-loop μ-loop
+same-length-2 c = search needs
+
+returns-2 : tie.Need-returns-2 Inv-loop μ-loop
+returns-2 c = clocking-done (prepared (c .before .before) []) (c .before .loop .inv .1) (c .loop-test .left)
+
+pub run-sorted-spec : {M : Type 1} → statement M
+run-sorted-spec =
+    tie.close
+    (tie.spec
+    Inv-loop
+    μ-loop
+    slice-aggregate-lay-gates
+    array-borrow-prefix-tables
+    slice-aggregate-lay-gates-2
+    lay-gates-requires
+    slice-aggregate-list-flops
+    list-flops-requires
+    slice-aggregate-start-bits
+    start-bits-requires
+    add-width
+    add-line
+    loop-holds
+    add-end
+    add-upto
+    slice-aggregate-settle-row
+    array-share-prefix-tables
+    slice-aggregate-settle-row-2
+    sub-settle-row
+    part-settle-row-start
+    part-settle-row-end
+    slice-aggregate-settle-row-3
+    settle-row-requires
+    same-length
+    returns
+    slice-aggregate-write-row
+    sub-write-row
+    part-write-row-start
+    part-write-row-end
+    write-row-requires
+    array-share-prefix-flops
+    slice-aggregate-step
+    slice-aggregate-step-2
+    slice-aggregate-step-3
+    slice-aggregate-step-4
+    step-requires
+    loop-less
+    loop-again
+    same-length-2
+    returns-2)
