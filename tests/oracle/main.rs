@@ -6,6 +6,8 @@
 //        oracle writes SEED COUNT GIVEN WANTED     files of lent networks and of what `write_blif` writes, as document 01 has it
 //        oracle trips SEED COUNT GIVEN WANTED      files of lent networks with rows, and of what is answered when they are written and read
 //        oracle compare_trips SEED COUNT PROGRAM   such networks, written and read back by a program
+//        oracle runs SEED COUNT GIVEN WANTED       files of lent networks with rows, and of the output rows, as document 02 has it
+//        oracle compare_runs SEED COUNT PROGRAM    so many networks with rows run by a program, beside a plain run of the oracle's own
 //        oracle compare_reads SEED COUNT PROGRAM   so many texts read by a program, beside what `read_blif` answers
 //        oracle compare_writes SEED COUNT PROGRAM  so many networks written by a program, beside what `write_blif` writes
 //        oracle compare_files PROGRAM FILE..       files of one text each read by a program, cut behind 32,769 bytes
@@ -21,6 +23,9 @@ mod network;
 mod plain_writer;
 mod points;
 mod reads;
+mod rows;
+mod run_lists;
+mod runs;
 mod scale;
 mod simulate;
 mod smaller_nets;
@@ -199,6 +204,8 @@ fn run(a: &[String]) {
         "writes" => store(a, writes::lists(seed(), count())),
         "trips" => store(a, trips::lists(seed(), count())),
         "compare_trips" => finish(compare::compare(&a[4], "trips", trips::trips(seed(), count()).into_iter())),
+        "runs" => store(a, run_lists::lists(seed(), count())),
+        "compare_runs" => finish(compare::compare(&a[4], "runs", run_lists::runs(seed(), count()))),
         "compare_reads" => finish(compare::compare(&a[4], "reading", scale::texts(seed(), count()))),
         "compare_writes" => finish(compare::compare(&a[4], "writing", scale::networks(seed(), count()))),
         "compare_files" => {

@@ -18,6 +18,7 @@ pub enum Mistake {
     LastFlopNeverSteps,
     StepsBeforeOutputs,
     StepsOneByOne,
+    StepsOneByOneDown,
     FirstRowTwice,
     MuxOtherWay,
     MajOfThree,
@@ -27,7 +28,7 @@ pub enum Mistake {
     LastPinLost,
 }
 
-pub const MISTAKES: [Mistake; 19] = [
+pub const MISTAKES: [Mistake; 20] = [
     Mistake::PinNotInverted,
     Mistake::BufNotInverted,
     Mistake::OutputNotInverted,
@@ -40,6 +41,7 @@ pub const MISTAKES: [Mistake; 19] = [
     Mistake::LastFlopNeverSteps,
     Mistake::StepsBeforeOutputs,
     Mistake::StepsOneByOne,
+    Mistake::StepsOneByOneDown,
     Mistake::FirstRowTwice,
     Mistake::MuxOtherWay,
     Mistake::MajOfThree,
@@ -142,10 +144,14 @@ fn made(form: u32, bits: &[bool], m: Mistake) -> bool {
 
 // What the flip-flops hold next.
 fn stepped(p: &Plain, m: Mistake, row: &[bool], held: &[bool]) -> Vec<bool> {
-    let flops: Vec<usize> = (0..p.gates.len()).filter(|g| p.gates[*g].0 == 14).collect();
+    let mut flops: Vec<usize> = (0..p.gates.len()).filter(|g| p.gates[*g].0 == 14).collect();
+    if m == Mistake::StepsOneByOneDown {
+        flops.reverse();
+    }
+    let one_by_one = m == Mistake::StepsOneByOne || m == Mistake::StepsOneByOneDown;
     let mut next = held.to_vec();
     for g in &flops {
-        let seen = if m == Mistake::StepsOneByOne { next.clone() } else { held.to_vec() };
+        let seen = if one_by_one { next.clone() } else { held.to_vec() };
         if m != Mistake::LastFlopNeverSteps || flops.last() != Some(g) {
             next[*g] = Clock::at(p, m, row, &seen).step(*g);
         }

@@ -50,7 +50,7 @@ fn flop(d: Signal) -> (u32, Vec<Signal>) {
 }
 
 // Each form with as many inputs as it can have, up to three, and with one of them inverted; every row.
-fn forms() -> Vec<(Plain, Rows)> {
+pub fn forms() -> Vec<(Plain, Rows)> {
     let mut all = Vec::new();
     for form in 1..14 {
         let counts = match form {
