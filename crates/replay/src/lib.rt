@@ -62,6 +62,21 @@ pub fn put_word(cells: &mut [u32], i: usize, word: u32)
     }
 }
 
+// The next words, one for each cell.
+pub fn read_words(cells: &mut [u32]) {
+    let n = cells.len();
+    for i in 0..n {
+        cells[i] = read_word();
+    }
+}
+
+// A word, a number and the end of the line.
+pub fn print_line(word: &[u8], n: usize) {
+    io::write_all(1, word);
+    io::print_decimal(1, n as u64);
+    io::write_all(1, b"\n");
+}
+
 // A blank and a cell.
 fn print_cell(cell: u32) {
     io::write_all(1, b" ");
@@ -93,4 +108,33 @@ pub fn expect_each(cells: &[u32], n: usize, v: u32, line: &[u8]) {
         }
         i += 1;
     }
+}
+
+// A line that no stored answer has, unless every byte from place n on is zero.
+pub fn expect_zero_bytes(bytes: &[u8], n: usize) {
+    let mut i = n;
+    while i < bytes.len() {
+        if bytes[i] != 0 {
+            io::write_all(1, b"not zero\n");
+            return;
+        }
+        i += 1;
+    }
+}
+
+// A length and the first n bytes; the others must be zero.
+pub fn print_bytes(bytes: &[u8], n: usize) {
+    print_line(b"length=", n);
+    if n > bytes.len() {
+        io::write_all(1, b"more than are lent\n");
+        return;
+    }
+    io::write_all(1, &bytes[..n]);
+    expect_zero_bytes(bytes, n);
+}
+
+// A refusal's number; every byte must be zero.
+pub fn print_refused(bytes: &[u8], number: u32) {
+    print_line(b"refused=", number as usize);
+    expect_zero_bytes(bytes, 0);
 }

@@ -6,6 +6,9 @@ use blif_write::WriteAnswer;
 use blif_write::write_blif;
 use lists::cell_at;
 use network::Counts;
+use replay::print_bytes;
+use replay::print_line;
+use replay::print_refused;
 use replay::put_word;
 use replay::read_counts;
 use replay::read_word;
@@ -30,40 +33,6 @@ fn expect_same(cells: &[u32], kept: &[u32]) {
     }
 }
 
-// A line that no stored answer has, unless every byte is zero.
-fn expect_zero(bytes: &[u8]) {
-    for i in 0..bytes.len() {
-        if bytes[i] != 0 {
-            io::write_all(1, b"not zero\n");
-            return;
-        }
-    }
-}
-
-// A word, a number and the end of the line.
-fn print_number(word: &[u8], n: usize) {
-    io::write_all(1, word);
-    io::print_decimal(1, n as u64);
-    io::write_all(1, b"\n");
-}
-
-// A text's length and the text; the bytes behind it must be zero.
-fn print_written(out: &[u8], n: usize) {
-    print_number(b"length=", n);
-    if n > out.len() {
-        io::write_all(1, b"more than are lent\n");
-        return;
-    }
-    io::write_all(1, &out[..n]);
-    expect_zero(&out[n..]);
-}
-
-// A refusal's number; every byte must be zero.
-fn print_refused(out: &[u8], number: u32) {
-    print_number(b"refused=", number as usize);
-    expect_zero(out);
-}
-
 // An answer; every lent cell must be as it was.
 fn print_answer(
     answer: WriteAnswer,
@@ -76,7 +45,7 @@ fn print_answer(
     kept_outputs: &[u32],
 ) {
     match answer {
-        WriteAnswer::Written(n) => print_written(out, n),
+        WriteAnswer::Written(n) => print_bytes(out, n),
         WriteAnswer::Refused(refusal) => print_refused(out, refusal.number()),
     }
     expect_same(gates, kept_gates);
@@ -113,7 +82,7 @@ fn replay_cells(
 
 // The next network: its number, then what writing answers.
 fn replay_network(number: u32) {
-    print_number(b"network ", number as usize);
+    print_line(b"network ", number as usize);
     let counts = read_counts();
     let l = read_word() as usize % 32801;
     let g = read_word() as usize % 3077;
