@@ -112,7 +112,7 @@ fn brief(answer: &[u8]) -> String {
     let first = s.lines().next().unwrap_or("");
     let kind = match first {
         f if f.starts_with("counts ") => "read",
-        f if f.starts_with("length=") => "written",
+        f if f.starts_with("length=") => "a length",
         f if f.starts_with("refused=") => f,
         "" => "nothing",
         _ => "other lines",
@@ -131,7 +131,7 @@ fn line_apart(wanted: &[u8], got: &[u8]) -> String {
     let apart = w.iter().zip(g.iter().map(Some).chain(std::iter::repeat(None))).find(|(w, g)| Some(*w) != *g);
     let line = apart.map_or(String::new(), |(w, _)| String::from_utf8_lossy(w).into_owned());
     match line.split_whitespace().next() {
-        Some(t) if t.starts_with(['0', '1', '-']) => "a line of a cover".to_string(),
+        Some(t) if t.starts_with(['0', '1', '-']) => "a line of 0, 1 and -".to_string(),
         Some(t) => format!("a line {}", t.split('=').next().unwrap()),
         None => "the end".to_string(),
     }

@@ -69,7 +69,7 @@ impl Clock<'_> {
         let plain = if s.is_constant() {
             self.m == Mistake::OneForZero
         } else if s.is_input() {
-            *self.row.get(s.input() as usize).unwrap_or(&false)
+            self.row[s.input() as usize]
         } else {
             self.gate(s.var() as usize)
         };
@@ -165,7 +165,6 @@ pub fn run(p: &Plain, rows: &[Vec<bool>], m: Mistake) -> Vec<Vec<bool>> {
     let mut all = Vec::new();
     for (k, given) in rows.iter().enumerate() {
         let mut row = if m == Mistake::FirstRowTwice { rows[k.saturating_sub(1)].clone() } else { given.clone() };
-        row.resize(p.inputs, false);
         if m == Mistake::RowReversed {
             row.reverse();
         }

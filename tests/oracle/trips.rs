@@ -1,10 +1,11 @@
 // Networks to write and to read back, each with rows, and what must be answered: Quaigh's `write_blif` and its `read_blif` with document
-// 01's numbers, and the outputs that the network written gives for the rows from zero.
+// 01's numbers, and the output rows that the network written gives for the rows from zero.
 use crate::compare::Case;
 use crate::generate::{make, Numbers, Plain, Shape};
 use crate::lent::{decoded, given as cells_given, lent, wanted as written, Lent, Wanted as Written};
 use crate::nets::{i, net, x};
 use crate::reads::{wanted as read, Wanted as Read};
+use crate::rows::{flop, text};
 use crate::simulate::{run, Mistake, MISTAKES};
 use crate::variants::order;
 use crate::writes::unsorted;
@@ -13,7 +14,7 @@ use std::collections::BTreeMap;
 
 type Rows = Vec<Vec<bool>>;
 
-// A lent network, and the rows to run where it is read back.
+// A lent network, and the rows to run where it is read back, of a bit for each input.
 #[derive(Clone)]
 pub struct Trip {
     lent: Lent,
@@ -43,10 +44,6 @@ fn wanted(l: &Lent) -> Answer {
 // Every row of so many bits.
 fn every(n: usize) -> Rows {
     (0..1 << n).map(|k: usize| (0..n).map(|j| k >> j & 1 == 1).collect()).collect()
-}
-
-fn flop(d: Signal) -> (u32, Vec<Signal>) {
-    (14, vec![d, Signal::one(), Signal::zero()])
 }
 
 // Each form with as many inputs as it can have, up to three, and with one of them inverted; every row.
@@ -86,11 +83,7 @@ fn flops() -> Vec<(Plain, Rows)> {
         (net(0, vec![flop(!x(0))], vec![x(0), !x(0)]), vec![vec![]; 4]),
         (net(0, vec![flop(x(0))], vec![x(0)]), vec![vec![]; 3]),
         (net(0, vec![flop(Signal::one()), flop(Signal::zero())], vec![x(0), x(1)]), vec![vec![]; 3]),
-        // rows that are too short and too long, and none
-        (
-            net(3, vec![flop(i(2))], vec![x(0), i(0), i(1), i(2)]),
-            vec![vec![], vec![true], vec![true; 5], vec![], vec![true; 256], vec![false]],
-        ),
+        // no rows
         (net(1, vec![flop(i(0))], vec![x(0)]), vec![]),
     ]
 }
@@ -133,7 +126,7 @@ fn limits() -> Vec<(Plain, Rows)> {
     let control = |e, r| (alone(2, 14, vec![i(0), e, r]), every(2));
     let mut all = vec![xor(11, 9), xor(12, 10), xor(11, 11), xor(12, 12), xor(11, 13), xor(12, 13)];
     all.extend([wide(8, 5000), wide(9, 8162), wide(9, 8163), chain(1022), chain(1023), turned(200), turned(820)]);
-    all.push((net(256, full, (766..1022).map(x).collect()), vec![row(256), row(200), row(256)]));
+    all.push((net(256, full, (766..1022).map(x).collect()), vec![row(256), vec![true; 256], row(256)]));
     for c in [i(1), !i(1), Signal::zero(), Signal::one(), x(0)] {
         all.extend([control(c, Signal::zero()), control(Signal::one(), c)]);
     }
@@ -174,12 +167,8 @@ fn random(r: &mut Numbers, k: usize) -> Trip {
         1 => l.room = r.below(400),
         _ => (),
     }
-    let n = r.below(8);
-    let rows = (0..n).map(|_| {
-        let bits = if r.below(12) == 0 { r.below(p.inputs + 2) } else { p.inputs };
-        (0..bits.min(256)).map(|_| r.below(2) == 0).collect()
-    });
-    let rows = rows.collect();
+    let (n, inputs) = (r.below(8), l.counts[0].min(256));
+    let rows = (0..n).map(|_| (0..inputs).map(|_| r.below(2) == 0).collect()).collect();
     Trip { lent: l, rows }
 }
 
@@ -194,26 +183,26 @@ pub fn trips(seed: u64, count: usize) -> Vec<Trip> {
 
 // ---- the lists
 
-fn digits(bits: &[bool]) -> String {
-    bits.iter().map(|b| if *b { '1' } else { '0' }).collect()
-}
+// The bytes that the program has room for, of rows and of output rows.
+const MOST_ROWS: usize = 4096;
 
 // What the program prints before the networks, to show that it tells what is wrong: a byte of the text or a cell of one of five slices that is
-// not zero, with a network without cells in use; bits that did not settle, with more outputs than are lent.
+// not zero, with a network without cells in use; a byte behind output rows, or one after a refusal, that is not zero, and output rows longer
+// than their slice.
 fn told() -> String {
-    "told\n".to_string() + &"length=0 counts 0 0 0 0\nnot zero\n".repeat(6) + "0 more than are lent\n"
+    let runs = "length=0\nnot zero\nlength=1\nmore than are lent\nrefused=20\nnot zero\n";
+    "told\n".to_string() + &"length=0 counts 0 0 0 0\nnot zero\n".repeat(6) + runs
 }
 
-// The numbers that the program reads: those of a network to write, and the rows where it is read back.
+fn as_text(rows: &Rows) -> String {
+    String::from_utf8(text(rows)).unwrap()
+}
+
+// What the program reads: a network to write, and its rows behind their length.
 fn given(t: &Trip) -> String {
-    let rows = match wanted(&t.lent) {
-        Answer::Back(_, _) => {
-            let each = t.rows.iter().map(|r| words(&[r.len() as u32]) + &digits(r) + "\n");
-            words(&[t.rows.len() as u32]) + &each.collect::<String>()
-        }
-        _ => String::new(),
-    };
-    cells_given(&t.lent) + &rows
+    let rows = as_text(&t.rows);
+    assert!(rows.len() <= MOST_ROWS, "rows that the program has no room for");
+    cells_given(&t.lent) + &words(&[rows.len() as u32]) + &rows
 }
 
 pub fn all_given(ts: &[Trip]) -> String {
@@ -233,8 +222,9 @@ fn shown(t: &Trip) -> (String, String, [usize; 5]) {
             let flop = p.gates.iter().any(|g| g.0 == 14);
             let counts = [unsorted(&p) as usize, flop as usize, t.rows.is_empty() as usize, outs.len(), outs.concat().len()];
             let head = format!("length={length} counts {} {} {} {}\n", b.inputs, b.gates.len(), b.pins(), b.outputs.len());
-            let lines = outs.iter().map(|o| format!("1 {} 1 {}\n", digits(o), digits(o)));
-            ("read back".to_string(), head + &lines.collect::<String>(), counts)
+            let rows = as_text(&outs);
+            assert!(rows.len() <= MOST_ROWS, "output rows that the program has no room for");
+            ("read back".to_string(), head + &format!("length={}\n{rows}", rows.len()).repeat(2), counts)
         }
     }
 }
