@@ -124,12 +124,12 @@ fn signal(s: &Signal) -> String {
     } else if bare.is_input() {
         format!("plain (Input {})", bare.input())
     } else {
-        format!("plain (Gated {})", bare.var())
+        format!("plain (Var {})", bare.var())
     };
     match (s.is_inverted(), bare.is_constant()) {
         (false, _) => node,
         (true, true) => "oneS".to_string(),
-        (true, false) => format!("turned ({node})"),
+        (true, false) => format!("invert ({node})"),
     }
 }
 
@@ -178,7 +178,7 @@ pub fn plain_flops(mut p: Plain) -> Plain {
 const HEAD: &str = "-- Texts and networks made from a seed, with Quaigh's answers (tests/oracle/checks). Assumes nothing: these are definitions.
 use mathlib.Core.List.{List, [], _∷_}
 use Rattle.lists.specs.Lists.{bytes}
-use Rattle.signal.specs.Signal.{Input, Gated, plain, zeroS, oneS, turned}
+use Rattle.signal.specs.Signal.{Input, Var, plain, zeroS, oneS, invert}
 use Rattle.gates.specs.Gate.{And2, Xor2, And3, Xor3, Maj3, Mux3, AndN, OrN, NandN, NorN, XorN, XnorN, Buf, Comb, Dff}
 use Rattle.network.specs.Net.{netFrom}
 use Rattle.worked_cases.specs.Checks.{Check, reads, writes, network, number}
