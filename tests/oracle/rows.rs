@@ -9,7 +9,7 @@ use crate::{layouts, trips, Signal};
 pub enum Hand {
     Rows(String),
     Refused(u32),
-    Compared,  // run, and the output rows are on no paper
+    Compared,   // run, and the output rows are on no paper
     Fits(bool), // whether the cells are a network, which alone is on paper
 }
 
@@ -107,6 +107,18 @@ fn refusals() -> Vec<Case> {
     all
 }
 
+// Counts whose sums and products pass 32 bits.
+fn large_counts() -> Vec<Case> {
+    let p = net(1, vec![flop(i(0))], vec![x(0)]);
+    let with_count = |place: usize, n: u64| {
+        let mut r = with(&p, b"1\n");
+        r.lent.counts[place] = n;
+        (r, Hand::Refused(20))
+    };
+    let large = [0x5555_5555, 0x5555_5556, 1 << 31, (1 << 32) - 1];
+    (0..4).flat_map(|place| large.map(|n| with_count(place, n))).collect()
+}
+
 // The order of gates: each input of a gate in turn a gate that is not lower, a flip-flop too; flip-flops before and behind what they read.
 fn orders() -> Vec<Case> {
     let alone = |gates: Gates| net(3, gates, vec![x(0)]);
@@ -161,18 +173,21 @@ pub fn one_byte(bytes: impl Iterator<Item = u8>) -> Vec<Case> {
     bytes.flat_map(|b| [(within(&p, &[b, b'\n'], 5), character(b)), (within(&p, &[b'0', b], 5), end(b))]).collect()
 }
 
-// Rows of two characters, right and wrong; no inputs, no outputs, neither.
+// Rows that are wrong for two inputs.
+#[rustfmt::skip]
+const WRONG: [&[u8]; 30] = [
+    b"\n", b"0\n", b"011\n", b"01", b"0", b"01\n0", b"01\n10", b"01\n1\n", b"01\n\n", b"\n01\n", b"01\r\n", b"01\n10\r\n", b"01\r",
+    b" 01\n", b"01 \n", b"0 1\n", b"0 \n", b"01\n 1\n", b"0x\n", b"21\n", b"01\n02\n", b"0\n1", b"0\n\n", b"01\n0\n\n", b"0101\n",
+    b"01\n01", b"01\n0101\n", b"01,10\n", b"01\0", b"01\n\0\0\n",
+];
+
+// Rows of two characters, wrong and right; no inputs, no outputs, neither.
 fn characters() -> Vec<Case> {
     let swap = net(2, vec![], vec![i(1), i(0)]);
-    let wrong: [&[u8]; 30] = [
-        b"\n", b"0\n", b"011\n", b"01", b"0", b"01\n0", b"01\n10", b"01\n1\n", b"01\n\n", b"\n01\n", b"01\r\n", b"01\n10\r\n", b"01\r",
-        b" 01\n", b"01 \n", b"0 1\n", b"0 \n", b"01\n 1\n", b"0x\n", b"21\n", b"01\n02\n", b"0\n1", b"0\n\n", b"01\n0\n\n", b"0101\n",
-        b"01\n01", b"01\n0101\n", b"01,10\n", b"01\0", b"01\n\0\0\n",
-    ];
     let nothing = net(0, vec![], vec![]);
     let source = net(0, vec![flop(!x(0))], vec![x(0), one()]);
     let sink = net(2, vec![flop(i(0))], vec![]);
-    let mut all: Vec<Case> = wrong.into_iter().map(|w| refused(&swap, w, 31)).collect();
+    let mut all: Vec<Case> = WRONG.into_iter().map(|w| refused(&swap, w, 31)).collect();
     all.extend([
         rows(&swap, "", ""),
         rows(&swap, "01\n", "10\n"),
@@ -295,8 +310,9 @@ fn wide() -> Vec<Case> {
         given.extend((0..n).flat_map(|k| [false, true].map(|b| (0..n).map(|j| (j == k) != b).collect())));
         let outputs = || (0..6).map(x).collect();
         all.push(compared(&net(n, (7..13).map(|form| (form, pins(7))).collect(), outputs()), &text(&given)));
-        let turned: Vec<Vec<bool>> = given.iter().take(20).map(|row| row.iter().enumerate().map(|(k, b)| *b != (k % 7 == 3)).collect()).collect();
-        all.push(compared(&net(n, (7..13).map(|form| (form, pins(3))).collect(), outputs()), &text(&turned)));
+        let turned = |row: &Vec<bool>| row.iter().enumerate().map(|(k, b)| *b != (k % 7 == 3)).collect();
+        let others: Vec<Vec<bool>> = given.iter().take(20).map(turned).collect();
+        all.push(compared(&net(n, (7..13).map(|form| (form, pins(3))).collect(), outputs()), &text(&others)));
     }
     all
 }
@@ -352,7 +368,7 @@ pub fn lowered(mut p: Plain) -> Plain {
 }
 
 pub fn by_hand() -> Vec<Case> {
-    let small = [refusals(), orders(), controls(), characters(), rooms(), flops(), interlock(), outputs(), forms(), wide()];
-    let large = [vec![long(), largest()], many_rows(), cells()];
-    small.into_iter().chain(large).flatten().collect()
+    let refused = [refusals(), large_counts(), orders(), controls(), characters(), rooms()];
+    let run = [flops(), interlock(), outputs(), forms(), wide(), vec![long(), largest()], many_rows()];
+    refused.into_iter().chain(run).flatten().chain(cells()).collect()
 }

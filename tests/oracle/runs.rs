@@ -22,55 +22,55 @@ pub struct Answer {
 #[derive(Clone, Copy, PartialEq, Debug)]
 pub enum Mistake {
     Nothing,
-    CountsCut,             // 20: counts by their low 32 bits
-    FirstPinsFree,         // 20: first pins not looked at
-    CellsBeyond,           // 20: signals beyond the counts looked at
-    OrderBeforeOutputs,    // 29 before the outputs' signals are looked at
-    FlopsBeforeOutputs,    // 30 before them
-    RowsFirst,             // 31 before 20
-    RowsBeforeOrder,       // 31 before 29
-    RowsBeforeFlops,       // 31 before 30
-    FlopsBeforeOrder,      // 30 before 29
-    GateByGate,            // 29 or 30, whichever the first wrong gate has
-    FlopInputsFree,        // 29: a flip-flop as an input not looked at
-    FlopsSortedToo,        // 29: a flip-flop's own inputs looked at
-    OwnInputFree,          // 29: a gate that is its own input passes
-    InvertedInputFree,     // 29: inverted inputs not looked at
-    FirstInputOnly,        // 29: only the first input looked at
-    LastGateFree,          // 29: the last gate not looked at
-    EnableFree,            // 30: the enable not looked at
-    ResetFree,             // 30: the reset not looked at
-    EnableConstant,        // 30: either constant is an enable
-    ResetConstant,         // 30: either constant is a reset
-    FirstFlopOnly,         // 30: only the first flip-flop looked at
-    CrTaken,               // 31: a CR before LF goes
-    BlanksTaken,           // 31: blanks go
-    LfAdded,               // 31: an LF is added behind the last row
-    EmptyRowsTaken,        // 31: empty rows go
-    ShortRowsTaken,        // 31: zeros are added to a short row
-    LongRowsTaken,         // 31: a long row is cut
-    OtherIsZero,           // 31: any other character is a zero
-    LowBit,                // 31: a character's lowest bit is taken
-    StopsAtWrongRow,       // 31: the rows before a wrong one are run
-    FitsWithoutLf,         // 31: rows × outputs must fit
-    FitsByRows,            // 31: the rows' bytes must fit
-    FitsByFirst,           // 31: one output row must fit
-    NeverFull,             // 31: a byte must be left over
-    CutToFit,              // 31: rows whose outputs do not fit are left out
-    NoRowsRefused,         // 31 for no rows
-    NoInputsNoRows,        // without inputs nothing is run
-    NoOutputsNoRows,       // without outputs nothing is written
-    OutLeft(u32),          // the output slice left as it was after this refusal
-    WrittenStays,          // the output rows before a wrong row stay
-    RestLeft,              // the bytes behind the output rows left as they were
-    LastByteLeft,          // the slice's last byte left as it was
-    LengthWithoutLf,       // a length of rows × outputs
-    LfLeftOut,             // no LF behind an output row
-    LastRowDropped,        // the last row not run
-    HeldCleared,           // held bits cleared between rows
-    OneOutputIsZero,       // the constant one as an output shown as a zero
+    CountsCut,                  // 20: counts by their low 32 bits
+    FirstPinsFree,              // 20: first pins not looked at
+    CellsBeyond,                // 20: signals beyond the counts looked at
+    OrderBeforeOutputs,         // 29 before the outputs' signals are looked at
+    FlopsBeforeOutputs,         // 30 before them
+    RowsFirst,                  // 31 before 20
+    RowsBeforeOrder,            // 31 before 29
+    RowsBeforeFlops,            // 31 before 30
+    FlopsBeforeOrder,           // 30 before 29
+    GateByGate,                 // 29 or 30, whichever the first wrong gate has
+    FlopInputsFree,             // 29: a flip-flop as an input not looked at
+    FlopsSortedToo,             // 29: a flip-flop's own inputs looked at
+    OwnInputFree,               // 29: a gate that is its own input passes
+    InvertedInputFree,          // 29: inverted inputs not looked at
+    FirstInputOnly,             // 29: only the first input looked at
+    LastGateFree,               // 29: the last gate not looked at
+    EnableFree,                 // 30: the enable not looked at
+    ResetFree,                  // 30: the reset not looked at
+    EnableConstant,             // 30: either constant is an enable
+    ResetConstant,              // 30: either constant is a reset
+    FirstFlopOnly,              // 30: only the first flip-flop looked at
+    CrTaken,                    // 31: a CR before LF goes
+    BlanksTaken,                // 31: blanks go
+    LfAdded,                    // 31: an LF is added behind the last row
+    EmptyRowsTaken,             // 31: empty rows go
+    ShortRowsTaken,             // 31: zeros are added to a short row
+    LongRowsTaken,              // 31: a long row is cut
+    OtherIsZero,                // 31: any other character is a zero
+    LowBit,                     // 31: a character's lowest bit is taken
+    StopsAtWrongRow,            // 31: the rows before a wrong one are run
+    FitsWithoutLf,              // 31: rows × outputs must fit
+    FitsByRows,                 // 31: the rows' bytes must fit
+    FitsByFirst,                // 31: one output row must fit
+    NeverFull,                  // 31: a byte must be left over
+    CutToFit,                   // 31: rows whose outputs do not fit are left out
+    NoRowsRefused,              // 31 for no rows
+    NoInputsNoRows,             // without inputs nothing is run
+    NoOutputsNoRows,            // without outputs nothing is written
+    OutLeft(u32),               // the output slice left as it was after this refusal
+    WrittenStays,               // the output rows before a wrong row stay
+    RestLeft,                   // the bytes behind the output rows left as they were
+    LastByteLeft,               // the slice's last byte left as it was
+    LengthWithoutLf,            // a length of rows × outputs
+    LfLeftOut,                  // no LF behind an output row
+    LastRowDropped,             // the last row not run
+    HeldCleared,                // held bits cleared between rows
+    OneOutputIsZero,            // the constant one as an output shown as a zero
     PinLost(u32, usize, usize), // this pin of a gate of this form and pin count
-    FormFor(u32, u32),     // the second form for the first
+    FormFor(u32, u32),          // the second form for the first
     Simulated(simulate::Mistake),
 }
 
@@ -162,7 +162,11 @@ fn network(l: &Lent, m: Mistake) -> Option<Plain> {
     let p = decoded(&l)?;
     let valid = |c: &u32| p.network().is_valid(Signal::from_ind(c >> 1));
     let beyond = [&l.pins[l.counts[2] as usize..], &l.outputs[l.counts[3] as usize..]].concat();
-    if m == Mistake::CellsBeyond && !beyond.iter().all(valid) { None } else { Some(p) }
+    if m == Mistake::CellsBeyond && !beyond.iter().all(valid) {
+        None
+    } else {
+        Some(p)
+    }
 }
 
 fn is_flop(p: &Plain, g: usize) -> bool {
@@ -239,7 +243,11 @@ fn row_bits(inputs: u64, line: &[u8], m: Mistake) -> Option<Vec<bool>> {
     if (n < inputs && inputs <= 256 && m == Mistake::ShortRowsTaken) || (n > inputs && m == Mistake::LongRowsTaken) {
         bits.resize(inputs as usize, false);
     }
-    if bits.len() as u64 == inputs { Some(bits) } else { None }
+    if bits.len() as u64 == inputs {
+        Some(bits)
+    } else {
+        None
+    }
 }
 
 // The rows up to the first wrong one, and whether there is none.
