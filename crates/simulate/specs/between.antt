@@ -1,3 +1,0 @@
--- Definitions that contracts between the crates and proofs use, and no promise reaches.
-pub mod Bits
-pub mod Sweep
