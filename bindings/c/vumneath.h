@@ -1,16 +1,16 @@
-/* Vumneath: BLIF netlists, read and written, proved.
+/* Vumneath: BLIF netlists, read, written and run, proved.
  *
  * BLIF is the Berkeley Logic Interchange Format, a text that describes logic gates and flip-flops. vumneath_read_blif turns such a text
- * into a sorted network in cells that the caller lends; vumneath_write_blif turns a network in cells into such a text. Link
- * libvumneath.a (x86-64 Linux); it needs memcpy and memset and nothing else.
+ * into a sorted network in cells that the caller lends; vumneath_write_blif turns a network in cells into such a text; vumneath_run runs a
+ * sorted network over rows of 0 and 1. Link libvumneath.a (x86-64 Linux); it needs memcpy and memset and nothing else.
  *
- * Both functions
+ * The three functions
  *   - always return: whatever the bytes and cells hold, the answer is a result or the number of a refusal;
  *   - use no heap, no file, no global state and no lock, so threads may call them at the same time with slices of their own;
- *   - need less than 40 KiB of stack (measured by the tests: 38 KiB for reading, 2 KiB for writing);
+ *   - need less than 40 KiB of stack (measured by the tests: 38 KiB for reading, 2 KiB for writing, 28 KiB for running);
  *   - do not look at the cells and bytes to be filled before they store there: memory that was never written is fine.
  *
- * A slice is a pointer and a length, counted in elements: bytes of a text, 32-bit cells otherwise. The caller sees to three things:
+ * A slice is a pointer and a length in elements: bytes of a text or of rows, 32-bit cells otherwise. The caller sees to three things:
  *   - a slice's memory exists in its whole length, and cells are aligned as uint32_t is;
  *   - a slice that is filled shares no memory with any other slice of the call;
  *   - a pointer is not used when its length is 0, and may then be null. An empty slice is a slice like any other: no text is the empty
@@ -57,9 +57,14 @@ extern "C" {
 #define VUMNEATH_REFUSED_COMBINATIONAL_LOOP 14 /* there is a combinational loop */
 
 /* Refusals of vumneath_write_blif, in the order in which they are asked. */
-#define VUMNEATH_REFUSED_NOT_A_NETWORK 20      /* what is lent to the writer is no network */
+#define VUMNEATH_REFUSED_NOT_A_NETWORK 20      /* what is lent is no network */
 #define VUMNEATH_REFUSED_WIDE_EXCLUSIVE 21     /* an Xor or Xnor of any number of inputs has over 12 */
 #define VUMNEATH_REFUSED_TEXT_DOES_NOT_FIT 22  /* the text does not fit into the output slice or into 32,768 bytes */
+
+/* Refusals of vumneath_run, in the order in which they are asked; 20 is asked before them, and 29 of all gates before 30. */
+#define VUMNEATH_REFUSED_NOT_SORTED 29         /* a combinational gate has a gate input whose number is not lower than its own */
+#define VUMNEATH_REFUSED_OTHER_FLIP_FLOP 30    /* a flip-flop has another enable or reset */
+#define VUMNEATH_REFUSED_WRONG_ROWS 31         /* a row has the wrong length, another character or no LF, or the output rows do not fit */
 
 /* Signals. A signal is one cell: a constant, an input or a gate, as it is or inverted. Bit 0 is the inversion. Gates are numbered from 0
  * in the order of their records, inputs from 0 in the order in which the text names them. Input 0 is FFFFFFFE hexadecimal, input 1
@@ -81,7 +86,7 @@ extern "C" {
  * number of pins. A pin is the signal that one of the gate's inputs takes. The runs of pins follow each other in gate order: gate 0
  * starts at pin 0, each further gate where the one before ends, and the last ends at the number of pins.
  * Reading gives flip-flops first, then every other gate behind the gates that it takes its inputs from. It uses the forms 7 to 9, 13 and
- * 14; writing takes all 14. */
+ * 14; writing and running take all 14. */
 #define VUMNEATH_RECORD_FORM 0   /* place of the form number in a record */
 #define VUMNEATH_RECORD_FIRST 1  /* place of the first pin */
 #define VUMNEATH_RECORD_COUNT 2  /* place of the number of pins */
@@ -127,6 +132,21 @@ typedef struct { uint32_t refused, length; } vumneath_text;
 vumneath_text vumneath_write_blif(uint32_t inputs, uint32_t gate_count, uint32_t pin_count, uint32_t output_count,
     const uint32_t *gates, size_t gates_len, const uint32_t *pins, size_t pins_len, const uint32_t *outputs, size_t outputs_len,
     uint8_t *out, size_t out_len);
+
+/* refused is 0 on success, else the refusal's number; the length is then 0 */
+typedef struct { uint32_t refused; size_t length; } vumneath_rows;
+
+/* Runs a network, given as to vumneath_write_blif, for one clock after the other, from all flip-flops at zero. rows has a row for each
+ * clock: a character 0 or 1 for each input, in order, and an LF. out gets a row for each clock: a character 0 or 1 for each output, in
+ * order, and an LF. The outputs are those before the flip-flops step at that clock. There may be any number of rows, none too; out has to
+ * have a byte for each output and each LF, which is rows_len / (inputs + 1) * (output_count + 1) bytes, and may be longer.
+ * The network has to be sorted, as reading leaves it: each gate input of a gate that is no flip-flop has a lower number than the gate
+ * itself. Flip-flops may stand anywhere. Each has the enable VUMNEATH_ONE and the reset VUMNEATH_ZERO, as reading leaves them.
+ * On success out holds length bytes and zero in every further byte; after a refusal all its bytes are zero. The network and the rows are
+ * only read. */
+vumneath_rows vumneath_run(uint32_t inputs, uint32_t gate_count, uint32_t pin_count, uint32_t output_count,
+    const uint32_t *gates, size_t gates_len, const uint32_t *pins, size_t pins_len, const uint32_t *outputs, size_t outputs_len,
+    const uint8_t *rows, size_t rows_len, uint8_t *out, size_t out_len);
 
 #ifdef __cplusplus
 }

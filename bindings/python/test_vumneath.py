@@ -170,7 +170,7 @@ class Calls(unittest.TestCase):
             with self.assertRaises((ValueError, TypeError, Refusal)) as raised:
                 vumneath.write(Network(inputs, [Gate(form, pins)], []))
             messages.append(f"{type(raised.exception).__name__}: {raised.exception}")
-        forms, twenty = ", ".join(vumneath.FORMS), "Refusal: refused=20: what is lent to the writer is no network "
+        forms, twenty = ", ".join(vumneath.FORMS), "Refusal: refused=20: what is lent is no network "
         self.assertEqual(messages, [
             f"ValueError: gate 0 has the form 'Lut', which is none of vumneath.FORMS: {forms}",
             f"ValueError: gate 0 has the form None, which is none of vumneath.FORMS: {forms}",

@@ -47,9 +47,12 @@ _REFUSALS = (
     (12, "WrongCubeLine", "a cube line is wrong: its tokens, its columns or its output"),
     (13, "OutputsDiffer", "the cube lines of a cover differ in output"),
     (14, "CombinationalLoop", "there is a combinational loop"),
-    (20, "NotANetwork", "what is lent to the writer is no network"),
+    (20, "NotANetwork", "what is lent is no network"),
     (21, "WideExclusive", "an Xor or Xnor of any number of inputs has over 12"),
     (22, "TextDoesNotFit", "the text does not fit into the output slice or into 32,768 bytes"),
+    (29, "NotSorted", "a combinational gate has a gate input whose number is not lower than its own"),
+    (30, "OtherFlipFlop", "a flip-flop has another enable or reset"),
+    (31, "WrongRows", "a row has the wrong length, another character or no LF, or the output rows do not fit"),
 )
 REFUSALS = {number: sentence for number, _, sentence in _REFUSALS}
 _NAMES = {number: name for number, name, _ in _REFUSALS}

@@ -3,7 +3,7 @@ use std::fmt;
 /// Makes the enum and its functions of a table with a line for each refusal: its case, its number and its sentence.
 macro_rules! refusals {
     ($($case:ident = $number:literal, $sentence:literal;)+) => {
-        /// Why a text is not read or a network not written. It prints as its sentence.
+        /// Why a text is not read, or a network not written or not run. It prints as its sentence.
         #[derive(Clone, Copy, Debug, PartialEq, Eq, Hash)]
         #[non_exhaustive]
         #[repr(u32)]
@@ -48,9 +48,12 @@ refusals! {
     WrongCubeLine = 12, "a cube line is wrong: its tokens, its columns or its output";
     OutputsDiffer = 13, "the cube lines of a cover differ in output";
     CombinationalLoop = 14, "there is a combinational loop";
-    NotANetwork = 20, "what is lent to the writer is no network";
+    NotANetwork = 20, "what is lent is no network";
     WideExclusive = 21, "an Xor or Xnor of any number of inputs has over 12";
     TextDoesNotFit = 22, "the text does not fit into the output slice or into 32,768 bytes";
+    NotSorted = 29, "a combinational gate has a gate input whose number is not lower than its own";
+    OtherFlipFlop = 30, "a flip-flop has another enable or reset";
+    WrongRows = 31, "a row has the wrong length, another character or no LF, or the output rows do not fit";
 }
 
 impl Refusal {
@@ -70,7 +73,7 @@ impl Refusal {
         }
     }
 
-    /// The number: 1 to 14 of reading, 20 to 22 of writing.
+    /// The number: 1 to 14 of reading, 20 to 22 of writing, 20 and 29 to 31 of running.
     pub const fn number(self) -> u32 {
         self as u32
     }
