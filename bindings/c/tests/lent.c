@@ -147,6 +147,18 @@ vumneath_text write_lent(const struct network *net, const struct lent *out)
     return text;
 }
 
+vumneath_rows run_lent(const struct network *net, const struct lent *rows, const struct lent *out)
+{
+    make_undefined(out);
+    vumneath_rows ran = vumneath_run(net->inputs, net->gate_count, net->pin_count, net->output_count, cells(&net->gates),
+        cell_count(&net->gates), cells(&net->pins), cell_count(&net->pins), cells(&net->outputs), cell_count(&net->outputs),
+        rows->part, rows->bytes, out->part, out->bytes);
+    check_defined(&ran.refused, sizeof ran.refused, "a run's refusal is defined"); /* field by field: four bytes between them are padding */
+    check_defined(&ran.length, sizeof ran.length, "a run's length is defined");
+    check_defined(out->part, out->bytes, "the slice of a run is defined");
+    return ran;
+}
+
 void take_back_network(struct network *net, unsigned long place)
 {
     take_back(&net->gates, place);

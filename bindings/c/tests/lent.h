@@ -50,11 +50,13 @@ void check_left(vumneath_network net, const struct cells5 *lent, unsigned long p
 /* Reads a text and checks what is left; the answer is the refusal's number. */
 uint32_t read_checked(const void *text, size_t length, struct sizes5 sizes, unsigned long place);
 
-/* A network for the writer. */
+/* A network for the writer and for a run. */
 struct network { uint32_t inputs, gate_count, pin_count, output_count; struct lent gates, pins, outputs; };
 
 /* Writes a network into a buffer that is undefined to valgrind, and checks that it and the answer are defined then. */
 vumneath_text write_lent(const struct network *net, const struct lent *out);
+/* Runs a network in the same way. */
+vumneath_rows run_lent(const struct network *net, const struct lent *rows, const struct lent *out);
 void take_back_network(struct network *net, unsigned long place);
 
 /* A file's bytes. Ends the test where it cannot be read. */
@@ -71,6 +73,7 @@ void replay_reads(const char *texts, const char *answers, unsigned long step);
 void replay_writes(const char *networks, const char *answers, unsigned long step);
 void call_reads(void);
 void call_writes(void);
+void call_runs(void);
 void measure_stack(const char *texts);
 
 #endif

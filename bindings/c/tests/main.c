@@ -29,6 +29,7 @@ int main(int argc, char **argv)
     replay_writes(path(list, argv[1], "write_replay/stdin"), path(answers, argv[1], "write_replay/stdout"), step);
     call_reads();
     call_writes();
+    call_runs();
     if (argc == 2)
         measure_stack(path(list, argv[1], "read_replay/stdin"));
     else

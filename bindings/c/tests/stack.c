@@ -48,6 +48,21 @@ static void *call_write(void *unused)
     return unused;
 }
 
+/* Runs the network that is in the cells: a flip-flop, a gate of three inputs and one of many, for two rows. */
+static void *call_run(void *unused)
+{
+    static const uint8_t rows[] = "0\n1\n";
+    uint32_t *gate = cells(&lent.gates), *pin = cells(&lent.pins);
+    memcpy(gate, (uint32_t[]){ VUMNEATH_DFF, 0, 3, VUMNEATH_MUX, 3, 3, VUMNEATH_XOR, 6, 100 }, 9 * sizeof *gate);
+    memcpy(pin, (uint32_t[]){ VUMNEATH_GATE(2), VUMNEATH_ONE, VUMNEATH_ZERO }, 3 * sizeof *pin);
+    for (uint32_t i = 3; i < 106; i++)
+        pin[i] = i % 3 ? VUMNEATH_GATE(0) : VUMNEATH_INPUT(0);
+    cells(&lent.outputs)[0] = VUMNEATH_GATE(1);
+    vumneath_rows ran = vumneath_run(1, 3, 106, 1, gate, 9, pin, 106, cells(&lent.outputs), 1, rows, sizeof rows - 1, out, sizeof out);
+    check(ran.refused == 0, "the network for the stack's measure is run", ran.refused);
+    return unused;
+}
+
 /* How many bytes of a painted stack a thread changes. */
 static size_t depth(void *(*run)(void *), void *argument)
 {
@@ -71,9 +86,11 @@ void measure_stack(const char *texts)
     lent = lend_cells(enough);
     call_all(out);
     size_t none = depth(no_call, NULL), reading = depth(call_all, NULL) - none, writing = depth(call_write, NULL) - none;
-    size_t both = depth(call_all, out) - none;
+    size_t both = depth(call_all, out) - none, running = depth(call_run, NULL) - none;
     check(reading <= STATED && both <= STATED && writing <= STATED, "the stack in use is within what the header states", reading);
-    printf("stack: %zu bytes for reading, %zu for writing, callers' frames included; %d are stated as enough\n", reading, writing, STATED);
+    check(running <= STATED, "the stack in use by a run is within what the header states", running);
+    printf("stack: %zu bytes for reading, %zu for writing, %zu for running, callers' frames included; %d are stated as enough\n", reading,
+        writing, running, STATED);
     take_back(&list, 0);
     take_back_cells(&lent, 0);
 }
