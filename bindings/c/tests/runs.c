@@ -13,7 +13,8 @@ static uint32_t run_checked(const struct network *net, const void *text, size_t 
     struct lent gates = lend_copy(net->gates.part, net->gates.bytes), pins = lend_copy(net->pins.part, net->pins.bytes);
     struct lent outputs = lend_copy(net->outputs.part, net->outputs.bytes), rows = lend_copy(text, length), out = lend(room, 0xa5);
     vumneath_rows answer = run_lent(net, &rows, &out);
-    check(answer.refused == 0 || answer.refused == 20 || (answer.refused >= 29 && answer.refused <= 31), "a run's refusal is 20 or 29 to 31", place);
+    bool known = answer.refused == 0 || answer.refused == 20 || (answer.refused >= 29 && answer.refused <= 31);
+    check(known, "a run's refusal is 20 or 29 to 31", place);
     if (answer.refused)
         check(answer.length == 0, "the length is 0 after a refusal", place);
     else
@@ -38,7 +39,7 @@ static uint32_t run_string(const struct network *net, const char *rows)
     return run_checked(net, rows, strlen(rows), ROOM, NULL, strlen(rows));
 }
 
-/* Whether rows give the rows wanted, both C strings: into a slice with room, into one that is exactly full and not into one a byte short. */
+/* Whether rows give the rows wanted, both C strings: into a slice with room and one that is exactly full, but not into one a byte short. */
 static bool gives(const struct network *net, const char *rows, const char *wanted)
 {
     size_t length = strlen(rows), full = strlen(wanted);
@@ -165,7 +166,8 @@ static void call_largest(void)
 /* No rows, no inputs, no outputs, no gates, and null pointers of length 0. */
 static void call_empty(void)
 {
-    struct network net = good_network(), constant = uniform(0, 1, VUMNEATH_NOR, 0, 2), silent = uniform(1, 0, 0, 0, 0), none = uniform(0, 0, 0, 0, 0);
+    struct network net = good_network(), constant = uniform(0, 1, VUMNEATH_NOR, 0, 2);
+    struct network silent = uniform(1, 0, 0, 0, 0), none = uniform(0, 0, 0, 0, 0);
     const struct lent no_cells = { NULL, NULL, 0 };
     const struct network null = { 0, 0, 0, 0, no_cells, no_cells, no_cells };
     struct lent line = lend_copy("\n", 1), out = lend(1, 0xa5);
@@ -192,7 +194,8 @@ static void call_empty(void)
 static void call_wrong_rows(void)
 {
     static const char *const wrong[] = {
-        "\n", "0\n", "0", "00", "000\n", "00\n0", "00\n0\n", "00\n000\n", "00\r\n", "00\n\n", "0 \n", " 0\n", "0\t\n", "2\n\n", "00\n02\n", "00 11\n",
+        "\n", "0\n", "0", "00", "000\n", "00\n0", "00\n0\n", "00\n000\n", "00\r\n", "00\n\n", "0 \n", " 0\n", "0\t\n", "2\n\n",
+        "00\n02\n", "00 11\n",
     };
     static const char others[] = { '\0', '\n', '\r', ' ', '/', '0', '1', '2', 'O', '\x80', '\xb0', '\xff' };
     struct network net = good_network();
@@ -207,7 +210,8 @@ static void call_wrong_rows(void)
         bool fits = place % 3 == 2 ? other == '\n' : other == '0' || other == '1';
         memcpy(rows, good_rows, sizeof rows);
         rows[place] = other;
-        check(run_checked(&net, rows, sizeof rows - 1, ROOM, NULL, i) == (fits ? 0 : VUMNEATH_REFUSED_WRONG_ROWS), "another character is 31", i);
+        uint32_t refused = run_checked(&net, rows, sizeof rows - 1, ROOM, NULL, i);
+        check(refused == (fits ? 0 : VUMNEATH_REFUSED_WRONG_ROWS), "another character is 31", i);
     }
     take_back_network(&net, 0);
 }
@@ -269,7 +273,9 @@ static void call_order(void)
 /* Every cell of the network changed, every count, and every slice a cell short: a refusal or rows, and nothing else is touched. */
 static void call_damaged(void)
 {
-    static const uint32_t others[] = { 0, 1, 2, 3, 13, 14, 15, 256, 1024, 16384, 0x55555556, 0x7fffffff, 0x80000000, 0xfffffffa, 0xffffffff };
+    static const uint32_t others[] = {
+        0, 1, 2, 3, 13, 14, 15, 256, 1024, 16384, 0x55555556, 0x7fffffff, 0x80000000, 0xfffffffa, 0xffffffff,
+    };
     const size_t kinds = sizeof others / sizeof *others;
     struct network net = good_network();
     uint32_t *const counts[] = { &net.gate_count, &net.pin_count, &net.output_count, &net.inputs };
