@@ -1,7 +1,7 @@
-//! The two functions of the library over lent slices: the boundary, and the only unsafe code of this crate.
+//! The three functions of the library over lent slices: the boundary, and the only unsafe code of this crate.
 //!
 //! How a network lies in cells is told in the C header, `vumneath.h`. No function here asks for anything: slices of any lengths
-//! and contents get an answer. Both need less than 40 KiB of stack.
+//! and contents get an answer. Each needs less than 40 KiB of stack.
 #![allow(unsafe_code)]
 
 /// Bytes of a text, at most.
@@ -38,7 +38,16 @@ pub struct TextAnswer {
     pub length: u32,
 }
 
-/// The counts of a network that is lent to the writer.
+/// What a run answers: `refused` is 0 on success, else the refusal's number, and the length is then 0.
+#[repr(C)]
+#[derive(Clone, Copy, Debug, PartialEq, Eq)]
+#[allow(missing_docs)]
+pub struct RowsAnswer {
+    pub refused: u32,
+    pub length: usize,
+}
+
+/// The counts of a network that is lent to the writer or to a run.
 #[derive(Clone, Copy, Debug, PartialEq, Eq)]
 #[allow(missing_docs)]
 pub struct Counts {
@@ -78,6 +87,23 @@ extern "C" {
         out: *mut u8,
         out_len: usize,
     ) -> TextAnswer;
+
+    fn vumneath_run(
+        inputs: u32,
+        gate_count: u32,
+        pin_count: u32,
+        output_count: u32,
+        gates: *const u32,
+        gates_len: usize,
+        pins: *const u32,
+        pins_len: usize,
+        outputs: *const u32,
+        outputs_len: usize,
+        rows: *const u8,
+        rows_len: usize,
+        out: *mut u8,
+        out_len: usize,
+    ) -> RowsAnswer;
 }
 
 /// Reads a text into lent cells. It wants 3,072 cells for gates, 16,384 for pins, 256 for outputs and as many again as working
@@ -125,6 +151,31 @@ pub fn write_blif(counts: Counts, gates: &[u32], pins: &[u32], outputs: &[u32], 
             pins.len(),
             outputs.as_ptr(),
             outputs.len(),
+            out.as_mut_ptr(),
+            out.len(),
+        )
+    }
+}
+
+/// Runs a sorted network over rows, one for each clock, into a lent slice. A row is a character 0 or 1 for each input and an LF; the
+/// slice gets one for each clock, a character 0 or 1 for each output and an LF. Any counts, cells and rows may be given. Bytes behind the
+/// rows, and all bytes after a refusal, are zero.
+pub fn run(counts: Counts, gates: &[u32], pins: &[u32], outputs: &[u32], rows: &[u8], out: &mut [u8]) -> RowsAnswer {
+    // SAFETY: each pointer comes with the length of its own slice, and borrowing keeps the output apart from the others.
+    unsafe {
+        vumneath_run(
+            counts.inputs,
+            counts.gates,
+            counts.pins,
+            counts.outputs,
+            gates.as_ptr(),
+            gates.len(),
+            pins.as_ptr(),
+            pins.len(),
+            outputs.as_ptr(),
+            outputs.len(),
+            rows.as_ptr(),
+            rows.len(),
             out.as_mut_ptr(),
             out.len(),
         )

@@ -1,8 +1,9 @@
-//! BLIF netlists, read and written, proved.
+//! BLIF netlists, read, written and run, proved.
 //!
 //! BLIF is the Berkeley Logic Interchange Format, a text that describes logic gates and flip-flops. [`Network::read`] turns such
-//! a text into a sorted network and [`Network::write`] turns a network into such a text. Both call a static library that is
-//! proved to answer every text and every network, sound or damaged, with a result or a numbered [`Refusal`].
+//! a text into a sorted network and [`Network::write`] turns a network into such a text; [`Network::run`] runs a sorted network over
+//! rows of 0 and 1, and [`Network::run_bits`] over rows of bits. All call a static library that is proved to answer every text, every
+//! network and all rows, sound or damaged, with a result or a numbered [`Refusal`].
 //!
 //! ```
 //! use vumneath::{Gate, NaryType, Network, Refusal, Signal};
@@ -14,6 +15,7 @@
 //! assert_eq!(network.gates(), [Gate::Nary(vec![a, !b], NaryType::And)]);
 //! assert_eq!(network.outputs(), [Signal::from_var(0)]);
 //! assert!(network.write()?.ends_with(b".names i0 i1_n x0\n11 1\n.names i1 i1_n\n0 1\n.names vdd\n1\n.names gnd\n"));
+//! assert_eq!(network.run(b"10\n11\n")?, b"1\n0\n");
 //!
 //! let refusal = Network::read(b".outputs y\n").unwrap_err();
 //! assert_eq!((refusal, refusal.number()), (Refusal::Undefined, 11));
@@ -21,7 +23,7 @@
 //! # Ok::<(), Refusal>(())
 //! ```
 //!
-//! [`cells`] has the two functions over slices that the caller lends, for programs that want no heap.
+//! [`cells`] has the three functions over slices that the caller lends, for programs that want no heap.
 #![deny(unsafe_code)]
 #![warn(missing_docs)]
 

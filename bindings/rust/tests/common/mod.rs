@@ -2,7 +2,7 @@
 #![allow(dead_code)] // each test file takes its part
 use std::fmt::Write;
 use std::path::Path;
-use vumneath::cells::{self, Counts, NetworkAnswer, TextAnswer};
+use vumneath::cells::{self, Counts, NetworkAnswer, RowsAnswer, TextAnswer};
 
 const GUARD: usize = 16;
 const GUARD_CELL: u32 = 0x5c5c_5c5c;
@@ -57,15 +57,29 @@ pub fn read_notation(text: &[u8], sizes: Sizes) -> String {
     said
 }
 
+/// The first bytes between the guards, which have to be as they were; all behind the text has to be zero.
+fn guarded_text(out: &[u8], length: usize) -> Vec<u8> {
+    let (text, behind) = out[GUARD..out.len() - GUARD].split_at(length);
+    assert!(behind.iter().all(|&byte| byte == 0), "bytes behind the text are zero");
+    let mut guards = out[..GUARD].iter().chain(&out[out.len() - GUARD..]);
+    assert!(guards.all(|&byte| byte == GUARD_BYTE), "the bytes around are unchanged");
+    text.to_vec()
+}
+
 /// What writing answers, and the text. All other bytes have to be zero.
 pub fn write(counts: Counts, lent: [&[u32]; 3], room: usize) -> (TextAnswer, Vec<u8>) {
     let mut out = vec![GUARD_BYTE; room + 2 * GUARD];
     out[GUARD..GUARD + room].fill(0xa5);
     let answer = cells::write_blif(counts, lent[0], lent[1], lent[2], &mut out[GUARD..GUARD + room]);
-    let (text, behind) = out[GUARD..GUARD + room].split_at(answer.length as usize);
-    assert!(behind.iter().all(|&byte| byte == 0), "bytes behind the text are zero");
-    assert!(out[..GUARD].iter().chain(&out[GUARD + room..]).all(|&byte| byte == GUARD_BYTE), "the bytes around are unchanged");
-    (answer, text.to_vec())
+    (answer, guarded_text(&out, answer.length as usize))
+}
+
+/// What a run answers, and the rows. All other bytes have to be zero.
+pub fn run(counts: Counts, lent: [&[u32]; 3], rows: &[u8], room: usize) -> (RowsAnswer, Vec<u8>) {
+    let mut out = vec![GUARD_BYTE; room + 2 * GUARD];
+    out[GUARD..GUARD + room].fill(0xa5);
+    let answer = cells::run(counts, lent[0], lent[1], lent[2], rows, &mut out[GUARD..GUARD + room]);
+    (answer, guarded_text(&out, answer.length))
 }
 
 /// A list of stored texts or networks, or of their answers.
