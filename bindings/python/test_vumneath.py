@@ -1,4 +1,4 @@
-"""The tests of the Python module: stored texts and networks with their answers, and calls by hand.
+"""The tests of the Python module: stored texts and networks with their answers, calls by hand, and runs.
 
 Usage: python3 test_vumneath.py
 """
@@ -67,6 +67,18 @@ def write_guarded(counts, cells, room):
     if answer.refused:
         return b"refused=%d\n" % answer.refused
     return b"length=%d\n" % answer.length + bytes(out.part[: answer.length])
+
+
+def run_guarded(counts, cells, rows, room):
+    """What a run answers, its refusal or its rows; 'harmed' where another byte, a cell or a row was changed, or a refusal has a length."""
+    out = Guarded(ctypes.c_uint8, room)
+    lent = [(ctypes.c_uint32 * len(part))(*part) for part in cells]
+    text = (ctypes.c_uint8 * len(rows)).from_buffer_copy(rows)
+    answer = vumneath.run_cells(counts, *lent, text, out.part)
+    unchanged = [list(part) for part in lent] == cells and bytes(text) == rows
+    if not unchanged or not out.unharmed(answer.length) or (answer.refused and answer.length):
+        return b"harmed"
+    return b"refused=%d\n" % answer.refused if answer.refused else bytes(out.part[: answer.length])
 
 
 def number(call, *arguments):
@@ -229,6 +241,123 @@ class Calls(unittest.TestCase):
 
     def test_doc(self):
         self.assertEqual(doctest.testmod(vumneath).failed, 0)
+
+
+def i(v):
+    return Signal.from_input(v)
+
+
+def x(v):
+    return Signal.from_var(v)
+
+
+def flop(data, enable=ONE, reset=ZERO):
+    return Gate("Dff", (data, enable, reset))
+
+
+def runnable(**changed):
+    """x0 = And(i0, i1), x1 = Dff(x3, 1, 0), x2 = Xor(x0, x1), x3 = Or(x2, !i1), with gates changed by their names."""
+    gates = [Gate("Binary And", (i(0), i(1))), flop(x(3)), Gate("Binary Xor", (x(0), x(1))), Gate("Nary Or", (x(2), ~i(1)))]
+    return Network(2, [changed.get(f"x{v}", gate) for v, gate in enumerate(gates)], [x(3), ~x(1), i(0), ONE])
+
+
+class Runs(unittest.TestCase):
+    TEXT = b"00\n01\n11\n11\n10\n"
+    BITS = [[0, 0], [0, 1], [1, 1], [1, 1], [1, 0]]
+    RAN = b"1101\n1001\n0011\n1111\n1011\n"
+    RAN_BITS = [[1, 1, 0, 1], [1, 0, 0, 1], [0, 0, 1, 1], [1, 1, 1, 1], [1, 0, 1, 1]]
+
+    def test_bytes_and_bits(self):
+        network = runnable()
+        self.assertEqual(network.run(self.TEXT), self.RAN)
+        for text in (bytearray(self.TEXT), memoryview(self.TEXT), array.array("B", self.TEXT), memoryview(self.TEXT[::-1])[::-1]):
+            self.assertEqual(network.run(text), self.RAN)
+        two_dimensions = (ctypes.c_uint8 * 2 * 5)(*map(tuple, self.BITS))
+        bools = [[bool(bit) for bit in row] for row in self.BITS]
+        arrays = [array.array("i", row) for row in self.BITS]
+        for rows in (self.BITS, tuple(map(tuple, bools)), map(iter, self.BITS), arrays, two_dimensions):
+            self.assertEqual(network.run(rows), self.RAN_BITS)
+        self.assertEqual(vumneath.read(vumneath.write(network)).run(self.BITS), self.RAN_BITS)
+
+    def test_forms(self):
+        bits = (
+            "00000011", "00111100", "00000001", "01101001", "00010111", "01010011", "00000001", "01111111", "11111110", "10000000",
+            "01101001", "10010110", "00001111", "00000111",
+        )
+        pins = {"Binary": (i(0), i(1)), "Buf": (i(0),), "Dff": (i(0), ONE, ZERO)}
+        rows = [[k >> 2, k >> 1 & 1, k & 1] for k in range(8)]
+        for form, wanted in zip(vumneath.FORMS, bits):
+            network = Network(3, [Gate(form, pins.get(form.split()[0], (i(0), i(1), i(2))))], [x(0)])
+            self.assertEqual("".join(str(bit) for row in network.run(rows) for bit in row), wanted, form)
+        self.assertEqual(Network(1, [Gate("Nary Xor", (i(0),) * 13)], [x(0)]).run([[0], [1]]), [[0], [1]])
+
+    def test_empty(self):
+        self.assertEqual((runnable().run(b""), runnable().run([])), (b"", []))
+        constant, silent, none = Network(0, [], [ONE, ZERO]), Network(1, [], []), Network(0, [], [])
+        self.assertEqual((constant.run(b"\n\n"), constant.run([[], []])), (b"10\n10\n", [[1, 0], [1, 0]]))
+        self.assertEqual((silent.run(b"0\n1\n"), silent.run([[0], [1]])), (b"\n\n", [[], []]))
+        self.assertEqual((none.run(b"\n"), none.run([[]])), (b"\n", [[]]))
+
+    def test_details(self):
+        self_taking, other = Gate("Buf", (~x(2),)), flop(x(3), i(0))
+        details = [
+            (runnable(x2=Gate("Buf", (x(4),))), b"", 20, "gate 2 takes x4, which there is not"),
+            (runnable(x2=Gate("Buf", (x(4),)), x1=other, x0=Gate("Buf", (x(0),))), b"x", 20, "gate 2 takes x4, which there is not"),
+            (Network(257, [], []), b"x", 20, "257 inputs, where 0 to 256 are possible"),
+            (Network(-1, [], []), b"x", 20, "-1 inputs, where 0 to 256 are possible"),
+            (Network(-2, [], []), [[1]], 20, "-2 inputs, where 0 to 256 are possible"),
+            (Network(2**32, [], []), [], 20, "4294967296 inputs, where 0 to 256 are possible"),
+            (runnable(x2=self_taking), b"", 29, "gate 2 takes !x2"),
+            (runnable(x0=Gate("Buf", (x(1),))), self.TEXT, 29, "gate 0 takes x1"),
+            (runnable(x2=self_taking, x1=other), [[2]], 29, "gate 2 takes !x2"),
+            (runnable(x1=other), b"", 30, "gate 1 has the enable i0 and the reset 0"),
+            (runnable(x1=flop(x(0), ONE, ONE)), [[0]], 30, "gate 1 has the enable 1 and the reset 1"),
+            (runnable(), b"00\n0", 31, "row 1 has nothing at place 1, where 0 or 1 is wanted"),
+            (runnable(), b"00\n00", 31, "row 1 has nothing at place 2, where an LF is wanted"),
+            (runnable(), b"00\n00\r", 31, "row 1 has b'\\r' at place 2, where an LF is wanted"),
+            (runnable(), b"00\n00\r\n", 31, "row 1 has b'\\r' at place 2, where an LF is wanted"),
+            (runnable(), b"00\n0\n", 31, "row 1 has b'\\n' at place 1, where 0 or 1 is wanted"),
+            (runnable(), b"02\n", 31, "row 0 has b'2' at place 1, where 0 or 1 is wanted"),
+            (Network(0, [], []), b"\n0", 31, "row 1 has b'0' at place 0, where an LF is wanted"),
+            (runnable(), [[0, 0], [0]], 31, "row 1 has 1 bits, where 2 are wanted"),
+            (runnable(), [[0, 0, 1]], 31, "row 0 has 3 bits, where 2 are wanted"),
+            (runnable(), [[0, 0], [0, 2]], 31, "row 1 has 2 at place 1, where 0 or 1 is wanted"),
+            (runnable(), [[0, -1]], 31, "row 0 has -1 at place 1, where 0 or 1 is wanted"),
+            (runnable(), [[None, 0]], 31, "row 0 has None at place 0, where 0 or 1 is wanted"),
+            (runnable(), [b"01"], 31, "row 0 has 48 at place 0, where 0 or 1 is wanted"),
+        ]
+        for network, rows, wanted, detail in details:
+            with self.assertRaises(Refusal) as raised:
+                network.run(rows)
+            self.assertEqual((raised.exception.number, raised.exception.detail), (wanted, detail))
+
+    def test_messages(self):
+        for rows, said in (
+            (7, "nor a list of rows but 7"), ("0\n", r"nor a list of rows but '0\\n'"), (None, "nor a list of rows but None"),
+            ([[0, 0], 1], "row 1 is no list of bits but 1"), (["00"], "row 0 is no list of bits but '00'"),
+        ):
+            self.assertRaisesRegex(TypeError, f"{said}$", runnable().run, rows)
+        self.assertRaises(ValueError, Network(0, [Gate("Lut", ())], []).run, b"")
+        self.assertRaises(TypeError, Network("one", [], []).run, b"")
+        self.assertRaises(TypeError, Network(0, [], [2]).run, [])
+
+    def test_lent(self):
+        counts, cells, rows = (1, 1, 1, 2), [[13, 0, 1], [0xFFFFFFFE], [2, 3]], b"1\n0\n"
+        for room in range(10):
+            self.assertEqual(run_guarded(counts, cells, rows, room), b"refused=31\n" if room < 6 else b"10\n01\n")
+        for kind in range(3):
+            one_short = [part[:-1] if kind == k else part for k, part in enumerate(cells)]
+            self.assertEqual(run_guarded(counts, one_short, rows, 6), b"refused=20\n")
+            one_more = [part + [99] if kind == k else part for k, part in enumerate(cells)]
+            self.assertEqual(run_guarded(counts, one_more, rows, 6), b"10\n01\n")
+        self.assertEqual(run_guarded((2**32 + 1, 1, 1, 2), cells, rows, 6), b"refused=20\n")
+
+    def test_interlock(self):
+        files = []
+        for name in ("lock.blif", "lock.rows", "lock.rows.out"):
+            with open(os.path.join(HERE, "../netlists", name), "rb") as file:
+                files.append(file.read())
+        self.assertEqual(vumneath.read(files[0]).run(files[1]), files[2])
 
 
 if __name__ == "__main__":

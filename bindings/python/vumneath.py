@@ -1,14 +1,16 @@
-"""BLIF netlists, read and written, proved.
+"""BLIF netlists, read, written and run, proved.
 
 BLIF is the Berkeley Logic Interchange Format, a text that describes logic gates and flip-flops. read() turns such a text into a
-sorted Network and write() turns a Network into such a text. Both call a library that is proved to answer every text and every
-network, sound or damaged, with a result or a numbered Refusal.
+sorted Network and write() turns a Network into such a text; Network.run() runs a sorted Network over rows of 0 and 1. All call a
+library that is proved to answer every text, every network and all rows, sound or damaged, with a result or a numbered Refusal.
 
 >>> network = read(b".model m\\n.inputs a b\\n.outputs y\\n.names a b y\\n10 1\\n.end\\n")
 >>> [str(gate) for gate in network.gates], [str(signal) for signal in network.outputs]
 (['And(i0, !i1)'], ['x0'])
 >>> write(network).splitlines()[-1]
 b'.names gnd'
+>>> network.run(b"10\\n11\\n"), network.run([[1, 0], [1, 1]])
+(b'1\\n0\\n', [[1], [0]])
 >>> read(b".outputs y")
 Traceback (most recent call last):
 vumneath.Refusal: refused=11: an output, a latch's input or a cover's input is not defined
@@ -20,7 +22,7 @@ into, else the one that tests/bindings leaves in the repository.
 import ctypes
 import operator
 import os
-from typing import List, NamedTuple, Tuple
+from typing import Iterable, List, NamedTuple, Optional, Tuple, Union
 
 __version__ = "0.2.0"
 
@@ -68,8 +70,8 @@ _PIN_COUNTS = {"Binary": 2, "Ternary": 3, "Buf": 1, "Dff": 3}
 
 
 class Refusal(Exception):
-    """Why a text is not read or a network not written: its number, its name and a plain sentence. Where write() refuses what is no network,
-    the detail says what is wrong with it."""
+    """Why a text is not read, or a network not written or not run: its number, its name and a plain sentence. Where write() or run()
+    refuses what is no network, and where run() refuses a network or rows, the detail says what is wrong with it."""
 
     def __init__(self, number: int, detail: str = ""):
         # What stands in the exception's args is handed to this function again where a refusal is copied or pickled.
@@ -151,6 +153,29 @@ class Network(NamedTuple):
     gates: List[Gate]
     outputs: List[Signal]
 
+    def run(self, rows: Union[bytes, Iterable[Iterable[int]]]) -> Union[bytes, List[List[int]]]:
+        """Runs the network for one clock after the other, from all flip-flops at zero. There is a row for each clock, and there may be any
+        number of them.
+
+        A bytes-like object of one dimension is the text of the rows: a character 0 or 1 for each input, in order, and an LF. The answer is
+        such a text, of a row of outputs for each clock. Anything else is taken as rows of bits, 0 or 1 or a bool for each input, and the
+        answer is a list with a list of bits for each clock.
+
+        >>> lock = read(b".inputs wrong\\n.outputs locked\\n.names wrong locked next\\n00 0\\n.latch next locked 0\\n")
+        >>> lock.run(b"0\\n1\\n0\\n0\\n")
+        b'0\\n0\\n1\\n1\\n'
+        >>> lock.run([[False], [True], [False], [False]])
+        [[0], [0], [1], [1]]
+
+        A network that was read can be run; one of the caller's has to be sorted, with flip-flops of the enable one and the reset zero. The
+        refusals are 20, 29, 30 and 31, and their detail says what is wrong; a row of the wrong length and a bit that is neither 0 nor 1
+        are 31. What is no list of bits is a TypeError, and a gate or a signal that is none is an error as it is to write()."""
+        text = _text_of(rows)
+        if text is not None:
+            return _run(self, text)
+        text, wrong = _text_of_bits(rows, self.inputs)
+        return [[character - 48 for character in row] for row in _run(self, text, wrong).splitlines()]
+
 
 class NetworkAnswer(ctypes.Structure):
     """The struct that vumneath_read_blif answers."""
@@ -162,6 +187,12 @@ class TextAnswer(ctypes.Structure):
     """The struct that vumneath_write_blif answers."""
 
     _fields_ = [(name, ctypes.c_uint32) for name in ("refused", "length")]
+
+
+class RowsAnswer(ctypes.Structure):
+    """The struct that vumneath_run answers."""
+
+    _fields_ = [("refused", ctypes.c_uint32), ("length", ctypes.c_size_t)]
 
 
 def _load() -> ctypes.CDLL:
@@ -181,6 +212,8 @@ _library.vumneath_read_blif.argtypes = [_bytes, _size] + [_cells, _size] * 5
 _library.vumneath_read_blif.restype = NetworkAnswer
 _library.vumneath_write_blif.argtypes = [_number] * 4 + [_cells, _size] * 3 + [_bytes, _size]
 _library.vumneath_write_blif.restype = TextAnswer
+_library.vumneath_run.argtypes = [_number] * 4 + [_cells, _size] * 3 + [_bytes, _size] * 2
+_library.vumneath_run.restype = RowsAnswer
 
 
 def read_cells(text, gates, pins, outputs, work_gates, work_pins) -> NetworkAnswer:
@@ -190,11 +223,22 @@ def read_cells(text, gates, pins, outputs, work_gates, work_pins) -> NetworkAnsw
     return _library.vumneath_read_blif(*(part for array in lent for part in (array, len(array))))
 
 
+def _fitting(counts):
+    """Counts for the library; one that 32 bits do not hold becomes the largest that they do, which is refused as well."""
+    return [n if 0 <= n < 2**32 else 2**32 - 1 for n in counts]
+
+
 def write_cells(counts, gates, pins, outputs, out) -> TextAnswer:
     """vumneath_write_blif over four counts (inputs, gates, pins, outputs) and ctypes arrays. A count that 32 bits do not hold becomes
     the largest that they do, which is refused as well."""
-    fitting = (n if 0 <= n < 2**32 else 2**32 - 1 for n in counts)
-    return _library.vumneath_write_blif(*fitting, *(part for array in (gates, pins, outputs, out) for part in (array, len(array))))
+    lent = (gates, pins, outputs, out)
+    return _library.vumneath_write_blif(*_fitting(counts), *(part for array in lent for part in (array, len(array))))
+
+
+def run_cells(counts, gates, pins, outputs, rows, out) -> RowsAnswer:
+    """vumneath_run over four counts, as write_cells() takes them, and ctypes arrays: the rows and the rows of outputs of c_uint8."""
+    lent = (gates, pins, outputs, rows, out)
+    return _library.vumneath_run(*_fitting(counts), *(part for array in lent for part in (array, len(array))))
 
 
 def _bytes_of(text) -> bytes:
@@ -261,9 +305,28 @@ def _wrong_with(network: Network) -> str:
     return ""
 
 
-def write(network: Network) -> bytes:
-    """Writes a network, read or made by the caller, as a BLIF text. What is no network is refused with 20, and the refusal's detail says
-    why. A form that is none of FORMS and a cell over 32 bits are a ValueError; a pin that is no Signal is a TypeError."""
+def _not_sorted(network: Network) -> str:
+    """The first pin for which a network was refused with 29."""
+    for v, gate in enumerate(network.gates):
+        for signal in gate.pins:
+            if gate.form != "Dff" and signal.is_var() and signal.number() >= v:
+                return f"gate {v} takes {signal}"
+    return ""
+
+
+def _other_flip_flop(network: Network) -> str:
+    """The first flip-flop for which a network was refused with 30."""
+    for v, gate in enumerate(network.gates):
+        if gate.form == "Dff" and tuple(gate.pins[1:]) != (ONE, ZERO):
+            return f"gate {v} has the enable {gate.pins[1]} and the reset {gate.pins[2]}"
+    return ""
+
+
+_DETAILS = {20: _wrong_with, 29: _not_sorted, 30: _other_flip_flop}
+
+
+def _lend_network(network: Network):
+    """The counts of a network, and ctypes arrays with its gates, pins and outputs."""
     records, pins = [], []
     for v, gate in enumerate(network.gates):
         if gate.form not in FORMS:
@@ -271,9 +334,82 @@ def write(network: Network) -> bytes:
         records += [FORMS.index(gate.form) + 1, len(pins), len(gate.pins)]
         pins += _lend(gate.pins, f"gate {v}, pin")
     lent = [(ctypes.c_uint32 * len(part))(*part) for part in (records, pins, _lend(network.outputs, "output"))]
-    out = (ctypes.c_uint8 * MAX_TEXT)()
     inputs = _number_of(network.inputs, "the number of inputs")
-    answer = write_cells((inputs, len(network.gates), len(pins), len(network.outputs)), *lent, out)
-    if answer.refused:
-        raise Refusal(answer.refused, _wrong_with(network) if answer.refused == 20 else "")
+    return (inputs, len(network.gates), len(pins), len(network.outputs)), lent
+
+
+def _refuse(number: int, network: Network) -> None:
+    """Raises the refusal of a network; 0 is none."""
+    if number:
+        raise Refusal(number, _DETAILS[number](network) if number in _DETAILS else "")
+
+
+def write(network: Network) -> bytes:
+    """Writes a network, read or made by the caller, as a BLIF text. What is no network is refused with 20, and the refusal's detail says
+    why. A form that is none of FORMS and a cell over 32 bits are a ValueError; a pin that is no Signal is a TypeError."""
+    counts, lent = _lend_network(network)
+    out = (ctypes.c_uint8 * MAX_TEXT)()
+    answer = write_cells(counts, *lent, out)
+    _refuse(answer.refused, network)
     return bytes(out[: answer.length])
+
+
+# What is a row of no network, since no LF ends it.
+_NO_ROW = b"0"
+
+
+def _text_of(rows) -> Optional[bytes]:
+    """All bytes of a bytes-like object of one dimension; none of another object."""
+    try:
+        view = memoryview(rows)
+    except TypeError:
+        return None
+    return view.tobytes() if view.ndim == 1 else None
+
+
+def _each(items, otherwise: str):
+    """An iterator over the items of a list; otherwise says what is wrong where it is none."""
+    if not isinstance(items, str):
+        try:
+            return iter(items)
+        except TypeError:
+            pass
+    raise TypeError(f"{otherwise} but {items!r}")
+
+
+def _text_of_bits(rows, inputs: int) -> Tuple[bytes, str]:
+    """The text of rows of bits. Where a row is wrong: what is a row of no network, and what is wrong with the first that is."""
+    text = bytearray()
+    for i, row in enumerate(_each(rows, "what run() is given is neither a bytes-like object nor a list of rows")):
+        bits = list(_each(row, f"row {i} is no list of bits"))
+        if len(bits) != inputs:
+            return _NO_ROW, f"row {i} has {len(bits)} bits, where {inputs} are wanted"
+        for k, bit in enumerate(bits):
+            if bit not in (0, 1):
+                return _NO_ROW, f"row {i} has {bit!r} at place {k}, where 0 or 1 is wanted"
+        text += bytes(49 if bit == 1 else 48 for bit in bits) + b"\n"
+    return bytes(text), ""
+
+
+def _wrong_row(text: bytes, inputs: int) -> str:
+    """What is wrong with rows that were refused with 31; the first thing found."""
+    for start in range(0, len(text), inputs + 1):
+        for k in range(inputs + 1):
+            found, wanted = text[start + k : start + k + 1], (b"\n",) if k == inputs else (b"0", b"1")
+            if found not in wanted:
+                place = f"row {start // (inputs + 1)} has {found or 'nothing'} at place {k}"
+                return f"{place}, where {'an LF' if k == inputs else '0 or 1'} is wanted"
+    return ""
+
+
+def _run(network: Network, text: bytes, wrong: str = "") -> bytes:
+    """The rows of outputs for a text of rows; wrong says what is wrong with the bits that it was made of."""
+    counts, lent = _lend_network(network)
+    inputs, outputs = counts[0], counts[3]
+    clocks = len(text) // (inputs + 1) if 0 <= inputs <= MAX_INPUTS else 0
+    out = (ctypes.c_uint8 * (clocks * (outputs + 1)))()
+    answer = run_cells(counts, *lent, (ctypes.c_uint8 * len(text)).from_buffer_copy(text), out)
+    if answer.refused == 31:
+        raise Refusal(31, wrong or _wrong_row(text, inputs))
+    _refuse(answer.refused, network)
+    return memoryview(out)[: answer.length].tobytes()
