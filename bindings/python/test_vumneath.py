@@ -1,4 +1,4 @@
-"""The tests of the Python module: stored texts and networks with their answers, calls by hand, and runs.
+"""The tests of the Python module: stored texts, networks and rows with their answers, and calls by hand.
 
 Usage: python3 test_vumneath.py
 """
@@ -70,7 +70,7 @@ def write_guarded(counts, cells, room):
 
 
 def run_guarded(counts, cells, rows, room):
-    """What a run answers, its refusal or its rows; 'harmed' where another byte, a cell or a row was changed, or a refusal has a length."""
+    """What a run answers, in the notation of the stored answers; 'harmed' where another byte, a cell or a row was changed."""
     out = Guarded(ctypes.c_uint8, room)
     lent = [(ctypes.c_uint32 * len(part))(*part) for part in cells]
     text = (ctypes.c_uint8 * len(rows)).from_buffer_copy(rows)
@@ -78,7 +78,9 @@ def run_guarded(counts, cells, rows, room):
     unchanged = [list(part) for part in lent] == cells and bytes(text) == rows
     if not unchanged or not out.unharmed(answer.length) or (answer.refused and answer.length):
         return b"harmed"
-    return b"refused=%d\n" % answer.refused if answer.refused else bytes(out.part[: answer.length])
+    if answer.refused:
+        return b"refused=%d\n" % answer.refused
+    return b"length=%d\n" % answer.length + bytes(out.part[: answer.length])
 
 
 def number(call, *arguments):
@@ -110,6 +112,25 @@ class Replay(unittest.TestCase):
             cells = [[next(words) for _ in range(n)] for n in sizes]
             self.assertEqual(write_guarded(counts, cells, room), answers[i], f"network {i}")
         self.assertEqual(list(words), [])
+
+    def test_stored_runs(self):
+        answers = re.split(rb"^network \d+\n", stored("run_replay/stdout"), flags=re.M)[1:]
+        listed, at = stored("run_replay/stdin"), 0
+
+        def take(count):
+            nonlocal at
+            at += 9 * count
+            return [int(word, 16) for word in listed[at - 9 * count : at].split()]
+
+        for i in range(*take(1)):
+            words = take(8)
+            room, *sizes = take(4)
+            cells = [take(n) for n in sizes]
+            (length,) = take(1)
+            at += length
+            counts = [upper * 2**32 + lower for upper, lower in zip(words[::2], words[1::2])]
+            self.assertEqual(run_guarded(counts, cells, listed[at - length : at], room), answers[i], f"network {i}")
+        self.assertEqual(at, len(listed))
 
 
 class Calls(unittest.TestCase):
@@ -344,12 +365,12 @@ class Runs(unittest.TestCase):
     def test_lent(self):
         counts, cells, rows = (1, 1, 1, 2), [[13, 0, 1], [0xFFFFFFFE], [2, 3]], b"1\n0\n"
         for room in range(10):
-            self.assertEqual(run_guarded(counts, cells, rows, room), b"refused=31\n" if room < 6 else b"10\n01\n")
+            self.assertEqual(run_guarded(counts, cells, rows, room), b"refused=31\n" if room < 6 else b"length=6\n10\n01\n")
         for kind in range(3):
             one_short = [part[:-1] if kind == k else part for k, part in enumerate(cells)]
             self.assertEqual(run_guarded(counts, one_short, rows, 6), b"refused=20\n")
             one_more = [part + [99] if kind == k else part for k, part in enumerate(cells)]
-            self.assertEqual(run_guarded(counts, one_more, rows, 6), b"10\n01\n")
+            self.assertEqual(run_guarded(counts, one_more, rows, 6), b"length=6\n10\n01\n")
         self.assertEqual(run_guarded((2**32 + 1, 1, 1, 2), cells, rows, 6), b"refused=20\n")
 
     def test_interlock(self):

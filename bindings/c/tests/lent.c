@@ -204,3 +204,44 @@ size_t answer_start(const struct lent *answers, const char *word, unsigned long 
             return at;
     return answers->bytes;
 }
+
+static struct lent next_cells(const struct lent *list, size_t *at, uint32_t count)
+{
+    struct lent lent = lend(count * sizeof(uint32_t), 0);
+    for (uint32_t i = 0; i < count; i++)
+        cells(&lent)[i] = next_word(list, at);
+    return lent;
+}
+
+/* The next count, two words with the upper one first. over: set where it takes more than 32 bits. */
+static uint32_t next_count(const struct lent *list, size_t *at, bool *over)
+{
+    *over = next_word(list, at) != 0 || *over;
+    return next_word(list, at);
+}
+
+struct network next_network(const struct lent *list, size_t *at, size_t *room, bool *over)
+{
+    struct network net = { 0 };
+    net.inputs = next_count(list, at, over);
+    net.gate_count = next_count(list, at, over);
+    net.pin_count = next_count(list, at, over);
+    net.output_count = next_count(list, at, over);
+    *room = next_word(list, at);
+    uint32_t gates = next_word(list, at), pins = next_word(list, at), outputs = next_word(list, at);
+    net.gates = next_cells(list, at, gates);
+    net.pins = next_cells(list, at, pins);
+    net.outputs = next_cells(list, at, outputs);
+    return net;
+}
+
+void compare_answer(const struct lent *answers, size_t at, size_t end, uint32_t refused, size_t length, const uint8_t *out,
+    unsigned long i)
+{
+    char line[80];
+    int head = refused ? snprintf(line, sizeof line, "network %lu\nrefused=%u\n", i, refused)
+                       : snprintf(line, sizeof line, "network %lu\nlength=%zu\n", i, length);
+    bool same = at + (size_t)head + length == end && memcmp(answers->part + at, line, (size_t)head) == 0
+        && (length == 0 || memcmp(answers->part + at + head, out, length) == 0);
+    check(same, "the stored answer for a network", i);
+}

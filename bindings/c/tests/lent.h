@@ -68,9 +68,17 @@ uint32_t next_word(const struct lent *list, size_t *at);
 /* The place of answer i in a list of answers, each of which starts with a line 'WORD N', or the end of the list. */
 size_t answer_start(const struct lent *answers, const char *word, unsigned long i, size_t from);
 
+/* The next network of a list. room: the bytes to lend for what it gives. over: set where a count takes more than 32 bits. */
+struct network next_network(const struct lent *list, size_t *at, size_t *room, bool *over);
+
+/* Compares the answer for network i with the stored one from a place to another: 'refused=N', or 'length=N' and as many bytes. */
+void compare_answer(const struct lent *answers, size_t at, size_t end, uint32_t refused, size_t length, const uint8_t *out,
+    unsigned long i);
+
 /* What the other files run. step: each how manyth stored text or network is taken. */
 void replay_reads(const char *texts, const char *answers, unsigned long step);
 void replay_writes(const char *networks, const char *answers, unsigned long step);
+void replay_runs(const char *networks, const char *answers, unsigned long step);
 void call_reads(void);
 void call_writes(void);
 void call_runs(void);

@@ -1,4 +1,4 @@
-/* The test of the C functions: stored texts and networks with their answers, calls by hand, and the stack in use.
+/* The test of the C functions: stored texts, networks and rows with their answers, calls by hand, and the stack in use.
  * Usage: test FOLDER_OF_CRATES [STEP]
  * With a STEP, as for memcheck, it takes each STEPth stored one, lends blocks without guard bytes, measures no stack, and tells how many
  * buffers that were undefined before a call were found defined after it.
@@ -27,6 +27,7 @@ int main(int argc, char **argv)
     guard = argc == 3 ? 0 : guard;
     replay_reads(path(list, argv[1], "read_replay/stdin"), path(answers, argv[1], "read_replay/stdout"), step);
     replay_writes(path(list, argv[1], "write_replay/stdin"), path(answers, argv[1], "write_replay/stdout"), step);
+    replay_runs(path(list, argv[1], "run_replay/stdin"), path(answers, argv[1], "run_replay/stdout"), step);
     call_reads();
     call_writes();
     call_runs();

@@ -1,4 +1,4 @@
-/* Calls vumneath_run by hand. */
+/* Replays the stored networks with rows and compares with the stored answers; then calls vumneath_run by hand. */
 #include "lent.h"
 
 #include <stdlib.h>
@@ -31,6 +31,48 @@ static uint32_t run_checked(const struct network *net, const void *text, size_t 
     take_back(&rows, place);
     take_back(&out, place);
     return answer.refused;
+}
+
+/* Runs one stored network, once more into a slice of exactly the rows' length, and once into one that is a byte short. */
+static void replay_run(const struct network *net, const struct lent *rows, size_t room, const struct lent *answers, size_t at, size_t end,
+    unsigned long i)
+{
+    struct lent out = lend(room, 0xa5);
+    vumneath_rows ran = run_lent(net, rows, &out);
+    compare_answer(answers, at, end, ran.refused, ran.length, out.part, i);
+    take_back(&out, i);
+    check(run_checked(net, rows->part, rows->bytes, room, NULL, i) == ran.refused, "a second run answers the same", i);
+    if (ran.refused)
+        return;
+    check(run_checked(net, rows->part, rows->bytes, ran.length, NULL, i) == 0, "a slice of the rows' length is enough", i);
+    if (ran.length)
+        check(run_checked(net, rows->part, rows->bytes, ran.length - 1, NULL, i) == VUMNEATH_REFUSED_WRONG_ROWS, "a byte less is 31", i);
+}
+
+void replay_runs(const char *networks, const char *stored, unsigned long step)
+{
+    struct lent list = load(networks), answers = load(stored);
+    size_t at = 0, answer = answer_start(&answers, "network", 0, 0);
+    unsigned long count = next_word(&list, &at), taken = 0, left_out = 0;
+    for (unsigned long i = 0; i < count; i++) {
+        bool over = false;
+        size_t room, end = answer_start(&answers, "network", i + 1, answer);
+        struct network net = next_network(&list, &at, &room, &over);
+        size_t length = next_word(&list, &at);
+        struct lent rows = lend_copy(list.part + at, length);
+        if (i % step == 0 && !over)
+            replay_run(&net, &rows, room, &answers, answer, end, i);
+        taken += i % step == 0 && !over;
+        left_out += i % step == 0 && over;
+        at += length;
+        answer = end;
+        take_back(&rows, i);
+        take_back_network(&net, i);
+    }
+    check(at == list.bytes, "the list of networks with rows was read to its end", at);
+    take_back(&list, count);
+    take_back(&answers, count);
+    printf("running: %lu of %lu stored networks; %lu left out, a count over 32 bits cannot be passed\n", taken, count, left_out);
 }
 
 /* The same for rows that are a C string, with room for more than is wanted. */

@@ -23,56 +23,13 @@ static uint32_t write_checked(struct network net, size_t room, uint32_t *length,
     return text.refused;
 }
 
-/* Compares one answer with the stored one, 'refused=N' or 'length=N' and the text. */
-static void compare(const struct lent *answers, size_t at, size_t end, vumneath_text text, const uint8_t *out, unsigned long number)
-{
-    char line[80];
-    int head = text.refused ? snprintf(line, sizeof line, "network %lu\nrefused=%u\n", number, text.refused)
-                            : snprintf(line, sizeof line, "network %lu\nlength=%u\n", number, text.length);
-    size_t length = (size_t)head + text.length;
-    bool same = at + length == end && memcmp(answers->part + at, line, (size_t)head) == 0
-        && memcmp(answers->part + at + head, out, text.length) == 0;
-    check(same, "the writer's stored answer", number);
-}
-
-static struct lent next_cells(const struct lent *list, size_t *at, uint32_t count)
-{
-    struct lent lent = lend(count * sizeof(uint32_t), 0);
-    for (uint32_t i = 0; i < count; i++)
-        cells(&lent)[i] = next_word(list, at);
-    return lent;
-}
-
-/* The next count, two words with the upper one first. over: set where it takes more than 32 bits. */
-static uint32_t next_count(const struct lent *list, size_t *at, bool *over)
-{
-    *over = next_word(list, at) != 0 || *over;
-    return next_word(list, at);
-}
-
-/* The next network of the list. room: the bytes to lend for its text. over: set where a count takes more than 32 bits. */
-static struct network next_network(const struct lent *list, size_t *at, size_t *room, bool *over)
-{
-    struct network net = { 0 };
-    net.inputs = next_count(list, at, over);
-    net.gate_count = next_count(list, at, over);
-    net.pin_count = next_count(list, at, over);
-    net.output_count = next_count(list, at, over);
-    *room = next_word(list, at);
-    uint32_t gates = next_word(list, at), pins = next_word(list, at), outputs = next_word(list, at);
-    net.gates = next_cells(list, at, gates);
-    net.pins = next_cells(list, at, pins);
-    net.outputs = next_cells(list, at, outputs);
-    return net;
-}
-
 /* Writes one stored network, once more into a slice of exactly the text's length, and once into one that is a byte short. */
 static void replay_network(const struct network *net, size_t room, const struct lent *answers, size_t at, size_t end, unsigned long i)
 {
     uint32_t length;
     struct lent out = lend(room, 0xa5);
     vumneath_text text = write_lent(net, &out);
-    compare(answers, at, end, text, out.part, i);
+    compare_answer(answers, at, end, text.refused, text.length, out.part, i);
     take_back(&out, i);
     check(write_checked(*net, room, &length, i) == text.refused && length == text.length, "a second writing answers the same", i);
     if (text.refused)

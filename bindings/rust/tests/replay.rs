@@ -1,7 +1,7 @@
-//! The stored texts and networks with their answers.
+//! The stored texts, networks and rows with their answers.
 mod common;
 
-use common::{read_notation, stored, write, List, ENOUGH, ONE_MORE};
+use common::{read_notation, run, stored, write, List, ENOUGH, ONE_MORE};
 use vumneath::cells::Counts;
 use vumneath::Network;
 
@@ -49,29 +49,49 @@ fn next_answer<'a>(rest: &mut &'a [u8], i: u32) -> &'a [u8] {
     answer
 }
 
-#[test]
-fn stored_networks() {
-    let mut list = List::new(stored("write_replay/stdin"));
-    let answers = answers("write_replay/stdout", "network 0\n");
+/// Replays a list of networks, each with the bytes to lend for what it gives. The answer for one, in the notation of the stored answers, is
+/// asked for with what follows it in the list; it is none where a count is over 32 bits, which cannot be passed.
+fn replay_networks<F>(crate_name: &str, answer: F)
+where
+    F: Fn(&mut List, Option<Counts>, [&[u32]; 3], usize) -> Option<(u32, usize, Vec<u8>)>,
+{
+    let mut list = List::new(stored(&format!("{crate_name}/stdin")));
+    let answers = answers(&format!("{crate_name}/stdout"), "network 0\n");
     let mut rest = &answers[..];
     let count = list.word();
     let mut left_out = 0;
     for i in 0..count {
         let words = list.words(12);
         let [gates, pins, outputs] = [9, 10, 11].map(|kind| list.words(words[kind]));
-        let wanted = next_answer(&mut rest, i);
-        if [0, 2, 4, 6].iter().any(|&upper| words[upper] != 0) {
-            left_out += 1; // a count over 32 bits cannot be passed
-            continue;
-        }
+        let fitting = [0, 2, 4, 6].iter().all(|&upper| words[upper] == 0);
         let counts = Counts { inputs: words[1], gates: words[3], pins: words[5], outputs: words[7] };
-        let (answer, text) = write(counts, [&gates, &pins, &outputs], words[8] as usize);
-        let head = match answer.refused {
-            0 => format!("network {i}\nlength={}\n", answer.length),
-            number => format!("network {i}\nrefused={number}\n"),
-        };
-        assert_eq!([head.as_bytes(), &text].concat(), wanted, "network {i}");
+        let wanted = next_answer(&mut rest, i);
+        match answer(&mut list, fitting.then_some(counts), [&gates, &pins, &outputs], words[8] as usize) {
+            None => left_out += 1,
+            Some((0, length, text)) => {
+                assert_eq!([format!("network {i}\nlength={length}\n").as_bytes(), &text].concat(), wanted, "network {i}");
+            }
+            Some((number, _, _)) => assert_eq!(format!("network {i}\nrefused={number}\n").as_bytes(), wanted, "network {i}"),
+        }
     }
     assert!(list.ended() && rest.is_empty());
     assert!(left_out * 10 < count, "{left_out} of {count} left out");
+}
+
+#[test]
+fn stored_networks() {
+    replay_networks("write_replay", |_, counts, lent, room| {
+        let (answer, text) = write(counts?, lent, room);
+        Some((answer.refused, answer.length as usize, text))
+    });
+}
+
+#[test]
+fn stored_runs() {
+    replay_networks("run_replay", |list, counts, lent, room| {
+        let length = list.word();
+        let rows = list.bytes(length as usize);
+        let (answer, ran) = run(counts?, lent, &rows, room);
+        Some((answer.refused, answer.length, ran))
+    });
 }
