@@ -156,6 +156,15 @@ fn order_of_refusals() {
     assert_eq!([counts(256, 256), counts(257, 256), counts(256, 257), counts(u32::MAX, 0)], [31, 20, 20, 20]);
 }
 
+/// The smallest examples of README's table.
+#[test]
+fn smallest_refused() {
+    let refused = |gates, rows: &[u8]| Network::new(0, gates, vec![]).run(rows).unwrap_err().number();
+    assert_eq!(refused(vec![Gate::Buf(x(0))], b""), 29);
+    assert_eq!(refused(vec![Gate::Dff([Signal::zero(); 3])], b""), 30);
+    assert_eq!(refused(vec![], b"0"), 31);
+}
+
 /// The output slice exactly full, a byte short and longer; cells lent short.
 #[test]
 fn lent_slices() {
