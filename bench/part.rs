@@ -23,6 +23,13 @@ pub struct TextAnswer {
     pub length: u32,
 }
 
+#[repr(C)]
+#[derive(Clone, Copy, Default)]
+pub struct RowsAnswer {
+    pub refused: u32,
+    pub length: usize,
+}
+
 // text, gates, pins, outputs, work gates, work pins: each with its length.
 pub type Read =
     unsafe extern "C" fn(*const u8, usize, *mut u32, usize, *mut u32, usize, *mut u32, usize, *mut u32, usize, *mut u32, usize) -> NetworkAnswer;
@@ -31,17 +38,28 @@ pub type Read =
 pub type Write =
     unsafe extern "C" fn(u32, u32, u32, u32, *const u32, usize, *const u32, usize, *const u32, usize, *mut u8, usize) -> TextAnswer;
 
-// The calls of one library at one place in memory.
+// inputs, gates, pins and outputs in use, then gates, pins, outputs, rows and the rows to be filled: each with its length.
+pub type Run = unsafe extern "C" fn(
+    u32, u32, u32, u32, *const u32, usize, *const u32, usize, *const u32, usize, *const u8, usize, *mut u8, usize,
+) -> RowsAnswer;
+
+// The calls of one library at one place in memory; a library from before runs has no call for them.
 #[derive(Clone, Copy)]
 pub struct Part {
     pub read: Read,
     pub write: Write,
+    pub run: Option<Run>,
+}
+
+// A function of a library by its name; null where there is none.
+fn find(library: *mut c_void, name: &str) -> *mut c_void {
+    let name = CString::new(name).unwrap();
+    unsafe { dlsym(library, name.as_ptr()) }
 }
 
 fn symbol(library: *mut c_void, name: &str) -> *mut c_void {
-    let name = CString::new(name).unwrap();
-    let found = unsafe { dlsym(library, name.as_ptr()) };
-    assert!(!found.is_null(), "no {name:?}");
+    let found = find(library, name);
+    assert!(!found.is_null(), "no {name}");
     found
 }
 
@@ -55,6 +73,7 @@ pub fn load(file: &str) -> Part {
         Part {
             read: std::mem::transmute::<*mut c_void, Read>(symbol(library, "vumneath_read_blif")),
             write: std::mem::transmute::<*mut c_void, Write>(symbol(library, "vumneath_write_blif")),
+            run: std::mem::transmute::<*mut c_void, Option<Run>>(find(library, "vumneath_run")),
         }
     }
 }
@@ -66,6 +85,9 @@ pub const PLACES: [usize; 4] = [0, 16, 32, 48];
 pub fn load_all(folder: &str) -> Vec<Part> {
     PLACES.iter().map(|bytes| load(&format!("{folder}/{bytes}.so"))).collect()
 }
+
+// The cells of one gate's record.
+pub const GATE_CELLS: usize = 3;
 
 // The cells and bytes that a caller lends, of exactly the sizes that are asked for.
 pub struct Lent {
@@ -79,7 +101,8 @@ pub struct Lent {
 
 impl Lent {
     pub fn new() -> Lent {
-        Lent { gates: vec![0; 3072], pins: vec![0; 16384], outputs: vec![0; 256], work_gates: vec![0; 3072], work_pins: vec![0; 16384], out: vec![0; 32768] }
+        let gates = vec![0; 1024 * GATE_CELLS];
+        Lent { work_gates: gates.clone(), gates, pins: vec![0; 16384], outputs: vec![0; 256], work_pins: vec![0; 16384], out: vec![0; 32768] }
     }
 
     // The same word in every cell.
@@ -103,6 +126,17 @@ impl Lent {
             (part.write)(
                 n.inputs, n.gates, n.pins, n.outputs, self.gates.as_ptr(), self.gates.len(), self.pins.as_ptr(), self.pins.len(),
                 self.outputs.as_ptr(), self.outputs.len(), self.out.as_mut_ptr(), self.out.len(),
+            )
+        }
+    }
+
+    // Runs the network that is in the cells; the rows of outputs go into a slice of the caller's.
+    pub fn run(&self, part: Part, n: NetworkAnswer, rows: &[u8], out: &mut [u8]) -> RowsAnswer {
+        let run = part.run.expect("the library has no vumneath_run");
+        unsafe {
+            run(
+                n.inputs, n.gates, n.pins, n.outputs, self.gates.as_ptr(), self.gates.len(), self.pins.as_ptr(), self.pins.len(),
+                self.outputs.as_ptr(), self.outputs.len(), rows.as_ptr(), rows.len(), out.as_mut_ptr(), out.len(),
             )
         }
     }
