@@ -1,16 +1,24 @@
-// Measures the part and Quaigh on the same inputs, by turns.
-// usage: bench names [FILES] | once PLACED NAME [FILES] | measure PLACED COUNTS DOCS [FILES]      PLACED is a folder that bench/place filled
+// Measures the part and Quaigh on the same inputs, by turns: reading, writing, and running beside a plain simulator over Quaigh's network.
+// usage: bench names [FILES] | once PLACED NAME [FILES] | stack PLACED | measure PLACED COUNTS DOCS [FILES]
+//        PLACED is a folder that bench/place filled
+mod clock;
 mod inputs;
 mod io;
 mod network;
+mod networks;
 mod part;
+mod quaigh;
 mod report;
+mod runs;
+mod simulate;
+mod stack;
 
 pub use network::{BinaryType, Gate, NaryType, Network, Signal, TernaryType};
 
 use inputs::Input;
 use io::blif::{read_blif, write_blif};
 use part::{Lent, NetworkAnswer, Part, TextAnswer};
+use runs::MeasuredRun;
 use std::hint::black_box;
 use std::time::Instant;
 
@@ -58,29 +66,12 @@ pub fn counted_rust_write(out: &mut Vec<u8>, n: &Network) {
     write_blif(out, n);
 }
 
-// An Xor of 12 inputs: its text has more lines than may be read, so the network is lent.
-fn xor_of_12(lent: &mut Lent) -> (NetworkAnswer, Network) {
-    let mut n = Network::new();
-    n.add_inputs(12);
-    let pins: Vec<Signal> = (0..12).map(|i| n.input(i)).collect();
-    lent.gates.fill(0);
-    lent.pins.fill(0);
-    lent.outputs.fill(0);
-    lent.gates[..3].copy_from_slice(&[11, 0, 12]);
-    for i in 0..12u32 {
-        lent.pins[i as usize] = 0u32.wrapping_sub(2 * (i + 1));
-    }
-    let x = n.add(Gate::Nary(pins.into_boxed_slice(), NaryType::Xor));
-    n.add_output(x);
-    lent.outputs[0] = 2;
-    (NetworkAnswer { refused: 0, inputs: 12, gates: 1, pins: 12, outputs: 1 }, n)
-}
-
 // The network of an input on both sides, if it is read.
 fn read_both(lent: &mut Lent, part: Part, input: &Input) -> (NetworkAnswer, Option<Network>) {
+    // an Xor of 12 inputs: its text has more lines than may be read, so the network is lent
     if input.name == "xor-of-12" {
-        let (a, n) = xor_of_12(lent);
-        return (a, Some(n));
+        let a = networks::xor_of_inputs(12).lay(lent);
+        return (a, Some(quaigh::network(lent, a)));
     }
     let a = lent.read(part, &input.text);
     let n = if a.refused == 0 { Some(read_blif(input.text.as_slice()).expect("Quaigh reads what is read here")) } else { None };
@@ -94,7 +85,7 @@ fn least(best: &mut f64, f: impl FnOnce()) {
 }
 
 // How many runs: about a fifth of a second in all, a hundred at least.
-fn runs(input: &Input) -> usize {
+fn how_often(input: &Input) -> usize {
     (200_000_000 / (input.text.len() * 60 + 20_000)).clamp(100, 5_000)
 }
 
@@ -115,7 +106,7 @@ fn measure(parts: &[Part], input: &Input) -> Measured {
     let mut rust = [f64::MAX; 2];
     // comments, blanks and the like are all the network without anything; no-gates stands for it
     let written = n.as_ref().filter(|n| n.nb_nodes() + n.nb_inputs() > 0);
-    for _ in 0..runs(input) {
+    for _ in 0..how_often(input) {
         for (part, t) in parts.iter().zip(times.iter_mut()) {
             if !input.text.is_empty() {
                 lent.fill(u32::MAX);
@@ -178,33 +169,44 @@ fn all(folder: Option<&String>) -> Vec<Input> {
     all
 }
 
+// Reads, writes or runs one input once on both sides.
+fn once(part: Part, name: &str, folder: Option<&String>) {
+    if let Some(run) = networks::runs().iter().find(|r| r.name == name) {
+        runs::measure(&[part], run, true);
+        return;
+    }
+    let all = all(folder);
+    let input = all.iter().find(|i| i.name == name).expect("no such input");
+    let mut lent = Lent::new();
+    let (a, n) = read_both(&mut lent, part, input);
+    if !input.text.is_empty() {
+        black_box(counted_part_read(&mut lent, part, &input.text));
+    }
+    if let Some(n) = n {
+        if !input.text.is_empty() {
+            counted_rust_read(&input.text);
+        }
+        black_box(counted_part_write(&mut lent, part, a));
+        counted_rust_write(&mut Vec::with_capacity(1 << 20), &n);
+    }
+}
+
 fn main() {
     let words: Vec<String> = std::env::args().skip(1).collect();
     match words[0].as_str() {
-        "names" => all(words.get(1)).iter().for_each(|i| println!("{}", i.name)),
-        "once" => {
-            let part = part::load_all(&words[1])[0];
-            let all = all(words.get(3));
-            let input = all.iter().find(|i| i.name == words[2]).expect("no such input");
-            let mut lent = Lent::new();
-            let (a, n) = read_both(&mut lent, part, input);
-            if !input.text.is_empty() {
-                black_box(counted_part_read(&mut lent, part, &input.text));
-            }
-            if let Some(n) = n {
-                if !input.text.is_empty() {
-                    counted_rust_read(&input.text);
-                }
-                black_box(counted_part_write(&mut lent, part, a));
-                counted_rust_write(&mut Vec::with_capacity(1 << 20), &n);
-            }
+        "names" => {
+            all(words.get(1)).iter().for_each(|i| println!("{}", i.name));
+            networks::runs().iter().for_each(|r| println!("{}", r.name));
         }
+        "once" => once(part::load_all(&words[1])[0], &words[2], words.get(3)),
+        "stack" => stack::measure(part::load_all(&words[1])[0]).iter().for_each(|d| println!("{d}")),
         _ => {
             let made = all(None).len();
             let parts = part::load_all(&words[1]);
             let measured: Vec<Measured> = all(words.get(4)).iter().map(|i| measure(&parts, i)).collect();
             let worst = inputs::worst().each_ref().map(|i| measure(&parts, i));
-            report::report(&measured, made, &worst, &rule(), &words[2], &words[3]);
+            let runs: Vec<MeasuredRun> = networks::runs().iter().map(|r| runs::measure(&parts, r, false)).collect();
+            report::report(&measured, made, &worst, &runs, &stack::measure(parts[0]), &rule(), &words[2], &words[3]);
         }
     }
 }

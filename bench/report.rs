@@ -1,5 +1,6 @@
 // The table, the plot and the page docs/speed.md.
-use crate::{Measured, Pair, Rule};
+use crate::stack::Deepest;
+use crate::{Measured, MeasuredRun, Pair, Rule};
 use std::collections::HashMap;
 use std::fmt::Write;
 
@@ -22,18 +23,18 @@ fn worst(all: &[(&str, Pair)]) -> String {
     format!("{:.2} ({name})", ratio(p))
 }
 
-// The cells of a row about reading or writing: nanoseconds and instructions of both per byte, and the ratios.
-fn cells(p: Option<Pair>, bytes: usize, counts: &HashMap<String, f64>, what: &str) -> String {
+// The cells of a row about reading, writing or running: nanoseconds and instructions of both per byte, or per pin and clock, and the ratios.
+fn cells(p: Option<Pair>, units: usize, counts: &HashMap<String, f64>, what: &str) -> String {
     let Some(p) = p else {
         return "| | | | ".to_string();
     };
-    let b = bytes as f64;
-    let count = |side: &str| counts.get(&format!("counted_{side}_{what}")).map(|n| n / b);
+    let u = units as f64;
+    let count = |side: &str| counts.get(&format!("counted_{side}_{what}")).map(|n| n / u);
     let instructions = match (count("part"), count("rust")) {
         (Some(x), Some(y)) => format!("{x:.1} / {y:.1}"),
         _ => String::new(),
     };
-    format!("| {:.2} / {:.2} | {instructions} | **{:.2}** ", p.part / b, p.rust / b, ratio(&p))
+    format!("| {:.2} / {:.2} | {instructions} | **{:.2}** ", p.part / u, p.rust / u, ratio(&p))
 }
 
 fn table(rows: &[Measured], folder: &str) -> String {
@@ -45,18 +46,27 @@ fn table(rows: &[Measured], folder: &str) -> String {
     t
 }
 
+fn run_table(runs: &[MeasuredRun], folder: &str) -> String {
+    let mut t = String::from("| network | gates | pins | rows | ns a pin and clock, this part / plain simulator | instructions a pin and clock | ratio |\n|---|---|---|---|---|---|---|\n");
+    for m in runs {
+        let units = m.pins as usize * m.clocks;
+        let _ = writeln!(t, "| {} | {} | {} | {} {}|", m.name, m.gates, m.pins, m.clocks, cells(Some(m.run), units, &counts(folder, &m.name), "run"));
+    }
+    t
+}
+
 fn pairs<'a>(rows: &'a [Measured], f: fn(&Measured) -> Option<Pair>) -> Vec<(&'a str, Pair)> {
     rows.iter().filter_map(|m| f(m).map(|p| (m.name.as_str(), p))).collect()
 }
 
-fn summary(what: &str, rows: &[Measured], f: fn(&Measured) -> Option<Pair>) -> String {
-    let all = pairs(rows, f);
+// A line about all inputs of one kind: what, and beside whom.
+fn summary(what: &str, whom: &str, all: &[(&str, Pair)]) -> String {
     if all.is_empty() {
         return String::new();
     }
     let only: Vec<Pair> = all.iter().map(|a| a.1).collect();
     let slower = only.iter().filter(|p| ratio(p) < 1.0).count();
-    format!("{what}: {:.2} times as fast as the Rust in the geometric mean of {} inputs; least {}; slower on {slower}", mean(&only), only.len(), worst(&all))
+    format!("{what}: {:.2} times as fast as {whom} in the geometric mean of {} inputs; least {}; slower on {slower}", mean(&only), only.len(), worst(all))
 }
 
 const FAMILIES: [(&str, &str); 4] = [("small-gates-", "#1b6ca8"), ("long-names-", "#b8550f"), ("latches-", "#3a7d2c"), ("cover-of-16-", "#7b3fa0")];
@@ -99,31 +109,57 @@ fn slower(rows: &[Measured], what: &str, alone: f64, f: fn(&Measured) -> Option<
     slow.map(|(name, p)| format!("| {what} {name} | {:.2} | {:.2} | {:.2} |\n", p.part / 1e3, p.rust / 1e3, alone / 1e3)).collect()
 }
 
-pub fn report(rows: &[Measured], made: usize, worst: &[Measured], rule: &Rule, folder: &str, docs: &str) {
+// The lines over the tables.
+fn summaries(made: &[Measured], given: &[Measured], runs: &[MeasuredRun]) -> Vec<String> {
+    let (rust, read, write) = ("the Rust", |m: &Measured| m.read, |m: &Measured| m.write);
+    let mut lines = vec![summary("reading", rust, &pairs(made, read)), summary("writing", rust, &pairs(made, write))];
+    if !given.is_empty() {
+        let compared = given.iter().filter(|m| m.read.is_some()).count();
+        lines.push(format!("files: {} given, {compared} read, {} refused", given.len(), given.len() - compared));
+        lines.push(summary("reading the files", rust, &pairs(given, read)));
+        lines.push(summary("writing the files", rust, &pairs(given, write)));
+    }
+    for clocks in [1000, 10] {
+        let ran: Vec<(&str, Pair)> = runs.iter().filter(|m| m.clocks == clocks).map(|m| (m.name.as_str(), m.run)).collect();
+        lines.push(summary(&format!("running {clocks} rows"), "a plain simulator over Quaigh's network", &ran));
+    }
+    lines
+}
+
+// What is told of a text that was made against the index.
+fn told(m: &Measured) -> String {
+    let p = m.read.expect("a text made against the index is read");
+    format!("{} bytes, {:.0} µs here and {:.0} µs in the Rust", m.bytes, p.part / 1e3, p.rust / 1e3)
+}
+
+pub fn report(rows: &[Measured], made: usize, worst: &[Measured], runs: &[MeasuredRun], stack: &[Deepest], rule: &Rule, folder: &str, docs: &str) {
     let behind = slower(rows, "reading", rule.cells, |m| m.read) + &slower(rows, "writing", rule.bytes, |m| m.write);
     let cores = std::thread::available_parallelism().map_or(1, |n| n.get());
     let (made, given) = rows.split_at(made);
-    let mut lines = vec![summary("reading", made, |m| m.read), summary("writing", made, |m| m.write)];
-    let compared: Vec<&Measured> = given.iter().filter(|m| m.read.is_some()).collect();
-    if !given.is_empty() {
-        lines.push(format!("files: {} given, {} read, {} refused", given.len(), compared.len(), given.len() - compared.len()));
-        lines.push(summary("reading the files", given, |m| m.read));
-        lines.push(summary("writing the files", given, |m| m.write));
-    }
+    let lines = summaries(made, given, runs);
     let filled: String = made.iter().filter(|m| m.name.starts_with("small-gates-")).map(|m| format!("| {} | {:.2} | {:.2} |\n", m.bytes, m.read.unwrap().part / 1e3, m.read_filled / 1e3)).collect();
-    print!("{}", table(rows, folder));
+    print!("{}{}", table(rows, folder), run_table(runs, folder));
     println!("{}", lines.join("\n"));
-    let told: Vec<String> = worst
-        .iter()
-        .map(|m| {
-            let p = m.read.expect("a text made against the index is read");
-            format!("{} bytes, {:.0} µs here and {:.0} µs in the Rust", m.bytes, p.part / 1e3, p.rust / 1e3)
-        })
-        .collect();
-    println!("names of one tree: {}\nnames of one hash: {}", told[0], told[1]);
+    stack.iter().for_each(|d| println!("{d}"));
+    let (tree, hash) = (told(&worst[0]), told(&worst[1]));
+    println!("names of one tree: {tree}\nnames of one hash: {hash}");
     print!("{behind}");
     let points: String = lines.iter().map(|l| format!("- {l}\n")).collect();
-    let page = include_str!("speed.template").replace("@CORES@", &cores.to_string()).replace("@SUMMARY@", points.trim_end()).replace("@TABLE@", table(made, folder).trim_end()).replace("@FILLED@", filled.trim_end()).replace("@TREE@", &told[0]).replace("@HASH@", &told[1]).replace("@CELLS@", &format!("{:.2}", rule.cells / 1e3)).replace("@BYTES@", &format!("{:.2}", rule.bytes / 1e3)).replace("@SLOWER@", behind.trim_end());
+    let deepest: String = stack.iter().map(|d| format!("- {d}\n")).collect();
+    let fills = [
+        ("@CORES@", cores.to_string()),
+        ("@SUMMARY@", points),
+        ("@TABLE@", table(made, folder)),
+        ("@FILLED@", filled),
+        ("@TREE@", tree),
+        ("@HASH@", hash),
+        ("@CELLS@", format!("{:.2}", rule.cells / 1e3)),
+        ("@BYTES@", format!("{:.2}", rule.bytes / 1e3)),
+        ("@SLOWER@", behind),
+        ("@RUNS@", run_table(runs, folder)),
+        ("@STACK@", deepest),
+    ];
+    let page = fills.iter().fold(include_str!("speed.template").to_string(), |page, (mark, text)| page.replace(mark, text.trim_end()));
     std::fs::write(format!("{docs}/speed.md"), page).unwrap();
     std::fs::write(format!("{docs}/speed.svg"), svg(made)).unwrap();
 }
