@@ -1,7 +1,6 @@
--- The gates built for definitions: how many there are, how many pins they have in all, and that the form of each can have its pins.
--- Assumes nothing.
+-- The gates built for definitions: how many there are, and how many pins they have in all. Assumes nothing.
 use mathlib.Core.Path.{_≡_, refl, sym, ap, _∙_, subst}
-use mathlib.Core.Bool.{Bool, true, false, cond}
+use mathlib.Core.Bool.{Bool, true, false}
 use mathlib.Core.List.{List, [], _∷_, map}
 use Prim.Native.Nat.{ℕ, zero, suc, _+_, _-_, _*_, _≤_}
 use native.Mathlib.Omega.{arith}
@@ -10,11 +9,9 @@ use lib.ListN.{length, length-map, length-append, length-take}
 use borrow.Author.Tests.{lt-ltb}
 use Rattle.lists.specs.Lists.{if_then_else_, Bytes, sumOf}
 use Rattle.lists.proofs.Counting.{sum-append}
-use Rattle.lists.proofs.Every.{Every, every-nil, every-cons, every-append, every-map}
 use Rattle.signal.specs.Signal.{Signal}
 use Rattle.signal.specs.Cell.{sigCell}
-use Rattle.gates.specs.Gate.{AndN, OrN, Gate, Comb, pins}
-use Rattle.gates.specs.Forms.{formed}
+use Rattle.gates.specs.Gate.{Gate, pins}
 use Rattle.network.specs.Record.{pinCells}
 use Rattle.blif_text.specs.Decls.{Def, latch, cover, coverIns}
 use Rattle.blif_meaning.specs.Model.{Col, C0, C1, Dash, Line}
@@ -52,14 +49,6 @@ literal-pins false [] = omega arith
 literal-pins false (l ∷ []) = omega arith
 literal-pins false (l ∷ k ∷ ls) = omega arith
 
-literal-formed : (p : Bool) (ls : List Signal) → formed (literalGate p ls) ≡ true
-literal-formed true [] = refl
-literal-formed true (l ∷ []) = refl
-literal-formed true (l ∷ k ∷ ls) = refl
-literal-formed false [] = refl
-literal-formed false (l ∷ []) = refl
-literal-formed false (l ∷ k ∷ ls) = refl
-
 line-pins : (ss : List Signal) (l : Line) → pinsOf (lineGate ss l) ≤ length ss + 1
 line-pins ss l = omega (arith, literal-pins (l .out) (literals (l .cols) ss), literals-le (l .cols) ss)
 
@@ -85,24 +74,6 @@ cover-pins k ss (l ∷ []) = omega (arith, line-pins ss l)
 cover-pins k ss (l ∷ m ∷ ls) =
     omega
     (arith, run-length (suc (suc k)) (length ls), line-pins ss l, line-pins ss m, lines-pins ss ls, product (length ls) (length ss))
-
-joined-formed : (b : Bool) (ps : List Signal) → formed (Comb (cond b OrN AndN) ps) ≡ true
-joined-formed true ps = refl
-joined-formed false ps = refl
-
-cover-formed : (k : ℕ) (ss : List Signal) (ls : List Line) → formed (coverGate k ss ls) ≡ true
-cover-formed k ss [] = refl
-cover-formed k ss (l ∷ []) = literal-formed (l .out) (literals (l .cols) ss)
-cover-formed k ss (l ∷ m ∷ ls) = joined-formed (l .out) (gateRun k (suc (suc (length ls))))
-
--- each gate of a list has pins that its form can have
-abbrev AllFormed : List Gate → Type 0
-AllFormed xs = Every (λ x. formed x ≡ true) xs
-
-lines-formed : (ss : List Signal) (ls : List Line) → AllFormed (lineGates ss ls)
-lines-formed ss [] = every-nil
-lines-formed ss (l ∷ []) = every-nil
-lines-formed ss (l ∷ m ∷ ls) = every-map (lineGate ss) (l ∷ m ∷ ls) (λ n. literal-formed (n .out) (literals (n .cols) ss))
 
 -- a cover of two lines or more adds a gate for each
 lines-added : (ss : List Signal) (ls : List Line) → length (lineGates ss ls) ≡ added (length ls)
@@ -131,23 +102,7 @@ module _ (signalOf : Bytes → Signal) where
   def-gates (latch l) = refl
   def-gates (cover ns ls) = ap (λ (x : ℕ). 1 + x) (lines-added (map signalOf (coverIns ns)) (map lineOf ls) ∙ ap added (length-map ls lineOf))
 
-  main-formed : (k : ℕ) (g : Def) → formed (blockGate signalOf k (blockOf g)) ≡ true
-  main-formed k (latch l) = refl
-  main-formed k (cover ns ls) = cover-formed k (map signalOf (coverIns ns)) (map lineOf ls)
-
-  more-formed : (g : Def) → AllFormed (newGates signalOf (blockOf g))
-  more-formed (latch l) = every-nil
-  more-formed (cover ns ls) = lines-formed (map signalOf (coverIns ns)) (map lineOf ls)
-
   -- ---- all gates
-
-  blockGates-formed : (k : ℕ) (gs : List Def) → AllFormed (blockGates signalOf k (map blockOf gs))
-  blockGates-formed k [] = every-nil
-  blockGates-formed k (g ∷ gs) = every-cons (main-formed k g) (blockGates-formed (k + length (newGates signalOf (blockOf g))) gs)
-
-  newGates-formed : (gs : List Def) → AllFormed (allNewGates signalOf (map blockOf gs))
-  newGates-formed [] = every-nil
-  newGates-formed (g ∷ gs) = every-append (more-formed g) (newGates-formed gs)
 
   both-pins : (k : ℕ) (gs : List Def) → sumOf pinsOf (blockGates signalOf k (map blockOf gs)) + sumOf pinsOf (allNewGates signalOf (map blockOf gs)) ≤ sumOf pinCount gs
   both-pins k [] = omega arith
@@ -170,7 +125,3 @@ module _ (signalOf : Bytes → Signal) where
   built-pins gs =
       omega
       (arith, pins-sum (builtGates signalOf gs), sum-append pinsOf (blockGates signalOf (length (map blockOf gs)) (map blockOf gs)) (allNewGates signalOf (map blockOf gs)), both-pins (length (map blockOf gs)) gs)
-
-  -- the form of each can have its pins
-  pub built-formed : (gs : List Def) → AllFormed (builtGates signalOf gs)
-  built-formed gs = every-append (blockGates-formed (length (map blockOf gs)) gs) (newGates-formed gs)

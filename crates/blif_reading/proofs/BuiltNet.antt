@@ -31,7 +31,8 @@ use Rattle.network.proofs.RecordCells.{record-runs, gate-there}
 use Rattle.blif_reading.proofs.WorkingLaws.{gate-parts, gate-run}
 use Rattle.blif_reading.specs.between.Working.{GateIn, GatesIn, builtGates}
 use Rattle.blif_reading.proofs.SizeLimits.{Sized, sizes-within}
-use Rattle.blif_reading.proofs.BuiltCounts.{built-gates, built-pins, built-formed}
+use Rattle.blif_reading.proofs.BuiltCounts.{built-gates, built-pins}
+use Rattle.blif_reading.proofs.BuiltEach.{built-formed}
 use Rattle.blif_reading.proofs.Passed.{passed, passed-valid}
 
 -- the gates as built, with runs among the first `used` pins, and the outputs stand in the cells, of which these counts are in use

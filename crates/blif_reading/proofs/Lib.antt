@@ -7,6 +7,7 @@ pub mod CoverPins
 pub mod BuiltValid
 pub mod BuiltFree
 pub mod BuiltCounts
+pub mod BuiltEach
 pub mod Meaning
 pub mod Passed
 pub mod SizeLimits

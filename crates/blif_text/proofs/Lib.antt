@@ -19,3 +19,4 @@ pub mod ColumnLaws
 pub mod RowWalk
 pub mod RefusalLaws
 pub mod BlockLaws
+pub mod PlainLatches

@@ -6,13 +6,14 @@ use mathlib.Core.Logic.{⊎-elim}
 use Prim.Native.Nat.{ℕ, suc, _≤_, _<_}
 use native.Mathlib.Omega.{arith}
 use lib.ListN.{length, getD, getElem?, length-map}
-use mathlib.Core.Bool.{false}
-use Rattle.lists.specs.Lists.{occ, sumOf, sumTo, optional}
+use mathlib.Core.Bool.{Bool, true, false}
+use Rattle.lists.specs.Lists.{occ, sumOf, sumTo, optional, all}
 use Rattle.lists.proofs.Counting.{hit-or, zero-or, sum-head, sum-mono, sum-perm, mem-occ}
 use Rattle.lists.proofs.FirstPlace.{place, place-at, find-place}
-use Rattle.lists.proofs.Places.{place-getD, place-lt}
-use Rattle.signal.specs.Signal.{Node, Const, Input, Var, Signal, remap}
-use Rattle.gates.specs.Gate.{Form, Buf, Gate, Comb, Dff, pins, isComb}
+use Rattle.lists.proofs.Places.{place-getD, place-lt, place-mem, mem-place}
+use Rattle.lists.proofs.Range.{all-mem, mem-all}
+use Rattle.signal.specs.Signal.{Node, Const, Input, Var, Signal, constNode, remapNode, remap}
+use Rattle.gates.specs.Gate.{Form, Buf, Gate, Comb, Dff, pins, isComb, isPlain}
 use Rattle.gates.specs.Forms.{canHave, formed}
 use Rattle.network.specs.Net.{Net, GateIs, Valid, Formed}
 use Rattle.network.specs.Record.{pinCells}
@@ -20,10 +21,10 @@ use Rattle.network.specs.Renumber.{remapGate, placeOf, gateOr, permuted}
 use Rattle.network.proofs.PinCells.{pins-next}
 use Rattle.network.proofs.Renumbering.{renumbered-valid, pins-remap, node-from, comb-from}
 use Rattle.sort_order.specs.Order.{uses, useCount, sortOrder}
-use Rattle.sort_order.specs.Sorted.{nodeGate, gateNums, graph}
+use Rattle.sort_order.specs.Sorted.{nodeGate, gateNums, graph, sorted}
 use Rattle.sort_order.proofs.Walk.{uses-comb, uses-ins}
 use Rattle.sort_order.proofs.Ordering.{sort-permutes, sort-length, sort-inputs, order-once, some-full}
-use Rattle.sort_order.proofs.Sorting.{point-nums, graph-valid, order-has, order-renumbers}
+use Rattle.sort_order.proofs.Sorting.{point-nums, graph-valid, sorted-order, order-has, order-renumbers}
 
 -- ---- the new number is the place in the order
 
@@ -75,6 +76,16 @@ formed-remap : (π : ℕ → ℕ) (y : Gate) → formed (remapGate π y) ≡ for
 formed-remap π (Comb f ps) = ap (canHave f) (length-map ps (remap π))
 formed-remap π (Dff s) = refl
 
+-- what is a constant stays one, and nothing else becomes one
+const-remap : (π : ℕ → ℕ) (n : Node) → constNode (remapNode π n) ≡ constNode n
+const-remap π Const = refl
+const-remap π (Input i) = refl
+const-remap π (Var g) = refl
+
+plain-remap : (π : ℕ → ℕ) (y : Gate) → isPlain (remapGate π y) ≡ isPlain y
+plain-remap π (Comb f ps) = refl
+plain-remap π (Dff s) = simp const-remap
+
 pins-many : (π : ℕ → ℕ) (y : Gate) → length (pins (remapGate π y)) ≡ length (pins y)
 pins-many π y = ap length (pins-remap π y) ∙ length-map (pins y) (remap π)
 
@@ -112,10 +123,22 @@ module _ (net : Net) (valid : Valid net) (l : List ℕ) (e : sortOrder (graph ne
   pub kept-valid : Valid (permuted l net)
   kept-valid = renumbered-valid net (permuted l net) (placeOf l) (λ (i : ℕ). getD l i 0) (order-renumbers net valid l e) valid
 
-  pub kept-formed : Formed net → Formed (permuted l net)
-  kept-formed h i x is =
+  -- a test that renumbering does not change: each gate passes it, if each did before
+  kept-test : (p : Gate → Bool) → ((π : ℕ → ℕ) (y : Gate) → p (remapGate π y) ≡ p y) → ((g : ℕ) (y : Gate) → GateIs net g y → p y ≡ true)
+      → (i : ℕ) (x : Gate) → GateIs (permuted l net) i x → p x ≡ true
+  kept-test p same h i x is =
       let fr = order-renumbers net valid l e .gatesFrom i x is in
-      ap formed (fr .renamed) ∙ formed-remap (placeOf l) (fr .was) ∙ h (getD l i 0) (fr .was) (fr .wasAt)
+      ap p (fr .renamed) ∙ same (placeOf l) (fr .was) ∙ h (getD l i 0) (fr .was) (fr .wasAt)
+
+  pub kept-formed : Formed net → Formed (permuted l net)
+  kept-formed = kept-test formed formed-remap
+
+  -- plain flip-flops stay plain
+  kept-plain : all isPlain (net .gates) ≡ true → all isPlain (permuted l net .gates) ≡ true
+  kept-plain t =
+      mem-all isPlain (permuted l net .gates) (λ x m.
+      let at = mem-place (permuted l net .gates) x m in
+      kept-test isPlain plain-remap (λ g y is. all-mem isPlain (net .gates) t y (place-mem (net .gates) g y is)) (at .0) x (at .1))
 
   pub kept-gates : length (permuted l net .gates) ≡ length (net .gates)
   kept-gates = length-map l (λ (o : ℕ). remapGate (placeOf l) (gateOr net o)) ∙ sort-length (graph net) (graph-valid net valid) l e
@@ -134,3 +157,9 @@ module _ (net : Net) (valid : Valid net) (l : List ℕ) (e : sortOrder (graph ne
       cells-over (placeOf l) l
       ∙ sum-perm (length (net .gates)) (pinsAt (net .gates)) l (order-has net valid l e) (sort-permutes (graph net) (graph-valid net valid) l e)
       ∙ sym (length-pinCells (net .gates))
+
+-- a network whose flip-flops are plain is sorted into such a one
+pub sorted-plain : (net new : Net) → Valid net → sorted net ≡ some new → all isPlain (net .gates) ≡ true → all isPlain (new .gates) ≡ true
+sorted-plain net new valid e t =
+    let o = sorted-order net valid new e in
+    subst (λ (n : Net). all isPlain (n .gates) ≡ true) (o .2) (kept-plain net valid (o .0) (o .1) t)
