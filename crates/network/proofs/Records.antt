@@ -1,22 +1,19 @@
 -- The tests that refusal 20 asks for, as the code makes them. Assumes nothing.
 use mathlib.Core.Path.{_≡_, refl, sym, ap, ap₂, _∙_}
-use mathlib.Core.Bool.{Bool, true, false, true≢false, or-true}
+use mathlib.Core.Bool.{Bool, true, false, _||_, or-true}
 use mathlib.Core.List.{List}
 use mathlib.Core.Option.{none}
-use Prim.Native.Nat.{ℕ, suc, _+_, _-_, _*_, _/_, _≤_, _<_}
+use Prim.Native.Nat.{ℕ, suc, _+_, _-_, _*_, _/_, _^_, _≤_, _<_}
 use native.Mathlib.Omega.{arith}
 use native.Mathlib.Numerals.{add-one}
 use lib.Dec.{eqb, leb, ltb}
 use lib.ListN.{length, take, drop}
 use borrow.Author.Tests.{le-leb, lt-leb, le-ltb, lt-ltb, leb-true, not-true}
-use Rattle.lists.proofs.Tests.{and-false, and-left, and-right}
+use Rattle.lists.proofs.Tests.{by-order, and-false, and-left, and-right, or-false}
 use Rattle.lists.proofs.Places.{part-run}
 use Rattle.lists.proofs.Range.{TestedTo, to-start, to-next, to-fails, to-done}
-use Rattle.signal.specs.Signal.{Node, Const, Input, Var}
-use Rattle.signal.specs.between.Signal.{inputNode, gateNode}
 use Rattle.signal.specs.Cell.{nodeOf}
-use Rattle.signal.specs.between.Cell.{inputNumber, gateNumber}
-use Rattle.signal.proofs.Cells.{input-number, gate-number}
+use Rattle.signal.proofs.Cells as cells
 use Rattle.gates.specs.Forms.{canTake}
 use Rattle.gates.specs.between.Forms.{kindOf, kindTakes}
 use Rattle.gates.proofs.Forms.{take-kind}
@@ -26,6 +23,7 @@ use Rattle.gates.specs.declared.Decoded.{Decoded}
 use Rattle.gates.specs.declared.Decoded.the-variants.{Bad}
 use Rattle.network.specs.Cells.{sizesFit, startAt, recordFits, recordsFit, validNode, allValid, lent, isNetwork}
 use Rattle.network.specs.between.Sizes.{WithinSizes}
+use Rattle.network.specs.between.Cells.{FewNodes}
 use Rattle.network.specs.Record.{gateWidth, formAt, firstAt, countAt, runAt, hasRun, gateAt}
 use Rattle.network.specs.between.Record.{CellIs, decodedAt}
 use Rattle.network.specs.declared.Counts.{Counts}
@@ -34,20 +32,19 @@ use Rattle.network.proofs.RecordCells.{record-below, gate-none, decoded
 
 -- ---- valid signals
 
-module _ (inputs gates c : ℕ) where
-  pub valid-input : inputNode (nodeOf c) ≡ true → ltb (inputNumber c) inputs ≡ validNode inputs gates (nodeOf c)
-  valid-input t = sym (ap (validNode inputs gates) (input-number c t))
-
-  pub valid-gate : gateNode (nodeOf c) ≡ true → ltb (gateNumber c) gates ≡ validNode inputs gates (nodeOf c)
-  valid-gate t = sym (ap (validNode inputs gates) (gate-number c t))
-
-  pub valid-const : inputNode (nodeOf c) ≡ false → gateNode (nodeOf c) ≡ false → true ≡ validNode inputs gates (nodeOf c)
-  valid-const p q = go (nodeOf c) p q
-    where
-      go : (n : Node) → inputNode n ≡ false → gateNode n ≡ false → true ≡ validNode inputs gates n
-      go Const a b = refl
-      go (Input i) a b = absurd (true≢false a)
-      go (Var g) a b = absurd (true≢false b)
+-- a valid signal by the halves of its cell and of the cell's complement
+pub valid-halves : (inputs gates c : ℕ) → FewNodes inputs gates → c < 2 ^ 32 → (leb (c / 2) gates || ltb ((2 ^ 32 - 1 - c) / 2) inputs) ≡ validNode inputs gates (nodeOf c)
+valid-halves inputs gates c few low = by (cells.kind c)
+  where
+    by : cells.Kind c → (leb (c / 2) gates || ltb ((2 ^ 32 - 1 - c) / 2) inputs) ≡ validNode inputs gates (nodeOf c)
+    by (cells.const h e) = rw (e, le-leb (c / 2) gates (omega arith))
+    by (cells.gate h k e) =
+        rw (e, le-ltb ((2 ^ 32 - 1 - c) / 2) inputs (omega (arith, few .fewInputs)), or-false)
+        (by-order (c / 2) gates (λ l. le-leb (c / 2) gates l ∙ sym (lt-ltb (c / 2 - 1) gates (omega arith)))
+        (λ l. lt-leb (c / 2) gates l ∙ sym (le-ltb (c / 2 - 1) gates (omega arith))))
+    by (cells.input h e) =
+        let n : (2 ^ 32 - 1 - c) / 2 ≡ 2 ^ 31 - 1 - c / 2 = omega arith in
+        rw (e, lt-leb (c / 2) gates (omega (arith, few .fewGates)), n)
 
 -- ---- sizes
 

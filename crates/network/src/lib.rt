@@ -12,7 +12,7 @@ ghost use Rattle.lists.specs.between.Lists.{overwriteAt};
 ghost use Rattle.signal.specs.Cell.{nodeOf};
 ghost use Rattle.network.specs.Net.{inputsLower, sortedFrom};
 ghost use Rattle.network.specs.Cells.{lent, sizesFit, startAt, recordFits, recordsFit, validNode, allValid, isNetwork, orBuf, cellGates};
-ghost use Rattle.network.specs.between.Cells.{GateCells, NetCells};
+ghost use Rattle.network.specs.between.Cells.{FewNodes, GateCells, NetCells};
 ghost use Rattle.network.specs.Sizes.{maxGates, maxPins};
 ghost use Rattle.gates.specs.between.Decode.{pinCount, pinsIn};
 ghost use Rattle.network.specs.Record.{gateWidth, formAt, firstAt, countAt, runAt, gateAt};
@@ -37,21 +37,20 @@ pub struct Counts {
     pub outputs: usize,
 }
 
-// Whether a signal is an input below the input count, a gate below the gate count, or a constant.
+// Whether a signal is an input below the input count, a gate below the gate count, or a constant. Half of an input's cell is far above any
+// gate, and half of the other cells' complement far above any input, so that the two tests need no branch.
 pub fn is_valid(inputs: usize, gates: usize, s: Signal) -> bool
+    requires { ⌜ FewNodes inputs gates ⌝ }
     ensures { λ r. ⌜ r ≡ validNode inputs gates (nodeOf (s .a)) ⌝ }
 {
-    if s.is_input() {
-        return (s.input() as usize) < inputs;
-    }
-    if s.is_var() {
-        return (s.var() as usize) < gates;
-    }
-    true
+    let half = (s.raw() >> 1) as usize;
+    let other = (!s.raw() >> 1) as usize;
+    (half <= gates) | (other < inputs)
 }
 
 // Whether every cell holds a valid signal.
 pub fn all_valid(inputs: usize, gates: usize, cells: &[u32]) -> bool
+    requires { ⌜ FewNodes inputs gates ⌝ }
     ensures { λ r. ⌜ r ≡ allValid inputs gates (now (cells .entry)) ⌝ }
 {
     let mut i = 0;
@@ -238,7 +237,7 @@ pub fn check_layout(counts: Counts, gates: &[u32], pins: &[u32], outputs: &[u32]
 
 // Whether gate g is a flip-flop, or each of its gate inputs has a lower number: each input is a valid signal of the gates before it.
 fn inputs_lower(inputs: usize, gates: &[u32], pins: &[u32], g: usize) -> bool
-    requires { ⌜ ((n : ℕ) × GateCells inputs n (now gates) (now pins) g) ⌝ }
+    requires { ⌜ ((n : ℕ) × GateCells inputs n (now gates) (now pins) g × FewNodes inputs g) ⌝ }
     ensures { λ r. ⌜ r ≡ inputsLower g (orBuf (gateAt (now (gates .entry)) (now (pins .entry)) g)) ⌝ }
 {
     if form_at(gates, g) == gates::DFF {

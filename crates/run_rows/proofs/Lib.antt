@@ -11,3 +11,4 @@ pub mod Stepping
 pub mod Prepared
 pub mod Clocking
 pub mod Outcomes
+pub mod Summary

@@ -3,6 +3,7 @@ use mathlib.Core.Path.{_≡_, refl, sym, ap, ap₂, _∙_, subst}
 use mathlib.Core.Bool.{Bool, true, false, _&&_, true≢false, false≢true}
 use mathlib.Core.List.{List, _++_}
 use mathlib.Core.Option.{Option, none, some}
+use mathlib.Core.Logic.{inl, inr}
 use Prim.Native.Nat.{ℕ, suc, _-_, _*_, _/_, _%_, _^_, _≤_, _<_}
 use native.Mathlib.Omega.{arith}
 use native.Mathlib.Nat.{div-eq-of-eq-mul-left, mul-mod-left, div-lt-iff-lt-mul, le-div-iff-mul-le, div-add-mod'}
@@ -12,8 +13,10 @@ use lib.Seq.{take-at}
 use borrow.Author.Tests.{eqb-true, eq-eqb, leb-true, leb-false, lt-ltb, le-ltb}
 use Rattle.lists.specs.Lists.{Bytes, zeros, all}
 use Rattle.lists.proofs.OverAt.{zeros-behind}
-use Rattle.lists.proofs.Tests.{and-left, and-right}
+use Rattle.lists.proofs.Tests.{by-test, by-order, and-left, and-right}
 use Rattle.lists.proofs.Places.{run-getD}
+use Rattle.refusals.specs.Numbers.{InRunning}
+use Rattle.refusals.specs.declared.Refusal.{Refusal}
 use Rattle.refusals.specs.declared.Refusal.the-variants as refusal
 use Rattle.gates.specs.Gate.{isPlain}
 use Rattle.network.specs.Net.{Net, topoSorted}
@@ -23,6 +26,7 @@ use Rattle.network.specs.Cells.{Lent, Words, isNetwork, netOf}
 use Rattle.network.proofs.Lent.{network-cells, network-outs}
 use Rattle.run_rows.specs.Rows.{rowsText, rowsOf}
 use Rattle.run_rows.specs.Into.{RunOutcome, runOutcome, refusedRun, ranRows, outputRows, runOn, runInto}
+use Rattle.run_rows.specs.Ran.{RunsFor}
 use Rattle.run_rows.specs.between.Steps.{Clocked}
 use Rattle.run_rows.specs.between.Asks.{Runnable}
 use Rattle.run_rows.specs.declared.RunAnswer.the-variants.{Ran, Refused}
@@ -125,6 +129,50 @@ module _ (l : Lent) (t : Bytes) (n : ℕ) where
       pub runs-on : all isPlain (netOf l .gates) ≡ true → runOn (netOf l) (rowsOf (netOf l .inputs) t) n ≡ runInto l t n
       unfolding runInto
       runs-on e = rw (is, sorted, e)
+
+-- ---- the answers
+
+-- the four ways in which a run ends
+data Ways (l : Lent) (t : Bytes) (n : ℕ) : Type 0 where
+  refuses : (r : Refusal) → InRunning r → runInto l t n ≡ refusedRun r n → Ways l t n
+  answers : RunsFor l t n → Ways l t n
+
+pub runs-answer : (l : Lent) (t : Bytes) (n : ℕ) (f : RunsFor l t n) → runInto l t n ≡ ranRows (rowsText (run (netOf l) (f .rows))) n
+runs-answer l t n f =
+    sym (runs-on l t n (f .network) (f .sorted) (f .plain))
+    ∙ ap (λ (o : Option (List (List Bool))). runOn (netOf l) o n) (f .has)
+    ∙ rw (le-ltb n (length (rowsText (run (netOf l) (f .rows)))) (f .room))
+
+ways : (l : Lent) (t : Bytes) (n : ℕ) → Ways l t n
+ways l t n =
+    by-test (isNetwork l)
+    (λ a. by-test (topoSorted (netOf l))
+    (λ b. by-test (all isPlain (netOf l .gates)) (λ c. rest a b c (rowsOf (netOf l .inputs) t) refl)
+    (λ c. refuses refusal.OtherFlipFlop (inr (inr (inl refl))) (sym (not-plain l t n a b c))))
+    (λ b. refuses refusal.NotSorted (inr (inl refl)) (sym (not-sorted l t n a b))))
+    (λ a. refuses refusal.NotANetwork (inl refl) (sym (not-network l t n a)))
+  where
+    rest : isNetwork l ≡ true → topoSorted (netOf l) ≡ true → all isPlain (netOf l .gates) ≡ true → (o : Option (List (List Bool))) → rowsOf (netOf l .inputs) t ≡ o → Ways l t n
+    rest a b c none e = refuses refusal.WrongRows (inr (inr (inr refl))) (sym (runs-on l t n a b c) ∙ ap (λ (o : Option (List (List Bool))). runOn (netOf l) o n) e)
+    rest a b c (some rs) e =
+        by-order (length (rowsText (run (netOf l) rs))) n
+        (λ h. answers (record { network = a; sorted = b; plain = c; rows = rs; has = e; room = h }))
+        (λ h. refuses refusal.WrongRows (inr (inr (inr refl)))
+        (sym (runs-on l t n a b c) ∙ ap (λ (o : Option (List (List Bool))). runOn (netOf l) o n) e ∙ rw (lt-ltb n (length (rowsText (run (netOf l) rs))) h)))
+
+pub answers-run : (l : Lent) (t : Bytes) (n k : ℕ) → runInto l t n .answer ≡ Ran k → RunsFor l t n
+answers-run l t n k e = by (ways l t n)
+  where
+    by : Ways l t n → RunsFor l t n
+    by (refuses r i q) = absurd (let z : _≡_ {A = ℕ} 0 1 = (let w = ap (λ (o : RunOutcome). o .answer) q in cc) in omega arith)
+    by (answers f) = f
+
+pub running-refuses : (l : Lent) (t : Bytes) (n : ℕ) (r : Refusal) → runInto l t n .answer ≡ Refused r → InRunning r
+running-refuses l t n r e = by (ways l t n)
+  where
+    by : Ways l t n → InRunning r
+    by (refuses s i q) = let w : s ≡ r = (let v = ap (λ (o : RunOutcome). o .answer) q in cc) in subst InRunning w i
+    by (answers f) = absurd (let z : _≡_ {A = ℕ} 0 1 = (let w = ap (λ (o : RunOutcome). o .answer) (runs-answer l t n f) in cc) in omega arith)
 
 -- a lent network that is sorted, with plain flip-flops
 pub lent-runnable : (l : Lent) → Words l → isNetwork l ≡ true → topoSorted (netOf l) ≡ true → all isPlain (netOf l .gates) ≡ true

@@ -18,11 +18,7 @@ use Rattle.lists.proofs.Same.{same-is}
 use Rattle.network.specs.Net.{Net}
 use Rattle.network.specs.Clock.{sigBit}
 use Rattle.network.specs.Settle.{settle, nextOf, runFrom}
-use Rattle.run_rows.specs.Rows.{digit, lineEnd, rowText, rowsText, isDigit, bitOf, rowOf, rowBefore, rowsIn, rowsOf}
-
--- each row has n bits
-abbrev pub Wide : ℕ → List (List Bool) → Type 0
-Wide n rows = (row : List Bool) → List·Memᴰ row rows → length row ≡ n
+use Rattle.run_rows.specs.Rows.{digit, lineEnd, rowText, rowsText, isDigit, bitOf, rowOf, rowBefore, rowsIn, rowsOf, Wide}
 
 -- ---- one row
 

@@ -1,3 +1,4 @@
 pub mod Rows
 pub mod Into
+pub mod Ran
 pub mod between

@@ -1,8 +1,10 @@
 -- A text of rows (document 02, CR 1: "rows of 0 and 1, each ended by LF, one per clock"). Assumes nothing: these are definitions.
 --   rowText bits, rowsText rows   rows of bits as a text
 --   rowsOf n text                 the rows of n bits that a text has; none where it has others
+--   Wide n rows                   each row has n bits
+use mathlib.Core.Path.{_≡_}
 use mathlib.Core.Bool.{Bool, true, false, _&&_, _||_}
-use mathlib.Core.List.{List, [], _∷_, _++_, map}
+use mathlib.Core.List.{List, [], _∷_, _++_, map, List·Memᴰ}
 use mathlib.Core.Option.{Option, none, some}
 use Prim.Native.Nat.{ℕ, zero, suc, _/_}
 use lib.Dec.{eqb}
@@ -58,3 +60,7 @@ rowsIn n (suc k) t = rowBefore (rowOf n (take (suc n) t)) (rowsIn n k (drop (suc
 -- the rows of n bits that a text has; none where "a row has the wrong length, another character or no LF"
 unfoldable pub rowsOf : ℕ → Bytes → Option (List (List Bool))
 rowsOf n t = rowsIn n (length t / suc n) t
+
+-- each row has n bits
+abbrev pub Wide : ℕ → List (List Bool) → Type 0
+Wide n rows = (row : List Bool) → List·Memᴰ row rows → length row ≡ n

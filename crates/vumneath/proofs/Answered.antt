@@ -1,15 +1,23 @@
--- What C's `refused` tells: 0 exactly on success, else a number of reading or of writing. Assumes nothing.
-use mathlib.Core.Path.{_≡_, refl, sym, ap, _∙_}
+-- What C's `refused` tells: 0 exactly on success, else a number of reading, of writing or of a run. Assumes nothing.
+use mathlib.Core.Path.{_≡_, refl, sym, ap, _∙_, subst}
 use mathlib.Core.Bool.{Bool, true, false, not}
+use mathlib.Core.List.{List}
+use mathlib.Core.Option.{Option, none, some}
+use mathlib.Core.Logic.{_⊎_, inl, inr}
 use Prim.Native.Nat.{ℕ}
 use native.Mathlib.Omega.{arith}
+use lib.Dec.{ltb}
+use lib.ListN.{length}
 use borrow.Author.Tests.{not-false}
-use Rattle.lists.specs.Lists.{if_then_else_, Bytes, any}
-use Rattle.refusals.specs.Numbers.{numberOf, InReading, InWriting}
+use Rattle.lists.specs.Lists.{if_then_else_, Bytes, any, all}
+use Rattle.lists.proofs.Tests.{by-test}
+use Rattle.refusals.specs.Numbers.{numberOf, InReading, InWriting, InRunning}
 use Rattle.refusals.specs.declared.Refusal.{Refusal}
 use Rattle.refusals.specs.declared.Refusal.the-variants as refusal
 use Rattle.refusals.proofs.Numbers.{number-pos}
-use Rattle.network.specs.Net.{Net}
+use Rattle.gates.specs.Gate.{isPlain}
+use Rattle.network.specs.Net.{Net, topoSorted}
+use Rattle.network.specs.Settle.{run}
 use Rattle.network.specs.Cells.{Lent, netOf, isNetwork}
 use Rattle.blif_writing.specs.WrittenModel.{wide}
 use Rattle.blif_writing.specs.Text.{textOf}
@@ -24,7 +32,14 @@ use Rattle.blif_write.proofs.Answers.{in-slice, in-text}
 use Rattle.blif_write.proofs.Summary.{writing-refuses}
 use Rattle.round_trip.specs.Conditions.{WrittenFrom}
 use Rattle.round_trip.proofs.Demand.{text-written}
-use Rattle.vumneath.specs.Handed.{networkOf, textFor}
+use Rattle.run_rows.specs.Rows.{rowsText, rowsOf}
+use Rattle.run_rows.specs.Into.{RunOutcome, runOn, runInto}
+use Rattle.run_rows.specs.Ran.{RunsFor}
+use Rattle.run_rows.specs.declared.RunAnswer.{RunAnswer}
+use Rattle.run_rows.specs.declared.RunAnswer.the-variants as rows
+use Rattle.run_rows.proofs.Outcomes.{runs-on}
+use Rattle.run_rows.proofs.Summary.{runs-answer, answers-run, running-refuses}
+use Rattle.vumneath.specs.Handed.{networkOf, textFor, rowsFor}
 
 -- ---- reading
 
@@ -96,3 +111,35 @@ answer-refused (written.Refused k) w f = (k, w k refl, refl, refl)
 pub write-refused : (l : Lent) (n : ℕ) → (textFor (writeInto l n .answer) .refused ≡ 0 → ⊥)
     → (k : Refusal) × InWriting k × (writeInto l n .answer ≡ written.Refused k) × (textFor (writeInto l n .answer) .refused ≡ numberOf k)
 write-refused l n f = answer-refused (writeInto l n .answer) (writing-refuses l n) f
+
+-- ---- running
+
+-- an answer that is handed over with 0 is a length
+answer-zero : (a : RunAnswer) → rowsFor a .refused ≡ 0 → (k : ℕ) × (a ≡ rows.Ran k)
+answer-zero (rows.Ran k) z = (k, refl)
+answer-zero (rows.Refused r) z = absurd (omega (arith, number-pos r, z))
+
+pub run-zero : (l : Lent) (t : Bytes) (n : ℕ) → rowsFor (runInto l t n .answer) .refused ≡ 0 → RunsFor l t n
+run-zero l t n z = let k = answer-zero (runInto l t n .answer) z in answers-run l t n (k .0) (k .1)
+
+pub run-success : (l : Lent) (t : Bytes) (n : ℕ) → RunsFor l t n → rowsFor (runInto l t n .answer) .refused ≡ 0
+run-success l t n f = ap (λ (o : RunOutcome). rowsFor (o .answer) .refused) (runs-answer l t n f)
+
+-- any other number is one of a run's
+rows-refused : (a : RunAnswer) → ((k : Refusal) → a ≡ rows.Refused k → InRunning k) → (rowsFor a .refused ≡ 0 → ⊥)
+    → (k : Refusal) × InRunning k × (a ≡ rows.Refused k) × (rowsFor a .refused ≡ numberOf k)
+rows-refused (rows.Ran m) w f = absurd (f refl)
+rows-refused (rows.Refused k) w f = (k, w k refl, refl, refl)
+
+pub run-refused : (l : Lent) (t : Bytes) (n : ℕ) → (rowsFor (runInto l t n .answer) .refused ≡ 0 → ⊥)
+    → (k : Refusal) × InRunning k × (runInto l t n .answer ≡ rows.Refused k) × (rowsFor (runInto l t n .answer) .refused ≡ numberOf k)
+run-refused l t n f = rows-refused (runInto l t n .answer) (running-refuses l t n) f
+
+-- a network that passes 20, 29 and 30 is refused by 31 alone
+pub run-rows-only : (l : Lent) (t : Bytes) (n : ℕ) → isNetwork l ≡ true → topoSorted (netOf l) ≡ true → all isPlain (netOf l .gates) ≡ true
+    → (rowsFor (runInto l t n .answer) .refused ≡ 0) ⊎ (rowsFor (runInto l t n .answer) .refused ≡ 31)
+run-rows-only l t n a b c = subst (λ (o : RunOutcome). (rowsFor (o .answer) .refused ≡ 0) ⊎ (rowsFor (o .answer) .refused ≡ 31)) (runs-on l t n a b c) (by (rowsOf (netOf l .inputs) t))
+  where
+    by : (o : Option (List (List Bool))) → (rowsFor (runOn (netOf l) o n .answer) .refused ≡ 0) ⊎ (rowsFor (runOn (netOf l) o n .answer) .refused ≡ 31)
+    by none = inr refl
+    by (some rs) = by-test (ltb n (length (rowsText (run (netOf l) rs)))) (λ e. inr (rw e)) (λ e. inl (rw e))

@@ -1,4 +1,4 @@
--- What reading and writing answer fits into 32 bits, and is handed over as it is. Assumes nothing.
+-- What reading and writing answer fits into 32 bits, and each answer is handed over as it is. Assumes nothing.
 use mathlib.Core.Path.{_≡_, refl, sym, ap, _∙_, subst}
 use mathlib.Core.Bool.{Bool, true, false}
 use mathlib.Core.List.{List}
@@ -20,10 +20,13 @@ use Rattle.blif_write.specs.Into.{writeInto, WriteOutcome, writeOutcome}
 use Rattle.blif_write.specs.declared.WriteAnswer.{WriteAnswer}
 use Rattle.blif_write.specs.declared.WriteAnswer.the-variants as written
 use Rattle.blif_write.proofs.Answers.{Ways, refuses, writes, writer-ways}
-use Rattle.vumneath.specs.Handed.{networkOf, textFor, ReadHanded, WriteHanded}
+use Rattle.run_rows.specs.Into.{RunOutcome, runOutcome}
+use Rattle.run_rows.specs.declared.RunAnswer.{RunAnswer}
+use Rattle.vumneath.specs.Handed.{networkOf, textFor, rowsFor, ReadHanded, WriteHanded, RunHanded}
 use Rattle.vumneath.specs.between.Handed.{CountsFit, LengthFits}
 use Rattle.vumneath.specs.declared.VumneathNetwork.{VumneathNetwork}
 use Rattle.vumneath.specs.declared.VumneathText.{VumneathText}
+use Rattle.vumneath.specs.declared.VumneathRows.{VumneathRows}
 
 -- whatever reading answers, its counts are within the sizes
 pub counts-fit : (text : Bytes) (n : Lengths) (a : ReadAnswer) (gs ps os wgs wps : List ℕ) → readOutcome a gs ps os wgs wps ≡ readInto text n → CountsFit a
@@ -70,4 +73,11 @@ pub write-handed : (o : WriteOutcome) (a : WriteAnswer) (t : Bytes) (r : Vumneat
 write-handed o a t r e q = record {
   answer = q ∙ ap (λ (x : WriteOutcome). textFor (x .answer)) e;
   bytes = ap (λ (x : WriteOutcome). x .out) e;
+}
+
+-- and of a run
+pub run-handed : (o : RunOutcome) (a : RunAnswer) (t : Bytes) (r : VumneathRows) → runOutcome a t ≡ o → r ≡ rowsFor a → RunHanded o r t
+run-handed o a t r e q = record {
+  answer = q ∙ ap (λ (x : RunOutcome). rowsFor (x .answer)) e;
+  bytes = ap (λ (x : RunOutcome). x .out) e;
 }

@@ -1,24 +1,27 @@
 -- What the exported functions promise, as a maker would read it: each theorem is over what their contracts say of the struct and of every
--- cell and byte (`ReadHanded`, `WriteHanded`, specs/Handed). Assumes nothing.
---   refused-reading, refused-writing  `refused` is 0 exactly on success, else a number of 1 to 14, of 20 to 22
+-- cell and byte (`ReadHanded`, `WriteHanded`, `RunHanded`, specs/Handed). Assumes nothing.
+--   refused-reading, refused-writing, refused-running  `refused` is 0 exactly on success, else a number of 1 to 14, of 20 to 22, of 20 and 29 to 31
 --   read-outputs    the network in the cells has exactly the outputs that the text has, by the Berkeley text
 --   text-written    the bytes up to the length are the network's text
+--   rows-run        the rows written are the only ones that document 01's clock allows
+--   read-runs       a network that one call read is never refused by 20, 29 or 30 when the other runs it
+--   read-then-run   reading a text and running it gives exactly the outputs that the text has by the Berkeley text
 --   handed-back     demand 3: written by one call, read back by the other
 --   never-shared    two networks that share a text agree in every output
 --   texts-differ    so two that differ never share a text
 use mathlib.Core.Path.{_≡_, sym, ap, _∙_, subst}
 use mathlib.Core.Bool.{Bool, true}
 use mathlib.Core.List.{List}
-use mathlib.Core.Logic.{_↔_, _⊎_, inl, inr}
+use mathlib.Core.Logic.{_↔_, _⊎_, inl, inr, ⊎-elim}
 use Prim.Native.Nat.{ℕ}
 use native.Mathlib.Omega.{arith}
 use lib.ListN.{length, take, length-replicate}
 use Rattle.lists.specs.Lists.{Bytes, zeros, overwrite}
 use Rattle.lists.proofs.Over.{take-overwrite}
-use Rattle.refusals.specs.Numbers.{numberOf, InReading, InWriting}
+use Rattle.refusals.specs.Numbers.{numberOf, InReading, InWriting, InRunning}
 use Rattle.refusals.specs.declared.Refusal.{Refusal}
 use Rattle.network.specs.Net.{Net}
-use Rattle.network.specs.Cells.{Lent, lent, netOf, Words, countsOf}
+use Rattle.network.specs.Cells.{Lent, lent, netOf, isNetwork, Words, countsOf}
 use Rattle.network.specs.Clock.{NetRuns}
 use Rattle.network.specs.Settle.{run, SameOutputs}
 use Rattle.blif_meaning.specs.Model.{BlifRuns}
@@ -29,17 +32,24 @@ use Rattle.round_trip.specs.Conditions.{PlainNet, WrittenFrom}
 use Rattle.blif_read.specs.Into.{Lengths, enough, answered, readInto}
 use Rattle.blif_read.specs.declared.ReadAnswer.the-variants as answer-read
 use Rattle.blif_read.proofs.Summary.{read-counts}
-use Rattle.blif_read.proofs.CellsRead.{read-decodes}
+use Rattle.blif_read.proofs.CellsRead.{read-layout, read-decodes}
 use Rattle.blif_write.specs.Into.{writeInto, WriteOutcome}
 use Rattle.blif_write.specs.declared.WriteAnswer.the-variants as written
 use Rattle.round_trip.specs.Trip.{RoundTripConditions}
 use Rattle.round_trip.proofs.Demand as demand
 use Rattle.round_trip.proofs.Summary as trip
+use Rattle.blif_reading.proofs.ReadNet.{NetRead, read-net}
 use Rattle.blif_reading.proofs.Summary as reading
-use Rattle.vumneath.specs.Handed.{networkOf, textFor, ReadHanded, WriteHanded, countsHanded, netHanded, HandedBack}
+use Rattle.run_rows.specs.Rows.{rowsText}
+use Rattle.run_rows.specs.Into.{RunOutcome, runInto}
+use Rattle.run_rows.specs.Ran.{RunsFor, RanFor}
+use Rattle.run_rows.specs.declared.RunAnswer.the-variants as ran
+use Rattle.run_rows.proofs.Summary.{runs-answer, ran-rows, ran-text}
+use Rattle.vumneath.specs.Handed.{networkOf, textFor, rowsFor, ReadHanded, WriteHanded, RunHanded, countsHanded, netHanded, HandedBack, TextRan}
 use Rattle.vumneath.specs.declared.VumneathNetwork.{VumneathNetwork}
 use Rattle.vumneath.specs.declared.VumneathText.{VumneathText}
-use Rattle.vumneath.proofs.Answered.{read-zero, read-success, read-refused, write-zero, write-success, write-refused}
+use Rattle.vumneath.specs.declared.VumneathRows.{VumneathRows}
+use Rattle.vumneath.proofs.Answered.{read-zero, read-success, read-refused, write-zero, write-success, write-refused, run-zero, run-success, run-refused, run-rows-only}
 
 -- ---- reading
 
@@ -103,6 +113,69 @@ module _ (l : Lent) (n : ℕ) {w : VumneathText} {out : Bytes} (h : WriteHanded 
       let k : w .length ≡ length (textOf (netOf l)) = ap (λ (x : VumneathText). x .length) (h .answer ∙ ap (λ (o : WriteOutcome). textFor (o .answer)) is) in
       let t : out ≡ overwrite (textOf (netOf l)) (zeros n) = h .bytes ∙ ap (λ (o : WriteOutcome). o .out) is in
       (λ i. take (k i) (t i)) ∙ take-overwrite (textOf (netOf l)) (zeros n) (omega (arith, f .room, length-replicate {A = ℕ} n 0))
+
+-- ---- running
+
+module _ (l : Lent) (t : Bytes) (n : ℕ) {w : VumneathRows} {out : Bytes} (h : RunHanded (runInto l t n) w out) where
+  -- the number that was handed over
+  told-running : w .refused ≡ rowsFor (runInto l t n .answer) .refused
+  told-running = ap (λ (x : VumneathRows). x .refused) (h .answer)
+
+  -- every lent network and every text of rows gets a length or a numbered refusal: 0 is told exactly where nothing refuses, and any other
+  -- number is that of the refusal, one of 20, 29, 30 and 31
+  pub refused-running : ((w .refused ≡ 0) ↔ RunsFor l t n)
+      × ((w .refused ≡ 0 → ⊥) → (k : Refusal) × InRunning k × (runInto l t n .answer ≡ ran.Refused k) × (w .refused ≡ numberOf k))
+  refused-running = (
+    ((λ z. run-zero l t n (sym told-running ∙ z)), (λ f. told-running ∙ run-success l t n f)),
+    (λ f. let k = run-refused l t n (λ z. f (told-running ∙ z)) in (k .0, k .1, k .2, told-running ∙ k .3)),
+  )
+
+  length-run : (f : RunsFor l t n) → w .length ≡ length (rowsText (run (netOf l) (f .rows)))
+  length-run f = ap (λ (x : VumneathRows). x .length) (h .answer ∙ ap (λ (o : RunOutcome). rowsFor (o .answer)) (runs-answer l t n f))
+
+  -- where a length is answered, the rows written are, clock by clock, the only ones that document 01's clock allows from zero
+  pub rows-run : Words l → w .refused ≡ 0 → RanFor (netOf l) t (w .length) out
+  rows-run words z =
+      let f = refused-running .0 .0 z in
+      ran-rows l t n words f (length-run f) (h .bytes)
+
+-- ---- reading and running
+
+module _ (text : Bytes) (m : Lengths) {r : VumneathNetwork} {gs ps os wgs wps : List ℕ} (h : ReadHanded (readInto text m) r gs ps os wgs wps) (z : r .refused ≡ 0)
+    (t : Bytes) (n : ℕ) {w : VumneathRows} {out : Bytes} (ran : RunHanded (runInto (lent (countsHanded r) gs ps os) t n) w out) where
+  -- the lent network is the one that was read
+  abbrev lent-read : Lent
+  lent-read = lent (countsHanded r) gs ps os
+
+  is-network : isNetwork lent-read ≡ true
+  is-network =
+      let q = was text m h z in
+      (λ i. isNetwork (lent (counts-are text m h z i) (h .gates i) (h .pins i) (h .outputs i))) ∙ read-layout text (q .0) m (q .1) (q .2)
+
+  known : NetRead (netOf lent-read)
+  known = let q = was text m h z in subst NetRead (sym (net-is text m h z)) (read-net text (q .0) (q .2))
+
+  -- 20, 29 and 30 refuse no network that was read: 31 alone can
+  pub read-runs : (w .refused ≡ 0) ⊎ (w .refused ≡ 31)
+  read-runs =
+      ⊎-elim (λ e. inl (told-running lent-read t n ran ∙ e)) (λ e. inr (told-running lent-read t n ran ∙ e))
+      (run-rows-only lent-read t n is-network (known .sorted) (known .plain))
+
+  -- where a length is answered, the rows written are exactly the outputs that the text has by the Berkeley text, for every list of rows, the
+  -- empty one too
+  pub read-then-run : w .refused ≡ 0 → TextRan text (r .inputs) t (w .length) out
+  unfolding netOf
+  read-then-run e =
+      let f = refused-running lent-read t n ran .0 .0 e in
+      let k = length-run lent-read t n ran f in
+      record {
+        rows = f .rows;
+        has = f .has;
+        outs = run (netOf lent-read) (f .rows);
+        only = λ others. read-outputs text m h z (f .rows) others .1;
+        written = ran-text lent-read t n f k (ran .bytes);
+        long = k;
+      }
 
 -- ---- demand 3
 

@@ -1,7 +1,10 @@
--- What the exported functions hand to their callers: the answers of `read_blif` and `write_blif` as structs in C's layout. Assumes
--- nothing: these are definitions.
+-- What the exported functions hand to their callers: the answers of `read_blif`, `write_blif` and `run_rows` as structs in C's layout.
+-- Assumes nothing: these are definitions.
 use mathlib.Core.Path.{_≡_}
+use mathlib.Core.Bool.{Bool}
 use mathlib.Core.List.{List}
+use mathlib.Core.Option.{some}
+use mathlib.Core.Logic.{_↔_}
 use Prim.Native.Nat.{ℕ}
 use lib.ListN.{length, take}
 use Rattle.lists.specs.Lists.{Bytes}
@@ -10,6 +13,8 @@ use Rattle.network.specs.Net.{Net}
 use Rattle.network.specs.Settle.{SameOutputs}
 use Rattle.network.specs.Cells.{lent, netOf}
 use Rattle.network.specs.declared.Counts.{Counts}
+use Rattle.blif_meaning.specs.Model.{BlifRuns}
+use Rattle.blif_reading.specs.TextModel.{modelOfText}
 use Rattle.blif_writing.specs.Text.{textOf}
 use Rattle.blif_read.specs.Into.{ReadOutcome}
 use Rattle.blif_read.specs.declared.ReadAnswer.{ReadAnswer}
@@ -17,8 +22,13 @@ use Rattle.blif_read.specs.declared.ReadAnswer.the-variants as read
 use Rattle.blif_write.specs.Into.{WriteOutcome}
 use Rattle.blif_write.specs.declared.WriteAnswer.{WriteAnswer}
 use Rattle.blif_write.specs.declared.WriteAnswer.the-variants as write
+use Rattle.run_rows.specs.Rows.{rowsText, rowsOf}
+use Rattle.run_rows.specs.Into.{RunOutcome}
+use Rattle.run_rows.specs.declared.RunAnswer.{RunAnswer}
+use Rattle.run_rows.specs.declared.RunAnswer.the-variants as rows
 use Rattle.vumneath.specs.declared.VumneathNetwork.{VumneathNetwork}
 use Rattle.vumneath.specs.declared.VumneathText.{VumneathText}
+use Rattle.vumneath.specs.declared.VumneathRows.{VumneathRows}
 
 -- "refused is 0 on success, else the refusal's number; the counts are then 0"
 abbrev pub networkOf : ReadAnswer → VumneathNetwork
@@ -29,6 +39,11 @@ networkOf (read.Refused r) = record { refused = numberOf r; inputs = 0; gates = 
 abbrev pub textFor : WriteAnswer → VumneathText
 textFor (write.Written n) = record { refused = 0; length = n }
 textFor (write.Refused r) = record { refused = numberOf r; length = 0 }
+
+-- the same of a run: the length of the rows written, or the refusal's number
+abbrev pub rowsFor : RunAnswer → VumneathRows
+rowsFor (rows.Ran n) = record { refused = 0; length = n }
+rowsFor (rows.Refused r) = record { refused = numberOf r; length = 0 }
 
 -- what was handed over is an outcome of reading: the answer in C's struct, and every cell of the five slices
 pub record ReadHanded (o : ReadOutcome) (r : VumneathNetwork) (gs ps os wgs wps : List ℕ) : Type 0 where
@@ -49,6 +64,13 @@ pub record ReadHanded (o : ReadOutcome) (r : VumneathNetwork) (gs ps os wgs wps 
 pub record WriteHanded (o : WriteOutcome) (r : VumneathText) (out : Bytes) : Type 0 where
   -- the struct is the answer
   pub answer : r ≡ textFor (o .answer)
+  -- the bytes
+  pub bytes : out ≡ o .out
+
+-- what was handed over is an outcome of a run: the answer in C's struct, and every byte of the output slice
+pub record RunHanded (o : RunOutcome) (r : VumneathRows) (out : Bytes) : Type 0 where
+  -- the struct is the answer
+  pub answer : r ≡ rowsFor (o .answer)
   -- the bytes
   pub bytes : out ≡ o .out
 
@@ -76,3 +98,21 @@ pub record HandedBack (net : Net) (w : VumneathText) (out : Bytes) (r : Vumneath
   pub outputs : r .outputs ≡ length (net .outputs)
   -- the network in the cells gives the outputs of the one lent, for every list of rows
   pub same : SameOutputs (netHanded r gs ps os) net
+
+-- ---- a text that is read and run
+
+-- what two calls handed over, one that read the text and one that ran the network read for the rows of `given`, a bit for each of its
+-- inputs: the rows written are the outputs that the text has by the Berkeley text, and no others
+pub record TextRan (text : Bytes) (inputs : ℕ) (given : Bytes) (k : ℕ) (out : Bytes) : Type 0 where
+  -- rows
+  pub rows : List (List Bool)
+  -- which the given text has
+  pub has : rowsOf inputs given ≡ some rows
+  -- rows of outputs
+  pub outs : List (List Bool)
+  -- the only ones that the text has for these rows
+  pub only : (others : List (List Bool)) → BlifRuns (modelOfText text) rows others ↔ (others ≡ outs)
+  -- the bytes are their text
+  pub written : take k out ≡ rowsText outs
+  -- all of it
+  pub long : k ≡ length (rowsText outs)

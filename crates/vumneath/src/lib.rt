@@ -4,12 +4,15 @@ use blif_read::read_blif;
 use blif_write::WriteAnswer;
 use blif_write::write_blif;
 use network::Counts;
+use run_rows::RunAnswer;
+use run_rows::run_rows;
 ghost use mathlib.Core.Path.{_≡_};
 ghost use lib.ListN.{length};
 ghost use Rattle.network.specs.Cells.{lent};
 ghost use Rattle.blif_read.specs.Into.{lengths, readInto};
 ghost use Rattle.blif_write.specs.Into.{writeInto};
-ghost use Rattle.vumneath.specs.Handed.{networkOf, textFor, ReadHanded, WriteHanded};
+ghost use Rattle.run_rows.specs.Into.{runInto};
+ghost use Rattle.vumneath.specs.Handed.{networkOf, textFor, rowsFor, ReadHanded, WriteHanded, RunHanded};
 ghost use Rattle.vumneath.specs.between.Handed.{CountsFit, LengthFits};
 
 // What reading answers: refused is zero and the counts are those of the network, or refused is the refusal's number and the counts are
@@ -28,6 +31,14 @@ pub struct VumneathNetwork {
 pub struct VumneathText {
     pub refused: u32,
     pub length: u32,
+}
+
+// What a run answers: refused is zero and the length is that of the rows written, or refused is the refusal's number and the length is
+// zero.
+#[repr(C)]
+pub struct VumneathRows {
+    pub refused: u32,
+    pub length: usize,
 }
 
 // The reader's answer in C's layout.
@@ -64,6 +75,22 @@ fn text_of(answer: WriteAnswer) -> VumneathText
             length: n as u32,
         },
         WriteAnswer::Refused(refusal) => VumneathText {
+            refused: refusal.number(),
+            length: 0,
+        },
+    }
+}
+
+// The run's answer in C's layout.
+fn rows_of(answer: RunAnswer) -> VumneathRows
+    ensures { λ r. ⌜ r ≡ rowsFor answer ⌝ }
+{
+    match answer {
+        RunAnswer::Ran(n) => VumneathRows {
+            refused: 0,
+            length: n,
+        },
+        RunAnswer::Refused(refusal) => VumneathRows {
             refused: refusal.number(),
             length: 0,
         },
@@ -115,4 +142,32 @@ pub extern "C" fn vumneath_write_blif(
     };
     let answer = write_blif(counts, gates, pins, outputs, out);
     text_of(answer)
+}
+
+// Runs the lent network for the rows, and writes a row of outputs for each (run_rows' `run_rows`).
+#[no_mangle]
+pub extern "C" fn vumneath_run(
+    inputs: u32,
+    gate_count: u32,
+    pin_count: u32,
+    output_count: u32,
+    gates: &[u32],
+    pins: &[u32],
+    outputs: &[u32],
+    rows: &[u8],
+    out: &mut [u8],
+) -> VumneathRows
+    ensures { λ r.
+        let l = lent (record { inputs = inputs; gates = «gate_count»; pins = «pin_count»; outputs = «output_count» })
+        (now (gates .entry)) (now (pins .entry)) (now (outputs .entry)) in
+        ⌜ RunHanded (runInto l (now (rows .entry)) (length (now (out .entry)))) r (now (out .exit)) ⌝ }
+{
+    let counts = Counts {
+        inputs: inputs as usize,
+        gates: gate_count as usize,
+        pins: pin_count as usize,
+        outputs: output_count as usize,
+    };
+    let answer = run_rows(counts, gates, pins, outputs, rows, out);
+    rows_of(answer)
 }

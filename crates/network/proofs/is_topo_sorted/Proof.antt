@@ -20,7 +20,9 @@ loop-holds : tie.Need-loop-holds Inv-loop μ-loop
 loop-holds c = to-start
 
 inputs-lower-requires : tie.Need-inputs-lower-requires Inv-loop μ-loop
-inputs-lower-requires c κs = (_, c .before .before .before .before .pre .each _ (c .loop-test .taken))
+inputs-lower-requires c κs =
+    let pre = c .before .before .before .before .pre in
+    (_, pre .each _ (c .loop-test .taken), record { fewInputs = pre .fewInputs; fewGates = omega (arith, pre .fewGates) })
 
 returns : tie.Need-returns Inv-loop μ-loop
 returns c =

@@ -30,6 +30,13 @@ pub record Laid (net : Net) (l : Lent) : Type 0 where
 
 -- ---- the gates of a network in cells
 
+-- so few inputs and gates that the low half of a cell, or of its complement, tells them apart
+pub record FewNodes (inputs gates : ℕ) : Type 0 where
+  -- "256 inputs"
+  pub fewInputs : inputs ≤ maxInputs
+  -- "1,024 gates"
+  pub fewGates : gates ≤ maxGates
+
 -- gate g of n, with so many inputs, as the cells of a network have it
 pub record GateCells (inputs n : ℕ) (cells ps : List ℕ) (g : ℕ) : Type 0 where
   -- the gate
