@@ -24,7 +24,7 @@ import operator
 import os
 from typing import Iterable, List, NamedTuple, Optional, Tuple, Union
 
-__version__ = "0.2.0"
+__version__ = "0.3.0"
 
 MAX_TEXT = 32768
 MAX_INPUTS = 256

@@ -3,24 +3,23 @@ use mathlib.Core.Path.{_≡_, refl, sym, ap, ap₂, _∙_, subst}
 use mathlib.Core.Bool.{Bool, true, _&&_}
 use mathlib.Core.List.{List, [], _∷_, map, List·Memᴰ, List·Memᴰ·head, List·Memᴰ·tail}
 use mathlib.Core.Option.{some, Option·none-ne-some}
-use Prim.Native.Nat.{ℕ, zero, suc, _+_, _≤_, _<_}
+use Prim.Native.Nat.{ℕ, zero, suc, _+_, _<_}
 use native.Mathlib.Omega.{arith}
-use lib.Dec.{eqb}
-use lib.ListN.{length, getElem?}
-use borrow.Author.Tests.{lt-ltb, ltb-true, eqb-true}
+use lib.ListN.{getElem?}
+use borrow.Author.Tests.{lt-ltb, ltb-true}
 use Rattle.lists.specs.Lists.{all, range}
-use Rattle.lists.proofs.Tests.{and-left, and-right, and-both, by-test}
+use Rattle.lists.proofs.Tests.{and-left, and-right, and-both}
 use Rattle.lists.proofs.Range.{all-mem, mem-all}
 use Rattle.signal.specs.Signal.{Node, Const, Input, Var, Signal}
 use Rattle.signal.specs.Cell.{nodeOf, sigOf}
-use Rattle.gates.specs.Gate.{Form, Gate, Comb, Dff, pins}
+use Rattle.gates.specs.Gate.{Gate, Comb, Dff, pins}
 use Rattle.gates.specs.Forms.{formCell, flopNumber}
 use Rattle.gates.proofs.Forms.{comb-other}
-use Rattle.network.specs.Net.{Net, GateIs, Loop, lowerThan, inputsLower, sortedFrom, topoSorted}
+use Rattle.network.specs.Net.{Net, lowerThan, inputsLower, sortedFrom, topoSorted}
 use Rattle.network.specs.Cells.{validNode, allValid, orBuf}
 use Rattle.network.specs.Record.{formAt, runAt, gateAt}
 use Rattle.network.specs.between.Cells.{GateCells}
-use Rattle.network.proofs.OneChoice.{RisesBy, rises-free}
+use Rattle.network.proofs.OneChoice.{RisesBy}
 
 -- ---- what the test says
 

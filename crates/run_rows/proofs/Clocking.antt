@@ -1,19 +1,18 @@
 -- Laws for a clock after the other: what the rows left lead to is what all rows do. Assumes nothing.
 use mathlib.Core.Path.{_≡_, refl, sym, ap, ap₂, _∙_, subst}
-use mathlib.Core.Bool.{Bool, true, false, true≢false, _&&_}
-use mathlib.Core.List.{List, [], _∷_, _++_, map, List·Memᴰ, append-assoc}
+use mathlib.Core.Bool.{Bool, true, false, true≢false}
+use mathlib.Core.List.{List, [], _∷_, _++_, map, append-assoc}
 use mathlib.Core.Option.{Option, none, some}
-use Prim.Native.Nat.{ℕ, zero, suc, _+_, _-_, _*_, _/_, _^_, _≤_, _<_}
+use Prim.Native.Nat.{ℕ, zero, suc, _+_, _-_, _*_, _/_, _≤_, _<_}
 use native.Mathlib.Omega.{arith}
 use native.Mathlib.Nat.{suc-mul, div-eq-of-eq-mul-left}
 use native.Mathlib.Numerals.{add-one}
-use lib.ListN.{length, getD, take, drop, length-take, length-drop, length-append, length-map, take-append-drop, drop-of-length-le}
-use lib.Seq.{drop-drop, take-add, take-at, length-take-le, getD-take}
+use lib.ListN.{length, take, drop, length-take, length-drop, length-append, length-map, take-append-drop, drop-of-length-le}
+use lib.Seq.{drop-drop, take-add, take-at, length-take-le}
 use Rattle.lists.specs.Lists.{Bytes}
 use Rattle.lists.proofs.Places.{same-parts}
 use Rattle.signal.specs.Signal.{Signal}
 use Rattle.signal.specs.Cell.{nodeOf}
-use Rattle.gates.specs.Forms.{flopNumber}
 use Rattle.network.specs.Net.{Net}
 use Rattle.network.specs.Clock.{sigBit, zeroBits}
 use Rattle.network.specs.Settle.{settle, nextOf}

@@ -7,7 +7,7 @@ use mathlib.Core.Logic.{inl, inr}
 use Prim.Native.Nat.{ℕ, suc, _-_, _*_, _/_, _%_, _^_, _≤_, _<_}
 use native.Mathlib.Omega.{arith}
 use native.Mathlib.Nat.{div-eq-of-eq-mul-left, mul-mod-left, div-lt-iff-lt-mul, le-div-iff-mul-le, div-add-mod'}
-use lib.Dec.{eqb, leb, ltb}
+use lib.Dec.{eqb, leb}
 use lib.ListN.{length, take, drop, length-append, length-drop}
 use lib.Seq.{take-at}
 use borrow.Author.Tests.{eqb-true, eq-eqb, leb-true, leb-false, lt-ltb, le-ltb}
@@ -25,7 +25,7 @@ use Rattle.network.specs.Settle.{run}
 use Rattle.network.specs.Cells.{Lent, Words, isNetwork, netOf}
 use Rattle.network.proofs.Lent.{network-cells, network-outs}
 use Rattle.run_rows.specs.Rows.{rowsText, rowsOf}
-use Rattle.run_rows.specs.Into.{RunOutcome, runOutcome, refusedRun, ranRows, outputRows, runOn, runInto}
+use Rattle.run_rows.specs.Into.{RunOutcome, runOutcome, refusedRun, ranRows, runOn, runInto}
 use Rattle.run_rows.specs.Ran.{RunsFor}
 use Rattle.run_rows.specs.between.Steps.{Clocked}
 use Rattle.run_rows.specs.between.Asks.{Runnable}

@@ -1,19 +1,18 @@
 -- Whether a flip-flop is plain, told by the cells of its enable and its reset. Assumes nothing.
 use mathlib.Core.Path.{_≡_, refl, sym, ap, ap₂, _∙_}
-use mathlib.Core.Bool.{Bool, true, false, not, _&&_}
-use mathlib.Core.List.{List, _∷_, [], map}
+use mathlib.Core.Bool.{true, false, not, _&&_}
+use mathlib.Core.List.{List}
 use Prim.Native.Nat.{ℕ, _+_, _/_, _%_, _<_}
 use native.Mathlib.Omega.{arith}
 use lib.Dec.{eqb}
-use lib.ListN.{length, getD, take, drop, length-map, List·getD-map}
+use lib.ListN.{length, getD, drop, length-map, List·getD-map}
 use lib.Seq.{getD-take, getD-drop}
 use borrow.Author.Tests.{eqb-true, eqb-false, eq-eqb, ne-eqb}
-use Rattle.lists.specs.Lists.{all}
 use Rattle.lists.proofs.Tests.{by-order, by-test}
-use Rattle.signal.specs.Signal.{Signal, isZero, isOne, constNode}
-use Rattle.signal.specs.Cell.{nodeOf, sigOf}
+use Rattle.signal.specs.Signal.{Signal, isZero, isOne}
+use Rattle.signal.specs.Cell.{sigOf}
 use Rattle.signal.proofs.Cells.{const-test}
-use Rattle.gates.specs.Gate.{Gate, Comb, Dff, FlipFlop, pins, isPlain}
+use Rattle.gates.specs.Gate.{Gate, Comb, Dff, pins, isPlain}
 use Rattle.gates.specs.Forms.{flopNumber, formCell}
 use Rattle.gates.proofs.Forms.{comb-other}
 use Rattle.network.specs.Cells.{orBuf}

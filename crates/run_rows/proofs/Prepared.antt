@@ -1,18 +1,18 @@
 -- What is laid out before the clocks, and what the functions of a clock ask of it. Assumes nothing.
-use mathlib.Core.Path.{_≡_, refl, sym, ap, ap₂, _∙_, subst}
-use mathlib.Core.Bool.{Bool, true, false, cond, _&&_}
+use mathlib.Core.Path.{_≡_, sym, ap, ap₂, _∙_}
+use mathlib.Core.Bool.{Bool, true, false, cond}
 use mathlib.Core.List.{List, _++_}
 use mathlib.Core.Option.{some}
-use Prim.Native.Nat.{ℕ, suc, _+_, _*_, _≤_, _<_}
+use Prim.Native.Nat.{ℕ, _+_, _*_, _≤_, _<_}
 use native.Mathlib.Omega.{arith}
 use lib.ListN.{length, getD, take, length-append, List·getD-map}
 use lib.Seq.{length-take-le, take-at, getD-take}
-use Rattle.lists.specs.Lists.{all, range, optional}
+use Rattle.lists.specs.Lists.{all, optional}
 use Rattle.lists.proofs.Range.{all-mem, map-range}
 use Rattle.lists.proofs.Places.{place-mem, place-getD}
-use Rattle.signal.specs.Signal.{Signal, Const, zeroS, oneS}
+use Rattle.signal.specs.Signal.{Signal}
 use Rattle.signal.specs.Cell.{nodeOf, sigOf}
-use Rattle.gates.specs.Gate.{Gate, Comb, Dff, FlipFlop, pins, isPlain}
+use Rattle.gates.specs.Gate.{Gate, Comb, Dff, pins, isPlain}
 use Rattle.gates.specs.Forms.{flopNumber, formCell}
 use Rattle.gates.specs.between.Forms.{kindOf}
 use Rattle.gates.proofs.Forms.{comb-other}
@@ -20,10 +20,9 @@ use Rattle.gates.proofs.Plain.{plain-flop}
 use Rattle.network.specs.Net.{Net, GateIs}
 use Rattle.network.specs.Clock.{sigBit, nextBit}
 use Rattle.network.specs.Settle.{nextOf}
-use Rattle.network.specs.Cells.{cellGates, cellNet, orBuf}
+use Rattle.network.specs.Cells.{cellNet, orBuf}
 use Rattle.network.specs.Record.{formAt, runAt, gateAt}
-use Rattle.network.specs.between.Cells.{NetCells}
-use Rattle.gate_bits.specs.between.Slots.{slotCount, slotOf, Shows, bitAt}
+use Rattle.gate_bits.specs.between.Slots.{slotCount}
 use Rattle.gate_bits.specs.between.Tables.{kindPad}
 use Rattle.gate_bits.proofs.SlotBits.{slot-at}
 use Rattle.run_rows.specs.between.Steps.{LaidOut, IsFlop, Flops, Shown, Held, dataBit}

@@ -1,20 +1,20 @@
 -- A table of bits: a known signal's bit, and what the table shows once a bit is put. Assumes nothing.
-use mathlib.Core.Path.{_≡_, refl, sym, ap, _∙_, subst}
+use mathlib.Core.Path.{_≡_, sym, ap, _∙_, subst}
 use mathlib.Core.Bool.{Bool, true, false, not, true≢false, false≢true}
-use mathlib.Core.List.{List, [], _∷_, map, List·Memᴰ, List·Memᴰ·head, List·Memᴰ·tail}
+use mathlib.Core.List.{List, map, List·Memᴰ}
 use mathlib.Core.Logic.{_⊎_, inl, inr, ⊎-elim}
-use Prim.Native.Nat.{ℕ, zero, suc, _+_, _-_, _*_, _^_, _≤_, _<_}
+use Prim.Native.Nat.{ℕ, _+_, _-_, _*_, _^_, _<_}
 use native.Mathlib.Omega.{arith}
 use native.Mathlib.Decide.{ℕ-discrete}
-use lib.ListN.{length, getD, set, length-set}
+use lib.ListN.{length, set, length-set}
 use borrow.Author.Tests.{ltb-true}
 use Rattle.lists.proofs.Places.{map-on, map-map}
-use Rattle.signal.specs.Signal.{Node, Const, Input, Var, Signal}
+use Rattle.signal.specs.Signal.{Node, Const, Input, Var}
 use Rattle.signal.specs.between.Signal.{inputNode, gateNode}
 use Rattle.signal.specs.Cell.{nodeOf, sigOf}
 use Rattle.network.specs.Clock.{nodeBit, sigBit}
 use Rattle.network.specs.Cells.{validNode}
-use Rattle.gate_bits.specs.between.Slots.{slotCount, bitAt, pinBits, nodeSlot, HasSlot, Shows}
+use Rattle.gate_bits.specs.between.Slots.{slotCount, bitAt, pinBits, HasSlot, Shows}
 use Rattle.gate_bits.proofs.SlotBits.{shows-bit, put-here, put-other}
 use Rattle.run_rows.specs.between.Steps.{Shown}
 

@@ -1,7 +1,7 @@
 -- Laws for a step of the flip-flops: their next bits are taken one after the other, then put one after the other. Assumes nothing.
 use mathlib.Core.Path.{_≡_, refl, sym, ap, _∙_, subst}
 use mathlib.Core.Bool.{Bool, false}
-use mathlib.Core.List.{List, []}
+use mathlib.Core.List.{List}
 use Prim.Native.Nat.{ℕ, _+_, _*_, _≤_, _<_}
 use native.Mathlib.Omega.{arith}
 use native.Mathlib.Decide.{ℕ-discrete}
@@ -10,8 +10,8 @@ use lib.Seq.{getD-set-same, getD-set-other}
 use Rattle.lists.proofs.Tests.{by-order}
 use Rattle.signal.specs.Signal.{Const, Var}
 use Rattle.gate_bits.specs.between.Slots.{slotCount, Shows}
-use Rattle.run_rows.specs.between.Steps.{IsFlop, Flops, Held, dataBit, DataTaken, HeldPut, Stepped}
-use Rattle.run_rows.specs.between.Asks.{Takes, Holds}
+use Rattle.run_rows.specs.between.Steps.{dataBit, DataTaken, HeldPut, Stepped}
+use Rattle.run_rows.specs.between.Asks.{Holds}
 use Rattle.run_rows.proofs.Showing.{put, length-put, put-gate, gate-keeps-const, gate-keeps-gate}
 
 -- ---- taking

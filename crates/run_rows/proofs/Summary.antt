@@ -4,15 +4,15 @@
 --   running-refuses  what refuses is 20, 29, 30 or 31
 --   ran-text         the bytes up to the length are their text
 --   ran-rows         the rows written are, clock by clock, the only ones that document 01's clock allows
-use mathlib.Core.Path.{_≡_, refl, sym, ap, _∙_}
-use mathlib.Core.Bool.{Bool, true}
+use mathlib.Core.Path.{_≡_, refl, ap, _∙_}
+use mathlib.Core.Bool.{Bool}
 use mathlib.Core.List.{List}
 use mathlib.Core.Option.{some}
 use mathlib.Core.Logic.{_↔_}
 use Prim.Native.Nat.{ℕ}
 use native.Mathlib.Omega.{arith}
 use lib.ListN.{length, take, length-replicate}
-use Rattle.lists.specs.Lists.{Bytes, zeros, overwrite}
+use Rattle.lists.specs.Lists.{Bytes, zeros}
 use Rattle.lists.proofs.Over.{take-overwrite}
 use Rattle.refusals.specs.Numbers.{InRunning}
 use Rattle.refusals.specs.declared.Refusal.{Refusal}

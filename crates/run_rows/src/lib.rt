@@ -19,8 +19,8 @@ use network::gate_pins;
 use network::is_topo_sorted;
 use refusals::Refusal;
 ghost use mathlib.Core.Path.{_≡_};
-ghost use mathlib.Core.Bool.{Bool, _&&_};
-ghost use Prim.Native.Nat.{ℕ, suc, _-_, _*_, _/_, _%_, _≤_, _<_};
+ghost use mathlib.Core.Bool.{_&&_};
+ghost use Prim.Native.Nat.{ℕ, _*_, _/_, _%_, _≤_, _<_};
 ghost use lib.Dec.{eqb, leb};
 ghost use lib.ListN.{length, take};
 ghost use Rattle.lists.specs.Lists.{all};
@@ -30,11 +30,11 @@ ghost use Rattle.network.specs.Cells.{lent, orBuf, cellGates, cellNet};
 ghost use Rattle.network.specs.Record.{runAt, gateAt};
 ghost use Rattle.network.specs.between.Cells.{GateCells, NetCells};
 ghost use Rattle.gate_bits.specs.between.Slots.{slotCount, pinBits};
-ghost use Rattle.run_rows.specs.Rows.{isDigit, rowText, rowOf, rowsOf};
+ghost use Rattle.run_rows.specs.Rows.{isDigit, rowText, rowsOf};
 ghost use Rattle.run_rows.specs.Into.{runOutcome, refusedRun, runOn, runInto};
 ghost use Rattle.run_rows.specs.between.Steps.{LaidOne, LaidOut, Flops, Started, combBit, RowRead, WorkedOut, RowSettled};
 ghost use Rattle.run_rows.specs.between.Steps.{DataTaken, HeldPut, Stepped, Clocked};
-ghost use Rattle.run_rows.specs.between.Asks.{Runnable, LayRoom, ListRoom, RowRoom, BitReady, Workable, Takes, Holds, WholeRows};
+ghost use Rattle.run_rows.specs.between.Asks.{Runnable, LayRoom, ListRoom, StartRoom, RowRoom, BitReady, Workable, LineRoom, Takes, Holds, WholeRows};
 
 // What a run answers: the length of the rows written, or why it is refused.
 pub enum RunAnswer {
@@ -127,7 +127,7 @@ fn list_flops(gates: &[u32], n: usize, flops: &mut [u16]) -> usize
 
 // Every bit at zero: of the constant and of n gates.
 fn start_bits(n: usize, bits: &mut [bool])
-    requires { ⌜ (n ≤ 1024) × (length (now bits) ≡ slotCount) ⌝ }
+    requires { ⌜ StartRoom n (now bits) ⌝ }
     ensures { λ _. ⌜ Started n (now (bits .exit)) ⌝ }
 {
     let mut i = 0;
@@ -228,7 +228,7 @@ fn settle_row(
 
 // Writes the outputs' bits as a row.
 fn write_row(outputs: &[u32], bits: &[bool], line: &mut [u8])
-    requires { ⌜ (length (now bits) ≡ slotCount) × (length (now line) ≡ suc (length (now outputs))) ⌝ }
+    requires { ⌜ LineRoom (now outputs) (now bits) (now line) ⌝ }
     ensures { λ _. ⌜ now (line .exit) ≡ rowText (pinBits (now (bits .entry)) (now (outputs .entry))) ⌝ }
 {
     let mut i = 0;
@@ -277,7 +277,8 @@ fn step(flops: &[u16], slots: &[u16], next: &mut [bool], bits: &mut [bool])
 
 // Whether the rows are whole, and as many rows of outputs fit into the room.
 fn rows_fit(rows: usize, width: usize, line: usize, room: usize) -> bool
-    requires { ⌜ (0 < width) × (0 < line) ⌝ }
+    requires { ⌜ 0 < width ⌝ }
+    requires { ⌜ 0 < line ⌝ }
     ensures { λ r. ⌜ r ≡ (eqb (rows % width) 0 && leb (rows / width) (room / line)) ⌝ }
 {
     if rows % width != 0 {

@@ -1,5 +1,5 @@
 -- `lay_slots` lays one slot after the other. Assumes nothing.
-use mathlib.Core.Path.{refl, sym, ap, _∙_}
+use mathlib.Core.Path.{refl, _∙_}
 use mathlib.Core.List.{map}
 use Prim.Native.Nat.{_-_, _<_}
 use native.Mathlib.Omega.{arith}

@@ -1,5 +1,4 @@
 -- `rows_fit` asks for whole rows, then for the room. Assumes nothing.
-use mathlib.Core.Path.{sym, ap}
 use borrow.Author.Tests.{eq-eqb, ne-eqb}
 use borrow.Author.Needs.{needs}
 use Rattle.run_rows.proofs.rows_fit.Statement.{statement}

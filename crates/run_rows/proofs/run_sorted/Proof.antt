@@ -9,6 +9,7 @@ use borrow.Author.Needs.{needs}
 use borrow.Author.Tests.{not-true, not-false}
 use Rattle.network.specs.Cells.{cellNet}
 use Rattle.network.specs.between.Cells.{NetCells}
+use Rattle.gate_bits.specs.between.Slots.{slotCount}
 use Rattle.run_rows.proofs.Prepared.{Prepared, prepared-from, taken-tables, prepared-workable, prepared-takes, prepared-holds}
 use Rattle.run_rows.proofs.Clocking.{Clocking, clocking-start, row-within, line-within, row-part, row-room, line-room, clocking-refused, row-some, clocking-next, clocking-done}
 use Rattle.run_rows.proofs.run_sorted.Statement.{statement}
@@ -45,9 +46,6 @@ prepared c rest =
     (omega (arith, few, lay .kept .1 .1 .0, length-replicate {A = ℕ} 6144 0))
     (omega (arith, few, list .ensures .few, list .kept .1 .1 .0, length-replicate {A = ℕ} 1024 0)) (list .ensures)
 
-slice-aggregate-lay-gates : tie.Need-slice-aggregate-lay-gates Inv-loop μ-loop
-slice-aggregate-lay-gates c = search needs
-
 array-borrow-prefix-tables : tie.Need-array-borrow-prefix-tables Inv-loop μ-loop
 array-borrow-prefix-tables c = c .before .before .before .before .before .before .pre .0 .gates .fewGates
 
@@ -61,37 +59,25 @@ lay-gates-requires c κs =
     let long = length-take-le {A = ℕ} _ (replicate 1024 0) (gates .fewGates) in
     ((_, subst (λ (k : ℕ). NetCells (start .args .counts .inputs) k (start .args .gates .now) (start .args .pins .now)) (sym long) gates), omega (arith, long, gates .fewGates))
 
-slice-aggregate-list-flops : tie.Need-slice-aggregate-list-flops Inv-loop μ-loop
-slice-aggregate-list-flops c = search needs
-
 list-flops-requires : tie.Need-list-flops-requires Inv-loop μ-loop
 list-flops-requires c κs =
     let gates = c .before .before .before .before .before .before .before .before .before .before .before .pre .0 .gates in
     record { few = gates .fewGates; records = λ g h. gates .each g h .has .cells; room = omega (arith, gates .fewGates, length-replicate {A = ℕ} 1024 0) }
 
-slice-aggregate-start-bits : tie.Need-slice-aggregate-start-bits Inv-loop μ-loop
-slice-aggregate-start-bits c = search needs
-
 start-bits-requires : tie.Need-start-bits-requires Inv-loop μ-loop
-start-bits-requires c κs = (c .before .before .before .before .before .before .before .before .before .before .before .before .before .before .pre .0 .gates .fewGates, refl)
+start-bits-requires c κs = record { few = c .before .before .before .before .before .before .before .before .before .before .before .before .before .before .pre .0 .gates .fewGates; size = refl }
 
 add-width : tie.Need-add-width Inv-loop μ-loop
 add-width c = omega (arith, entry c .pre .0 .gates .fewInputs)
-
-add-line : tie.Need-add-line Inv-loop μ-loop
-add-line c = search needs
 
 loop-holds : tie.Need-loop-holds Inv-loop μ-loop
 loop-holds c = (refl, clocking-start (prepared c []) (entry c .pre .1) (c .before .start-bits .ensures))
 
 add-end : tie.Need-add-end Inv-loop μ-loop
-add-end c = omega (arith, row-within (prepared (c .before .before) []) (c .before .loop .inv .1) (c .loop-test .taken))
+add-end d = omega (arith, row-within (prepared (d .before .before) []) (d .before .loop .inv .1) (d .loop-test .taken))
 
 add-upto : tie.Need-add-upto Inv-loop μ-loop
-add-upto c = omega (arith, line-within (prepared (c .before .before) []) (c .before .loop .inv .1) (c .loop-test .taken))
-
-slice-aggregate-settle-row : tie.Need-slice-aggregate-settle-row Inv-loop μ-loop
-slice-aggregate-settle-row c = search needs
+add-upto d = omega (arith, line-within (prepared (d .before .before) []) (d .before .loop .inv .1) (d .loop-test .taken))
 
 array-share-prefix-tables : tie.Need-array-share-prefix-tables Inv-loop μ-loop
 array-share-prefix-tables c = prepared (c .before .before .before) _ .tablesLong
@@ -99,49 +85,38 @@ array-share-prefix-tables c = prepared (c .before .before .before) _ .tablesLong
 slice-aggregate-settle-row-2 : tie.Need-slice-aggregate-settle-row-2 Inv-loop μ-loop
 slice-aggregate-settle-row-2 c = sym (taken-tables (prepared (c .before .before .before .before) _))
 
-sub-settle-row : tie.Need-sub-settle-row Inv-loop μ-loop
-sub-settle-row c = search needs
-
-part-settle-row-start : tie.Need-part-settle-row-start Inv-loop μ-loop
-part-settle-row-start c = search needs
-
 part-settle-row-end : tie.Need-part-settle-row-end Inv-loop μ-loop
-part-settle-row-end c = omega (arith, row-within (prepared (c .before .before .before .before) []) (c .before .before .before .loop .inv .1) (c .before .before .loop-test .taken))
-
-slice-aggregate-settle-row-3 : tie.Need-slice-aggregate-settle-row-3 Inv-loop μ-loop
-slice-aggregate-settle-row-3 c = search needs
+part-settle-row-end c =
+    let d = c .before .before in
+    omega (arith, row-within (prepared (d .before .before) []) (d .before .loop .inv .1) (d .loop-test .taken))
 
 settle-row-requires : tie.Need-settle-row-requires Inv-loop μ-loop
 settle-row-requires c κs =
-    let inv = c .before .before .before .before .before .loop .inv .1 in
-    (prepared-workable (prepared (c .before .before .before .before .before .before) _) (inv .holds), row-room (prepared (c .before .before .before .before .before .before) []) inv (c .before .before .before .before .loop-test .taken))
-
-same-length : tie.Need-same-length Inv-loop μ-loop
-same-length c = search needs
+    let d = c .before .before .before .before in
+    let run = d .before .loop .inv .1 in
+    (prepared-workable (prepared (d .before .before) _) (run .holds), row-room (prepared (d .before .before) []) run (d .loop-test .taken))
 
 returns : tie.Need-returns Inv-loop μ-loop
 returns c =
-    let p = prepared (c .before .before .before .before .before .before .before .before .before) _ in
-    let inv = c .before .before .before .before .before .before .before .before .loop .inv .1 in
-    let more = c .before .before .before .before .before .before .before .loop-test .taken in
-    clocking-refused p inv more (c .before .before .settle-row .ensures) (taken-tables p) (row-part p inv more) (not-true _ (c .if1 .taken))
-
-slice-aggregate-write-row : tie.Need-slice-aggregate-write-row Inv-loop μ-loop
-slice-aggregate-write-row c = search needs
-
-sub-write-row : tie.Need-sub-write-row Inv-loop μ-loop
-sub-write-row c = search needs
-
-part-write-row-start : tie.Need-part-write-row-start Inv-loop μ-loop
-part-write-row-start c = search needs
+    let d = c .before .before .before .before .before .before .before in
+    let p = prepared (d .before .before) _ in
+    let run = d .before .loop .inv .1 in
+    clocking-refused p run (d .loop-test .taken) (c .before .before .settle-row .ensures) (taken-tables p) (row-part p run (d .loop-test .taken))
+    (not-true _ (c .if1 .taken))
 
 part-write-row-end : tie.Need-part-write-row-end Inv-loop μ-loop
-part-write-row-end c = omega (arith, line-within (prepared (c .before .before .before .before .before .before .before .before .before .before) []) (c .before .before .before .before .before .before .before .before .before .loop .inv .1) (c .before .before .before .before .before .before .before .before .loop-test .taken))
+part-write-row-end c =
+    let d = c .before .before .before .before .before .before .before .before in
+    omega (arith, line-within (prepared (d .before .before) []) (d .before .loop .inv .1) (d .loop-test .taken))
+
+-- the table is as long as before the row
+as-long : (c : tie.After-settle-row Inv-loop μ-loop) → length (c .settle-row .last .1 .1 .1 .1 .1 .0) ≡ slotCount
+as-long c = c .settle-row .kept .1 .1 .1 .1 .1 .0 ∙ c .before .before .before .before .before .before .loop .inv .1 .holds .size
 
 write-row-requires : tie.Need-write-row-requires Inv-loop μ-loop
 write-row-requires c κs =
-    let inv = c .before .before .before .before .before .before .before .before .before .before .loop .inv .1 in
-    (c .before .before .before .before .settle-row .kept .1 .1 .1 .1 .1 .0 ∙ inv .holds .size, line-room (prepared (c .before .before .before .before .before .before .before .before .before .before .before) []) inv (c .before .before .before .before .before .before .before .before .before .loop-test .taken))
+    let d = c .before .before .before .before .before .before .before .before .before in
+    record { size = as-long (c .before .before .before .before); room = line-room (prepared (d .before .before) []) (d .before .loop .inv .1) (d .loop-test .taken) }
 
 array-share-prefix-flops : tie.Need-array-share-prefix-flops Inv-loop μ-loop
 array-share-prefix-flops c = prepared (c .before .before .before .before .before .before .before .before .before .before .before .before .before .before) [] .flopsLong
@@ -149,35 +124,23 @@ array-share-prefix-flops c = prepared (c .before .before .before .before .before
 slice-aggregate-step : tie.Need-slice-aggregate-step Inv-loop μ-loop
 slice-aggregate-step c = sym (length-take-le _ _ (prepared (c .before .before .before .before .before .before .before .before .before .before .before .before .before .before .before) [] .flopsLong))
 
-slice-aggregate-step-2 : tie.Need-slice-aggregate-step-2 Inv-loop μ-loop
-slice-aggregate-step-2 c = search needs
-
-slice-aggregate-step-3 : tie.Need-slice-aggregate-step-3 Inv-loop μ-loop
-slice-aggregate-step-3 c = search needs
-
-slice-aggregate-step-4 : tie.Need-slice-aggregate-step-4 Inv-loop μ-loop
-slice-aggregate-step-4 c = search needs
-
 step-requires : tie.Need-step-requires Inv-loop μ-loop
 step-requires c κs =
-    let p = prepared (c .before .before .before .before .before .before .before .before .before .before .before .before .before .before .before .before .before .before) [] in
-    let loop = c .before .before .before .before .before .before .before .before .before .before .before .before .before .before .before .before .before .loop in
-    let size = c .before .before .before .before .before .before .before .before .before .before .before .settle-row .kept .1 .1 .1 .1 .1 .0 ∙ loop .inv .1 .holds .size in
-    (prepared-takes p size (loop .inv .0), prepared-holds p size (loop .inv .0))
-
-loop-less : tie.Need-loop-less Inv-loop μ-loop
-loop-less c = search needs
+    let d = c .before .before .before .before .before .before .before .before .before .before .before .before .before .before .before .before in
+    let p = prepared (d .before .before) [] in
+    let size = as-long (c .before .before .before .before .before .before .before .before .before .before .before) in
+    (prepared-takes p size (d .before .loop .inv .0), prepared-holds p size (d .before .loop .inv .0))
 
 loop-again : tie.Need-loop-again Inv-loop μ-loop
 loop-again c =
-    let p = prepared (c .before .before .before .before .before .before .before .before .before .before .before .before .before .before .before .before .before .before .before .before .before) _ in
-    let loop = c .before .before .before .before .before .before .before .before .before .before .before .before .before .before .before .before .before .before .before .before .loop in
-    let more = c .before .before .before .before .before .before .before .before .before .before .before .before .before .before .before .before .before .before .before .loop-test .taken in
-    let row = row-some p (loop .inv .1) more (c .before .before .before .before .before .before .before .before .before .before .before .before .before .before .settle-row .ensures) (taken-tables p) (row-part p (loop .inv .1) more) (not-false _ (c .before .before .before .before .before .before .before .before .before .before .before .before .if1 .left)) in
-    (c .before .before .step .kept .1 .1 .0 ∙ loop .inv .0, clocking-next p (loop .inv .1) more row (c .before .before .before .before .before .before .before .before .before .write-row .ensures) (c .before .before .step .ensures))
-
-same-length-2 : tie.Need-same-length-2 Inv-loop μ-loop
-same-length-2 c = search needs
+    let d = c .before .before .before .before .before .before .before .before .before .before .before .before .before .before .before .before .before .before .before in
+    let p = prepared (d .before .before) _ in
+    let run = d .before .loop .inv .1 in
+    let more = d .loop-test .taken in
+    let row = row-some p run more (c .before .before .before .before .before .before .before .before .before .before .before .before .before .before .settle-row .ensures) (taken-tables p) (row-part p run more) (not-false _ (c .before .before .before .before .before .before .before .before .before .before .before .before .if1 .left)) in (
+      c .before .before .step .kept .1 .1 .0 ∙ d .before .loop .inv .0,
+      clocking-next p run more row (c .before .before .before .before .before .before .before .before .before .write-row .ensures) (c .before .before .step .ensures),
+    )
 
 returns-2 : tie.Need-returns-2 Inv-loop μ-loop
 returns-2 c = clocking-done (prepared (c .before .before) []) (c .before .loop .inv .1) (c .loop-test .left)
@@ -186,43 +149,9 @@ pub run-sorted-spec : {M : Type 1} → statement M
 run-sorted-spec =
     tie.close
     (tie.spec
-    Inv-loop
-    μ-loop
-    slice-aggregate-lay-gates
-    array-borrow-prefix-tables
-    slice-aggregate-lay-gates-2
-    lay-gates-requires
-    slice-aggregate-list-flops
-    list-flops-requires
-    slice-aggregate-start-bits
-    start-bits-requires
-    add-width
-    add-line
-    loop-holds
-    add-end
-    add-upto
-    slice-aggregate-settle-row
-    array-share-prefix-tables
-    slice-aggregate-settle-row-2
-    sub-settle-row
-    part-settle-row-start
-    part-settle-row-end
-    slice-aggregate-settle-row-3
-    settle-row-requires
-    same-length
-    returns
-    slice-aggregate-write-row
-    sub-write-row
-    part-write-row-start
-    part-write-row-end
-    write-row-requires
-    array-share-prefix-flops
-    slice-aggregate-step
-    slice-aggregate-step-2
-    slice-aggregate-step-3
-    slice-aggregate-step-4
-    step-requires
-    loop-less
-    loop-again
-    same-length-2
-    returns-2)
+    Inv-loop μ-loop (λ c. search needs) array-borrow-prefix-tables slice-aggregate-lay-gates-2 lay-gates-requires (λ c. search needs)
+    list-flops-requires (λ c. search needs) start-bits-requires add-width (λ c. search needs) loop-holds add-end add-upto
+    (λ c. search needs) array-share-prefix-tables slice-aggregate-settle-row-2 (λ c. search needs) (λ c. search needs) part-settle-row-end
+    (λ c. search needs) settle-row-requires (λ c. search needs) returns (λ c. search needs) (λ c. search needs) (λ c. search needs)
+    part-write-row-end write-row-requires array-share-prefix-flops slice-aggregate-step (λ c. search needs) (λ c. search needs)
+    (λ c. search needs) step-requires (λ c. search needs) loop-again (λ c. search needs) returns-2)

@@ -13,14 +13,14 @@ abbrev μ-loop : tie.MeasureT-loop
 μ-loop n bits₀ i₀ bits i = n + 1 - i
 
 loop-holds : tie.Need-loop-holds Inv-loop μ-loop
-loop-holds c = starting-start (c .before .pre .1)
+loop-holds c = starting-start (c .before .pre .size)
 
 loop-again : tie.Need-loop-again Inv-loop μ-loop
 loop-again c =
     rw (c .before .before .put-bit .ensures) (starting-next (c .before .before .before .before .before .loop .inv) (omega arith))
 
 same-length : tie.Need-same-length Inv-loop μ-loop
-same-length c = c .before .loop .inv .size ∙ sym (c .before .before .before .pre .1)
+same-length c = c .before .loop .inv .size ∙ sym (c .before .before .before .pre .size)
 
 returns : tie.Need-returns Inv-loop μ-loop
 returns c = starting-done (c .before .loop .inv) (c .loop-test .left)

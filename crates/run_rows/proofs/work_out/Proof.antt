@@ -1,10 +1,9 @@
 -- `work_out` works out one gate's bit after the other. Assumes nothing.
-use mathlib.Core.Path.{refl, sym, _∙_}
+use mathlib.Core.Path.{sym, _∙_}
 use mathlib.Core.Logic.{⊎-elim}
 use Prim.Native.Nat.{_-_}
 use native.Mathlib.Omega.{arith}
 use lib.ListN.{length}
-use borrow.Author.Needs.{needs}
 use Rattle.run_rows.proofs.Working.{Working, working-start, working-ready, working-comb, working-flop, working-done}
 use Rattle.run_rows.proofs.work_out.Statement.{statement}
 use Rattle.run_rows.proofs.work_out.Tie as tie

@@ -30,7 +30,7 @@ same-length : tie.Need-same-length Inv-loop μ-loop
 same-length c = length-set (c .before .loop .line) (c .before .loop .i) 10 ∙ c .before .loop .inv .laying .kept
 
 returns : tie.Need-returns Inv-loop μ-loop
-returns c = writing-done (c .before .loop .inv) (c .before .before .before .before .before .pre .1) (c .loop-test .left)
+returns c = writing-done (c .before .loop .inv) (c .before .before .before .before .before .pre .room) (c .loop-test .left)
 
 pub write-row-spec : {M : Type 1} → statement M
 write-row-spec =

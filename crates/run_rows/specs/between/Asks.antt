@@ -52,6 +52,13 @@ pub record ListRoom (cells : List ℕ) (n : ℕ) (flops : List ℕ) : Type 0 whe
   -- a cell for each
   pub room : n ≤ length flops
 
+-- the bits of the constant and of n gates can be put
+pub record StartRoom (n : ℕ) (bits : List Bool) : Type 0 where
+  -- "1,024 gates"
+  pub few : n ≤ 1024
+  -- as many slots as a table has
+  pub size : length bits ≡ slotCount
+
 -- ---- a clock
 
 -- a line that can be a row: an LF at least, and a character for each of 256 inputs at most
@@ -98,6 +105,13 @@ pub record Workable (cells ps slots tables : List ℕ) (bits : List Bool) : Type
   pub size : length bits ≡ slotCount
   -- the constant's bit
   pub const : Shows bits Const false
+
+-- the outputs' bits can be written as a line
+pub record LineRoom (outs : List ℕ) (bits : List Bool) (line : Bytes) : Type 0 where
+  -- as many slots as a table has
+  pub size : length bits ≡ slotCount
+  -- a byte for each output and an LF
+  pub room : length line ≡ suc (length outs)
 
 -- each flip-flop's first slot is one of the table's, and it has a place
 pub record Takes (flops slots : List ℕ) (bits next : List Bool) : Type 0 where

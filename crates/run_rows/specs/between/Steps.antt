@@ -12,7 +12,7 @@ use mathlib.Core.Option.{Option, none, some}
 use Prim.Native.Nat.{ℕ, _+_, _-_, _*_, _≤_, _<_}
 use lib.ListN.{length, getD}
 use Rattle.lists.specs.Lists.{Bytes}
-use Rattle.signal.specs.Signal.{Node, Const, Input, Var}
+use Rattle.signal.specs.Signal.{Const, Input, Var}
 use Rattle.gates.specs.Gate.{Gate, Comb, Dff, formBit}
 use Rattle.gates.specs.Forms.{flopNumber}
 use Rattle.gates.specs.between.Forms.{kindOf}
