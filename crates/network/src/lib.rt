@@ -1,4 +1,4 @@
-// Networks in lent cells: valid signals, the layout that refusal 20 asks for, and one gate read out of the cells
+// Networks in lent cells: valid signals, the layout that refusal 20 asks for, whether a network is sorted, and one gate read out of the cells
 // (Quaigh's src/network/network.rs).
 use gates::Decoded;
 use gates::Gate;

@@ -1,6 +1,6 @@
--- The numbers of refusals (document 01, "Reading refuses, in order", "Writing refuses, in order"): "When an answer is an enum, a definition
--- gives this paper's number and values for each enum case". Assumes nothing: these are definitions.
---   numberOf r   document 01's number of a refusal
+-- The numbers of refusals (document 01, "Reading refuses, in order", "Writing refuses, in order"; document 02): "When an answer is an enum, a
+-- definition gives this paper's number and values for each enum case". Assumes nothing: these are definitions.
+--   numberOf r   a refusal's number in documents 01 and 02
 --   InReading r  one that reading answers
 --   InWriting r  one that writing answers
 --   InRunning r  one that a run answers

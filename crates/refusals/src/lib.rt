@@ -64,7 +64,7 @@ pub fn refuse_if(test: bool, refusal: Refusal) -> Checked
 }
 
 impl Refusal {
-    // Document 01's number.
+    // Its number in documents 01 and 02.
     pub fn number(self) -> u32
         ensures { λ r. ⌜ r ≡ numberOf self ⌝ }
     {

@@ -211,7 +211,7 @@ module _ {inputs n : ℕ} {cells ps outs slots tables flops : List ℕ} {k : ℕ
             rw (add-one inputs, add-one (length outs)) (
             record {
               held = nextOf net σ (c .held);
-              holds = stepped cells n (nextOf net σ (c .held)) (p .runs .gates .fewGates) (taken-flops p) (s .shown .const) (λ g f. next-held p wide (s .shown) f (c .held));
+              holds = stepped .each cells n (nextOf net σ (c .held)) (p .runs .gates .fewGates) (taken-flops p) (s .shown .const) (λ g f. next-held p wide (s .shown) f (c .held));
               left = l .0;
               rowsLeft = omega (arith, c .rowsLeft, ap (λ (m : ℕ). m * suc inputs) (l .1), suc-mul (l .0) (suc inputs));
               outLeft =

@@ -27,8 +27,9 @@ use Rattle.network.proofs.Lent.{network-cells, network-outs}
 use Rattle.run_rows.specs.Rows.{rowsText, rowsOf}
 use Rattle.run_rows.specs.Into.{RunOutcome, runOutcome, refusedRun, ranRows, runOn, runInto}
 use Rattle.run_rows.specs.Ran.{RunsFor}
-use Rattle.run_rows.specs.between.Steps.{Clocked}
+use Rattle.run_rows.specs.between.Steps.{Clocked, RunRefused}
 use Rattle.run_rows.specs.between.Asks.{Runnable}
+use Rattle.run_rows.specs.declared.RunAnswer.{RunAnswer}
 use Rattle.run_rows.specs.declared.RunAnswer.the-variants.{Ran, Refused}
 use Rattle.run_rows.proofs.RowsOf.{rows-are, length-rowsText, length-outputs}
 
@@ -110,6 +111,9 @@ module _ (net : Net) (rows : Bytes) (n w l : ℕ) (ew : w ≡ suc (net .inputs))
           (ap₂ (λ (k : ℕ) (b : Bytes). runOutcome (Ran k) b) (sym long) (zeros-behind p end (take-at q (drop end o) end lq ∙ c .1) long whole zs))
 
 -- ---- the order of refusals
+
+pub refused-is : {k : Refusal} {n : ℕ} {a : RunAnswer} {out : Bytes} → RunRefused k n a out → runOutcome a out ≡ refusedRun k n
+refused-is r = ap₂ runOutcome (r .answer) (r .bytes)
 
 module _ (l : Lent) (t : Bytes) (n : ℕ) where
   pub not-network : isNetwork l ≡ false → refusedRun refusal.NotANetwork n ≡ runInto l t n

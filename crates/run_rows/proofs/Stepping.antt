@@ -80,19 +80,23 @@ module _ {flops : List ℕ} {next bits₀ : List Bool} (h : Holds flops next bit
             (λ o. gate-keeps-gate bits (getD next i false) flop (h .low i l) at (getD flops j 0) (h .low j (omega arith)) d (p .each val e j o))
 
   pub putting-done : {bits : List Bool} {i : ℕ} → length flops ≤ i → Putting flops next bits₀ bits i → HeldPut flops next bits₀ bits
-  putting-done {bits} le p cells n val few fs const e = record {
-    size = p .size;
-    const = p .const const;
-    fewInputs = omega arith;
-    inputs = λ i l. absurd (omega arith);
-    fewGates = λ g k. omega (arith, k .below);
-    gates = λ g k.
-        let w = fs .listed g k in
-        subst (λ (x : ℕ). Shows bits (Var x) (val x)) (w .2) (p .each val e (w .0) (omega (arith, w .1)));
+  putting-done {bits} le p = record {
+    each = λ cells n val few fs const e.
+        record {
+          size = p .size;
+          const = p .const const;
+          fewInputs = omega arith;
+          inputs = λ i l. absurd (omega arith);
+          fewGates = λ g k. omega (arith, k .below);
+          gates = λ g k.
+              let w = fs .listed g k in
+              subst (λ (x : ℕ). Shows bits (Var x) (val x)) (w .2) (p .each val e (w .0) (omega (arith, w .1)));
+        };
   }
 
 -- ---- both
 
 pub steps-together : {flops slots : List ℕ} {next bits bits′ : List Bool} → DataTaken flops slots bits next → HeldPut flops next bits bits′ → Stepped flops slots bits bits′
-steps-together {flops} t p cells n val few fs const e =
-    p cells n val few fs const (λ i l. t .each i l ∙ e (getD flops i 0) (fs .flop i l))
+steps-together {flops} t p = record {
+  each = λ cells n val few fs const e. p .each cells n val few fs const (λ i l. t .each i l ∙ e (getD flops i 0) (fs .flop i l));
+}

@@ -1,6 +1,7 @@
 -- What a run promises, as a reviewer would read it. Assumes nothing.
 --   rows-of-text     which texts have rows
---   runs-answer      a length exactly where nothing refuses, and the output rows with zeros behind them
+--   runs-answer      where nothing refuses, the length, and the output rows with zeros behind them
+--   answers-run      a length is answered nowhere else
 --   running-refuses  what refuses is 20, 29, 30 or 31
 --   ran-text         the bytes up to the length are their text
 --   ran-rows         the rows written are, clock by clock, the only ones that document 01's clock allows

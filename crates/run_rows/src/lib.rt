@@ -31,9 +31,9 @@ ghost use Rattle.network.specs.Record.{runAt, gateAt};
 ghost use Rattle.network.specs.between.Cells.{GateCells, NetCells};
 ghost use Rattle.gate_bits.specs.between.Slots.{slotCount, pinBits};
 ghost use Rattle.run_rows.specs.Rows.{isDigit, rowText, rowsOf};
-ghost use Rattle.run_rows.specs.Into.{runOutcome, refusedRun, runOn, runInto};
+ghost use Rattle.run_rows.specs.Into.{runOutcome, runOn, runInto};
 ghost use Rattle.run_rows.specs.between.Steps.{LaidOne, LaidOut, Flops, Started, combBit, RowRead, WorkedOut, RowSettled};
-ghost use Rattle.run_rows.specs.between.Steps.{DataTaken, HeldPut, Stepped, Clocked};
+ghost use Rattle.run_rows.specs.between.Steps.{DataTaken, HeldPut, Stepped, Clocked, RunRefused};
 ghost use Rattle.run_rows.specs.between.Asks.{Runnable, LayRoom, ListRoom, StartRoom, RowRoom, BitReady, Workable, LineRoom, Takes, Holds, WholeRows};
 
 // What a run answers: the length of the rows written, or why it is refused.
@@ -289,7 +289,7 @@ fn rows_fit(rows: usize, width: usize, line: usize, room: usize) -> bool
 
 // Clears the output rows and refuses.
 fn refuse(out: &mut [u8], refusal: Refusal) -> RunAnswer
-    ensures { λ r. ⌜ runOutcome r (now (out .exit)) ≡ refusedRun refusal (length (now (out .entry))) ⌝ }
+    ensures { λ r. ⌜ RunRefused refusal (length (now (out .entry))) r (now (out .exit)) ⌝ }
 {
     fill_zero_bytes(out);
     RunAnswer::Refused(refusal)

@@ -14,7 +14,7 @@ use Rattle.refusals.specs.declared.Refusal.the-variants as refusal
 use Rattle.network.specs.Net.{Net}
 use Rattle.network.specs.Cells.{cellNet}
 use Rattle.run_rows.specs.Into.{refusedRun}
-use Rattle.run_rows.proofs.Outcomes.{not-fitting, rows-whole, lines-fit, ran-not, ran-all}
+use Rattle.run_rows.proofs.Outcomes.{refused-is, not-fitting, rows-whole, lines-fit, ran-not, ran-all}
 use Rattle.run_rows.proofs.run_fitting.Statement.{statement}
 use Rattle.run_rows.proofs.run_fitting.Tie as tie
 
@@ -33,7 +33,7 @@ line-is s =
 returns : tie.Need-returns
 returns c =
     let s = c .before .before .before .before .before .before .before .before .before .before .before .before in
-    c .before .before .refuse .ensures
+    refused-is (c .before .before .refuse .ensures)
     ∙ not-fitting (net s) (s .args .rows .now) _ _ _ (row-is s) (line-is s) (sym (c .before .before .before .before .before .rows-fit .ensures) ∙ not-true _ (c .before .before .before .before .if1 .taken))
 
 -- behind the test: the rows are whole, and their outputs fit
@@ -90,7 +90,7 @@ returns-2 c =
     let d = c .before .before .before .before .before .before .before .before .before .before in
     let s = entry d in
     let ran = c .before .before .before .before .before .before .before .run-sorted in
-    c .before .before .refuse2 .ensures ∙ ap (refusedRun refusal.WrongRows) (as-long d (ran .last .1 .1 .1 .1 .1 .0) (ran .kept .1 .1 .1 .1 .1 .0))
+    refused-is (c .before .before .refuse2 .ensures) ∙ ap (refusedRun refusal.WrongRows) (as-long d (ran .last .1 .1 .1 .1 .1 .0) (ran .kept .1 .1 .1 .1 .1 .0))
     ∙ ran-not (net s) (s .args .rows .now) (length (s .args .out .now)) _ _ (row-is s) (line-is s) (ran .last .1 .1 .1 .1 .1 .0) (not-true _ (c .before .before .before .before .if2 .taken)) (ran .ensures)
 
 -- the part behind them

@@ -9,14 +9,14 @@ use Rattle.gates.specs.Gate.{isPlain}
 use Rattle.network.specs.Net.{topoSorted}
 use Rattle.network.specs.Cells.{Lent, Words, isNetwork, netOf, lent}
 use Rattle.network.proofs.Lent.{network-cells, network-sizes}
-use Rattle.run_rows.proofs.Outcomes.{not-network, not-sorted, not-plain, runs-on, lent-runnable}
+use Rattle.run_rows.proofs.Outcomes.{refused-is, not-network, not-sorted, not-plain, runs-on, lent-runnable}
 use Rattle.run_rows.proofs.run_rows.Statement.{statement}
 use Rattle.run_rows.proofs.run_rows.Tie as tie
 
 returns : tie.Need-returns
 returns c =
     let a = c .before .before .before .before .before .before .before .before .before .before .before .args in
-    c .before .before .refuse .ensures ∙ not-network _ (a .rows .now) _ (sym (c .before .before .before .before .before .check-layout .ensures) ∙ not-true _ (c .before .before .before .before .if1 .taken))
+    refused-is (c .before .before .refuse .ensures) ∙ not-network _ (a .rows .now) _ (sym (c .before .before .before .before .before .check-layout .ensures) ∙ not-true _ (c .before .before .before .before .if1 .taken))
 
 -- what is lent, behind the test of the layout: a network
 abbrev lent-at : tie.Else1 → Lent
@@ -38,7 +38,7 @@ returns-2 : tie.Need-returns-2
 unfolding netOf
 returns-2 c =
     let d = c .before .before .before .before .before .before in
-    c .before .before .refuse2 .ensures
+    refused-is (c .before .before .refuse2 .ensures)
     ∙ not-sorted (lent-at d) (d .before .before .before .before .before .before .before .args .rows .now) _ (network d) (sym (c .before .before .before .before .before .is-topo-sorted .ensures) ∙ not-true _ (c .before .before .before .before .if2 .taken))
 
 -- behind the test of the order: it is sorted
@@ -54,7 +54,7 @@ unfolding netOf
 returns-3 c =
     let e = c .before .before .before .before .before .before in
     let d = e .before .before in
-    c .before .before .refuse3 .ensures
+    refused-is (c .before .before .refuse3 .ensures)
     ∙ not-plain (lent-at d) (d .before .before .before .before .before .before .before .args .rows .now) _ (network d) (sorted e) (sym (c .before .before .before .before .before .all-plain .ensures) ∙ not-true _ (c .before .before .before .before .if3 .taken))
 
 -- behind the test of the flip-flops: each is plain

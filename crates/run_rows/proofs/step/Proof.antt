@@ -5,7 +5,7 @@ use Rattle.run_rows.proofs.step.Statement.{statement}
 use Rattle.run_rows.proofs.step.Tie as tie
 
 returns : tie.Need-returns
-returns c = steps-together (c .before .before .before .before .before .before .before .take-data .ensures) (c .before .before .put-held .ensures)
+returns c = search steps-together
 
 pub step-spec : {M : Type 1} → statement M
 step-spec =

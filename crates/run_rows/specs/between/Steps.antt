@@ -5,13 +5,15 @@
 --   RowSettled       what a row and the gates worked out for it leave
 --   Stepped          what a step of the flip-flops leaves
 --   Clocked          what a clock for each row leaves
+--   RunRefused       what a refusal leaves
 use mathlib.Core.Path.{_≡_}
 use mathlib.Core.Bool.{Bool, true, false}
 use mathlib.Core.List.{List, []}
 use mathlib.Core.Option.{Option, none, some}
 use Prim.Native.Nat.{ℕ, _+_, _-_, _*_, _≤_, _<_}
 use lib.ListN.{length, getD}
-use Rattle.lists.specs.Lists.{Bytes}
+use Rattle.lists.specs.Lists.{Bytes, zeros}
+use Rattle.refusals.specs.declared.Refusal.{Refusal}
 use Rattle.signal.specs.Signal.{Const, Input, Var}
 use Rattle.gates.specs.Gate.{Gate, Comb, Dff, formBit}
 use Rattle.gates.specs.Forms.{flopNumber}
@@ -24,6 +26,8 @@ use Rattle.network.specs.between.Cells.{NetCells}
 use Rattle.gate_bits.specs.between.Slots.{slotCount, slotOr, Shows}
 use Rattle.gate_bits.specs.between.Tables.{kindTable, kindPad}
 use Rattle.run_rows.specs.Rows.{rowOf, rowsText}
+use Rattle.run_rows.specs.declared.RunAnswer.{RunAnswer}
+use Rattle.run_rows.specs.declared.RunAnswer.the-variants.{Refused}
 
 -- ---- what is laid out before the clocks
 
@@ -150,16 +154,16 @@ pub record DataTaken (flops slots : List ℕ) (bits next : List Bool) : Type 0 w
   pub each : (i : ℕ) → i < length flops → getD next i false ≡ dataBit slots bits (getD flops i 0)
 
 -- the table has the bits in the flip-flops' places
-abbrev pub HeldPut : List ℕ → List Bool → List Bool → List Bool → Type 0
-HeldPut flops next bits bits′ =
-    (cells : List ℕ) (n : ℕ) (val : ℕ → Bool) → n ≤ 1024 → Flops cells n flops (length flops) → Shows bits Const false
-    → ((i : ℕ) → i < length flops → getD next i false ≡ val (getD flops i 0)) → Held cells n val bits′
+pub record HeldPut (flops : List ℕ) (next bits bits′ : List Bool) : Type 0 where
+  -- whatever bits these are
+  pub each : (cells : List ℕ) (n : ℕ) (val : ℕ → Bool) → n ≤ 1024 → Flops cells n flops (length flops) → Shows bits Const false
+      → ((i : ℕ) → i < length flops → getD next i false ≡ val (getD flops i 0)) → Held cells n val bits′
 
 -- "then all flip-flops step together": each holds the bit that its first pin had before the step
-abbrev pub Stepped : List ℕ → List ℕ → List Bool → List Bool → Type 0
-Stepped flops slots bits bits′ =
-    (cells : List ℕ) (n : ℕ) (val : ℕ → Bool) → n ≤ 1024 → Flops cells n flops (length flops) → Shows bits Const false
-    → ((g : ℕ) → IsFlop cells n g → dataBit slots bits g ≡ val g) → Held cells n val bits′
+pub record Stepped (flops slots : List ℕ) (bits bits′ : List Bool) : Type 0 where
+  -- whatever bits these are
+  pub each : (cells : List ℕ) (n : ℕ) (val : ℕ → Bool) → n ≤ 1024 → Flops cells n flops (length flops) → Shows bits Const false
+      → ((g : ℕ) → IsFlop cells n g → dataBit slots bits g ≡ val g) → Held cells n val bits′
 
 -- ---- clocks
 
@@ -167,3 +171,10 @@ Stepped flops slots bits bits′ =
 abbrev pub Clocked : Net → Option (List (List Bool)) → (ℕ → Bool) → Bytes → Bool → Type 0
 Clocked net none held out r = r ≡ false
 Clocked net (some rows) held out r = (r ≡ true) × (out ≡ rowsText (runFrom net held rows))
+
+-- a refusal, and zeros in the n bytes of the output rows
+pub record RunRefused (k : Refusal) (n : ℕ) (a : RunAnswer) (out : Bytes) : Type 0 where
+  -- the refusal is answered
+  pub answer : a ≡ Refused k
+  -- "A refusal zeroes the output rows"
+  pub bytes : out ≡ zeros n
