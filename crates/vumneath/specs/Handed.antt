@@ -30,6 +30,10 @@ use Rattle.vumneath.specs.declared.VumneathNetwork.{VumneathNetwork}
 use Rattle.vumneath.specs.declared.VumneathText.{VumneathText}
 use Rattle.vumneath.specs.declared.VumneathRows.{VumneathRows}
 
+-- the counts that a caller hands over
+abbrev pub countsFrom : ℕ → ℕ → ℕ → ℕ → Counts
+countsFrom inputs gates pins outputs = record { inputs = inputs; gates = gates; pins = pins; outputs = outputs }
+
 -- "refused is 0 on success, else the refusal's number; the counts are then 0"
 abbrev pub networkOf : ReadAnswer → VumneathNetwork
 networkOf (read.Read c) = record { refused = 0; inputs = c .inputs; gates = c .gates; pins = c .pins; outputs = c .outputs }
@@ -78,7 +82,7 @@ pub record RunHanded (o : RunOutcome) (r : VumneathRows) (out : Bytes) : Type 0 
 
 -- the counts in C's struct
 abbrev pub countsHanded : VumneathNetwork → Counts
-countsHanded r = record { inputs = r .inputs; gates = r .gates; pins = r .pins; outputs = r .outputs }
+countsHanded r = countsFrom (r .inputs) (r .gates) (r .pins) (r .outputs)
 
 -- the network in the cells that reading left
 abbrev pub netHanded : VumneathNetwork → List ℕ → List ℕ → List ℕ → Net

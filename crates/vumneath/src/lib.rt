@@ -12,7 +12,7 @@ ghost use Rattle.network.specs.Cells.{lent};
 ghost use Rattle.blif_read.specs.Into.{lengths, readInto};
 ghost use Rattle.blif_write.specs.Into.{writeInto};
 ghost use Rattle.run_rows.specs.Into.{runInto};
-ghost use Rattle.vumneath.specs.Handed.{networkOf, textFor, rowsFor, ReadHanded, WriteHanded, RunHanded};
+ghost use Rattle.vumneath.specs.Handed.{networkOf, textFor, rowsFor, countsFrom, ReadHanded, WriteHanded, RunHanded};
 ghost use Rattle.vumneath.specs.between.Handed.{CountsFit, LengthFits};
 
 // What reading answers: refused is zero and the counts are those of the network, or refused is the refusal's number and the counts are
@@ -39,6 +39,18 @@ pub struct VumneathText {
 pub struct VumneathRows {
     pub refused: u32,
     pub length: usize,
+}
+
+// The counts that C hands over.
+fn counts_of(inputs: u32, gate_count: u32, pin_count: u32, output_count: u32) -> Counts
+    ensures { λ r. ⌜ r ≡ countsFrom inputs «gate_count» «pin_count» «output_count» ⌝ }
+{
+    Counts {
+        inputs: inputs as usize,
+        gates: gate_count as usize,
+        pins: pin_count as usize,
+        outputs: output_count as usize,
+    }
 }
 
 // The reader's answer in C's layout.
@@ -130,16 +142,10 @@ pub extern "C" fn vumneath_write_blif(
     out: &mut [u8],
 ) -> VumneathText
     ensures { λ r.
-        let l = lent (record { inputs = inputs; gates = «gate_count»; pins = «pin_count»; outputs = «output_count» })
-        (now (gates .entry)) (now (pins .entry)) (now (outputs .entry)) in
+        let l = lent (countsFrom inputs «gate_count» «pin_count» «output_count») (now (gates .entry)) (now (pins .entry)) (now (outputs .entry)) in
         ⌜ WriteHanded (writeInto l (length (now (out .entry)))) r (now (out .exit)) ⌝ }
 {
-    let counts = Counts {
-        inputs: inputs as usize,
-        gates: gate_count as usize,
-        pins: pin_count as usize,
-        outputs: output_count as usize,
-    };
+    let counts = counts_of(inputs, gate_count, pin_count, output_count);
     let answer = write_blif(counts, gates, pins, outputs, out);
     text_of(answer)
 }
@@ -158,16 +164,10 @@ pub extern "C" fn vumneath_run(
     out: &mut [u8],
 ) -> VumneathRows
     ensures { λ r.
-        let l = lent (record { inputs = inputs; gates = «gate_count»; pins = «pin_count»; outputs = «output_count» })
-        (now (gates .entry)) (now (pins .entry)) (now (outputs .entry)) in
+        let l = lent (countsFrom inputs «gate_count» «pin_count» «output_count») (now (gates .entry)) (now (pins .entry)) (now (outputs .entry)) in
         ⌜ RunHanded (runInto l (now (rows .entry)) (length (now (out .entry)))) r (now (out .exit)) ⌝ }
 {
-    let counts = Counts {
-        inputs: inputs as usize,
-        gates: gate_count as usize,
-        pins: pin_count as usize,
-        outputs: output_count as usize,
-    };
+    let counts = counts_of(inputs, gate_count, pin_count, output_count);
     let answer = run_rows(counts, gates, pins, outputs, rows, out);
     rows_of(answer)
 }
