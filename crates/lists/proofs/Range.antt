@@ -10,8 +10,8 @@ use native.Mathlib.Numerals.{add-one}
 use lib.Seq.{drop-cons}
 use lib.ListN.{length, getElem?, getD, drop, drop-of-length-le}
 use Rattle.lists.specs.Lists.{all, any, range}
-use Rattle.lists.proofs.Places.{map-place}
-use Rattle.lists.proofs.Tests.{and-both, and-left, and-right, or-left, or-right}
+use Rattle.lists.proofs.Places.{map-place, drop-next}
+use Rattle.lists.proofs.Tests.{and-both, and-left, and-right, and-true, or-left, or-right}
 
 module _ {A : Type 0} (p : A → Bool) where
   pub all-mem : (l : List A) → all p l ≡ true → (x : A) → List·Memᴰ x l → p x ≡ true
@@ -96,6 +96,28 @@ module _ {A : Type 0} {p : A → Bool} {l : List A} where
 
     pub tested-done : length l ≤ i → true ≡ all p l
     tested-done h = let e : all p (drop i l) ≡ true = rw (drop-of-length-le l h) in sym e ∙ c .rest
+
+-- whether the first i elements pass the test is b
+pub record PassedTo {A : Type 0} (p : A → Bool) (l : List A) (b : Bool) (i : ℕ) : Type 0 where
+  pub within : i ≤ length l
+  pub rest : (b && all p (drop i l)) ≡ all p l
+
+module _ {A : Type 0} {p : A → Bool} {l : List A} where
+  pub passed-start : PassedTo p l true 0
+  passed-start = record { within = omega arith; rest = refl }
+
+  module _ {b : Bool} {i : ℕ} (d : A) (c : PassedTo p l b i) where
+    pub passed-next : i < length l → PassedTo p l (b && p (getD l i d)) (i + 1)
+    passed-next h = record {
+      within = omega arith;
+      rest =
+          and-assoc b (p (getD l i d)) (all p (drop (i + 1) l))
+          ∙ ap (λ (t : List A). b && all p t) (sym (drop-next l i d h))
+          ∙ c .rest;
+    }
+
+    pub passed-done : length l ≤ i → b ≡ all p l
+    passed-done h = sym (and-true b) ∙ ap (λ (t : List A). b && all p t) (sym (drop-of-length-le l {i = i} h)) ∙ c .rest
 
 -- the numbers below g have passed: what is left tests as the whole does
 pub record TestedTo (p : ℕ → Bool) (n g : ℕ) : Type 0 where

@@ -48,19 +48,18 @@ pub fn is_valid(inputs: usize, gates: usize, s: Signal) -> bool
     (half <= gates) | (other < inputs)
 }
 
-// Whether every cell holds a valid signal.
+// Whether every cell holds a valid signal. Each is looked at, since a branch that ends the loop costs more.
 pub fn all_valid(inputs: usize, gates: usize, cells: &[u32]) -> bool
     requires { ⌜ FewNodes inputs gates ⌝ }
     ensures { λ r. ⌜ r ≡ allValid inputs gates (now (cells .entry)) ⌝ }
 {
+    let mut valid = true;
     let mut i = 0;
     while i < cells.len() {
-        if !is_valid(inputs, gates, Signal { a: cells[i] }) {
-            return false;
-        }
+        valid &= is_valid(inputs, gates, Signal { a: cells[i] });
         i += 1;
     }
-    true
+    valid
 }
 
 // Whether the counts are within the limits and within slices of these lengths.
