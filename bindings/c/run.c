@@ -1,5 +1,6 @@
 /* Runs a netlist for the rows of 0 and 1 on standard input, one for each clock, and prints a row of outputs for each.
- * Usage: run netlist.blif < rows. Status: 0 with rows, 1 with a refusal. */
+ * Usage: run netlist.blif < rows. Status: 0 with rows, 1 with a refusal, 2 where
+ * something cannot be read or written. */
 #include "vumneath.h"
 
 #include <stdio.h>
@@ -18,6 +19,10 @@ static vumneath_network read_netlist(const char *path)
         exit(2);
     }
     size_t length = fread(text, 1, sizeof text, file);
+    if (ferror(file)) {
+        perror(path);
+        exit(2);
+    }
     fclose(file);
     return vumneath_read_blif(text, length, gates, VUMNEATH_LEND_GATES, pins, VUMNEATH_LEND_PINS, outputs, VUMNEATH_LEND_OUTPUTS,
         work_gates, VUMNEATH_LEND_GATES, work_pins, VUMNEATH_LEND_PINS);
@@ -42,6 +47,10 @@ static uint8_t *read_rows(size_t *length)
     for (*length = 0; (got = fread(rows + *length, 1, room - *length, stdin)) > 0; *length += got)
         if (*length + got == room)
             rows = memory(rows, room *= 2);
+    if (ferror(stdin)) {
+        perror("standard input");
+        exit(2);
+    }
     return rows;
 }
 
@@ -61,8 +70,8 @@ int main(int argc, char **argv)
         outputs, VUMNEATH_LEND_OUTPUTS, rows, length, out, room);
     if (ran.refused)
         printf("refused=%u\n", ran.refused);
-    else
-        fwrite(out, 1, ran.length, stdout);
+    else if (fwrite(out, 1, ran.length, stdout) != ran.length || fflush(stdout))
+        return perror("standard output"), 2;
     free(rows);
     free(out);
     return ran.refused != 0;
