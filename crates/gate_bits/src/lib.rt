@@ -5,25 +5,22 @@ use gates::NaryType;
 use gates::TernaryType;
 ghost use mathlib.Core.Path.{_≡_};
 ghost use mathlib.Core.Bool.{not};
-ghost use Prim.Native.Nat.{_+_, _<_};
+ghost use Prim.Native.Nat.{_+_, _-_, _<_, min};
 ghost use lib.ListN.{length, set};
 ghost use Rattle.lists.specs.Lists.{any};
 ghost use Rattle.signal.specs.Signal.{invertIf};
 ghost use Rattle.gates.specs.Gate.{odd, formBit};
 ghost use Rattle.gates.specs.between.Forms.{binaryForm, ternaryForm, naryForm};
-ghost use Rattle.gate_bits.specs.between.Slots.{slotCount, slotOf, slotOr, runSlots, bitAt, pinBits, bitsIn, SixSlots, PartEnd};
+ghost use Rattle.gate_bits.specs.between.Slots.{slotCount, slotOf, slotOr, runSlots, bitAt, pinBits, bitsIn, SixSlots};
 ghost use Rattle.gate_bits.specs.between.Tables.{maskOf, truthBit, formTable, kindTable, kindPad, wideBit};
-
-// The slots of a table of bits, a bit in each: one for every signal, of 1,024 gates, 256 inputs and the constants.
-pub const SLOTS: usize = 4096;
 
 // The inputs of a gate that one look into a truth table takes.
 pub const TABLE_INPUTS: usize = 6;
 
 // ---- a table of bits
 
-// The slot of a signal: its low twelve bits.
-pub fn slot_of(cell: u32) -> u16
+// The slot of a signal, its low twelve bits: a table has 4,096, of which 1,024 gates, 256 inputs and the constants take some.
+fn slot_of(cell: u32) -> u16
     ensures { λ r. ⌜ r ≡ slotOf cell ⌝ }
 {
     (cell & 0xfff) as u16
@@ -65,7 +62,7 @@ fn any_in(bits: &[bool], run: &[u32], inverted: bool) -> bool
 // The end of the next part of eight pins, or of what is left.
 fn part_end(at: usize, len: usize) -> usize
     requires { ⌜ at < len ⌝ }
-    ensures { λ r. ⌜ PartEnd at len r ⌝ }
+    ensures { λ r. ⌜ r ≡ at + min 8 (len - at) ⌝ }
 {
     if len - at <= 8 {
         return len;

@@ -4,7 +4,7 @@ use mathlib.Core.Bool.{Bool, true, false, not, _&&_, cond}
 use mathlib.Core.List.{List, [], _∷_}
 use lib.ListN.{getD}
 use Rattle.lists.specs.Lists.{all, any}
-use Rattle.signal.specs.Signal.{Signal, zeroS, oneS, isZero, isOne, invertIf}
+use Rattle.signal.specs.Signal.{Signal, zeroS, oneS, isZeroS, isOneS, invertIf}
 
 -- the combinational forms with their types, in document 01's order: "Binary (And, Xor), Ternary (And, Xor, Maj, Mux),
 -- Nary (And, Or, Nand, Nor, Xor, Xnor), Buf"
@@ -40,7 +40,7 @@ pins (Dff ff) = ff .dataIn ∷ ff .enable ∷ ff .reset ∷ []
 -- whether a gate is no flip-flop, or a plain one
 abbrev pub isPlain : Gate → Bool
 isPlain (Comb f ps) = true
-isPlain (Dff ff) = isOne (ff .enable) && isZero (ff .reset)
+isPlain (Dff ff) = isOneS (ff .enable) && isZeroS (ff .reset)
 
 -- "Every form but Dff is combinational"
 abbrev pub isComb : Gate → Bool

@@ -5,7 +5,7 @@ use Prim.Native.Nat.{ℕ, zero, suc, _+_, _-_, _≤_, _<_}
 use native.Mathlib.Omega.{arith}
 use native.Mathlib.Nat.{suc-add, add-zero, zero-add, sub-zero}
 use lib.ListN.{length, getD, take, drop, set, length-take, length-drop, length-replicate, drop-of-length-le}
-use lib.Seq.{take-all, getD-take, getD-drop}
+use lib.Seq.{drop-append-seam, take-all, getD-take, getD-drop}
 use Rattle.lists.specs.Lists.{zeros, overwrite}
 use Rattle.lists.specs.between.Lists.{overwriteAt}
 use Rattle.lists.proofs.Over.{length-overwrite, overwrite-is, take-overwrite}
@@ -170,6 +170,13 @@ drop-zeros : (k n : ℕ) → drop k (zeros n) ≡ zeros (n - k)
 drop-zeros zero n = ap zeros (sym (sub-zero n))
 drop-zeros (suc k) zero = ap zeros (let e : 0 ≡ 0 - suc k = omega arith in e)
 drop-zeros (suc k) (suc n) = drop-zeros k n ∙ ap zeros (let e : n - k ≡ suc n - suc k = omega arith in e)
+
+-- behind a text laid over zeros there are zeros
+pub drop-overwrite-zeros : (t : List ℕ) (n : ℕ) → length t ≤ n → drop (length t) (overwrite t (zeros n)) ≡ zeros (n - length t)
+drop-overwrite-zeros t n h =
+    ap (drop (length t)) (overwrite-is t (zeros n) (omega (arith, length-replicate {A = ℕ} n 0)))
+    ∙ drop-append-seam t (drop (length t) (zeros n))
+    ∙ drop-zeros (length t) n
 
 -- a slice p whose first `end` elements are t, and zeros in the part behind them
 pub zeros-behind : {t z : List ℕ} {n : ℕ} (p : List ℕ) (end : ℕ) → take end p ≡ t → length t ≡ end → length p ≡ n → z ≡ zeros (length (take (length p - end) (drop end p)))

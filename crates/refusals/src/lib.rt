@@ -3,7 +3,7 @@ ghost use mathlib.Core.Path.{_≡_};
 ghost use Rattle.refusals.specs.Numbers.{numberOf};
 ghost use Rattle.refusals.specs.Order.{refuseIf};
 
-// Why a text or a network is refused.
+// Why a text, a network or rows are refused.
 pub enum Refusal {
     // too few cells are lent
     TooFewCells,

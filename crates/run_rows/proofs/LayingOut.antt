@@ -20,8 +20,8 @@ use Rattle.network.specs.between.Cells.{NetCells}
 use Rattle.gate_bits.specs.between.Slots.{slotOr, runSlots}
 use Rattle.gate_bits.specs.between.Tables.{kindTable, kindPad}
 use Rattle.gate_bits.proofs.SlotBits.{length-slots}
-use Rattle.run_rows.specs.between.Steps.{GateLaid, LaidOne, LaidOut, IsFlop, Flops}
-use Rattle.run_rows.specs.between.Asks.{LayRoom}
+use Rattle.run_rows.specs.between.Steps.{TableLaid, LaidOne, LaidOut, IsFlop, Flops}
+use Rattle.run_rows.specs.between.Asks.{TableRoom}
 
 -- ---- one gate
 
@@ -32,7 +32,7 @@ part-put k n q o l h =
     ∙ ap (λ (t : List ℕ). take k o ++ t) (sym (overwrite-is q (drop k o) (omega (arith, length-drop k o))))
     ∙ overwriteAt-rest k q o (omega arith)
 
-module _ {cells ps : List ℕ} {g : ℕ} {slots tables : List ℕ} (room : LayRoom cells ps g slots tables) where
+module _ {cells ps : List ℕ} {g : ℕ} {slots tables : List ℕ} (room : TableRoom cells ps g slots tables) where
   -- the gate's six slots
   abbrev gateSlots : List ℕ
   gateSlots = runSlots (runAt cells ps g) (kindPad (kindOf (formAt cells g))) 6
@@ -91,7 +91,7 @@ module _ {cells ps slots tables : List ℕ} where
 
   module _ {slots′ tables′ : List ℕ} {g : ℕ} (c : LayingOut cells ps slots tables slots′ tables′ g) where
     pub laying-out-room : {i : ℕ} → NetCells i (length tables) cells ps → length tables * 6 ≤ length slots → g < length tables′
-        → LayRoom cells ps g slots′ tables′
+        → TableRoom cells ps g slots′ tables′
     laying-out-room net room h =
         let below : g < length tables = omega (arith, c .tablesLong) in
         record { has = net .each g below .has; slot = omega (arith, c .slotsLong); table = h }
@@ -100,7 +100,7 @@ module _ {cells ps slots tables : List ℕ} where
         → LayingOut cells ps slots tables slots″ tables″ (g + 1)
     laying-out-next {slots″} {tables″} one =
         record {
-          laid = record { each = below-next (GateLaid cells ps slots″ tables″) g (λ h l. one .kept h l (c .laid .each h l)) (one .laid) };
+          laid = record { each = below-next (TableLaid cells ps slots″ tables″) g (λ h l. one .kept h l (c .laid .each h l)) (one .laid) };
           slotsLong = one .slotsLong ∙ c .slotsLong;
           tablesLong = one .tablesLong ∙ c .tablesLong;
         }

@@ -136,7 +136,7 @@ module _ (l : Lent) (t : Bytes) (n : ℕ) where
 
 -- ---- the answers
 
--- the four ways in which a run ends
+-- how a run ends: refused, or with a length
 data Ways (l : Lent) (t : Bytes) (n : ℕ) : Type 0 where
   refuses : (r : Refusal) → InRunning r → runInto l t n ≡ refusedRun r n → Ways l t n
   answers : RunsFor l t n → Ways l t n
@@ -164,18 +164,18 @@ ways l t n =
         (λ h. refuses refusal.WrongRows (inr (inr (inr refl)))
         (sym (runs-on l t n a b c) ∙ ap (λ (o : Option (List (List Bool))). runOn (netOf l) o n) e ∙ rw (lt-ltb n (length (rowsText (run (netOf l) rs))) h)))
 
-pub answers-run : (l : Lent) (t : Bytes) (n k : ℕ) → runInto l t n .answer ≡ Ran k → RunsFor l t n
-answers-run l t n k e = by (ways l t n)
+pub length-answered : (l : Lent) (t : Bytes) (n k : ℕ) → runInto l t n .answer ≡ Ran k → RunsFor l t n
+length-answered l t n k e = by (ways l t n)
   where
     by : Ways l t n → RunsFor l t n
     by (refuses r i q) = absurd (let z : _≡_ {A = ℕ} 0 1 = (let w = ap (λ (o : RunOutcome). o .answer) q in cc) in omega arith)
     by (answers f) = f
 
-pub running-refuses : (l : Lent) (t : Bytes) (n : ℕ) (r : Refusal) → runInto l t n .answer ≡ Refused r → InRunning r
+pub running-refuses : (l : Lent) (t : Bytes) (n : ℕ) (r : Refusal) → runInto l t n .answer ≡ Refused r → InRunning r × (runInto l t n .out ≡ zeros n)
 running-refuses l t n r e = by (ways l t n)
   where
-    by : Ways l t n → InRunning r
-    by (refuses s i q) = let w : s ≡ r = (let v = ap (λ (o : RunOutcome). o .answer) q in cc) in subst InRunning w i
+    by : Ways l t n → InRunning r × (runInto l t n .out ≡ zeros n)
+    by (refuses s i q) = let w : s ≡ r = (let v = ap (λ (o : RunOutcome). o .answer) q in cc) in (subst InRunning w i, ap (λ (o : RunOutcome). o .out) q)
     by (answers f) = absurd (let z : _≡_ {A = ℕ} 0 1 = (let w = ap (λ (o : RunOutcome). o .answer) (runs-answer l t n f) in cc) in omega arith)
 
 -- a lent network that is sorted, with plain flip-flops

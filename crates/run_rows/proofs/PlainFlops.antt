@@ -9,7 +9,7 @@ use lib.ListN.{length, getD, drop, length-map, List·getD-map}
 use lib.Seq.{getD-take, getD-drop}
 use borrow.Author.Tests.{eqb-true, eqb-false, eq-eqb, ne-eqb}
 use Rattle.lists.proofs.Tests.{by-order, by-test}
-use Rattle.signal.specs.Signal.{Signal, isZero, isOne}
+use Rattle.signal.specs.Signal.{Signal, isZeroS, isOneS}
 use Rattle.signal.specs.Cell.{sigOf}
 use Rattle.signal.proofs.Cells.{const-test}
 use Rattle.gates.specs.Gate.{Gate, Comb, Dff, pins, isPlain}
@@ -20,13 +20,13 @@ use Rattle.network.specs.Record.{formAt, firstAt, countAt, runAt, gateAt}
 use Rattle.network.specs.between.Cells.{GateCells}
 
 -- the signal 1 is the cell 1, the signal 0 the cell 0: a constant's node, and bit 0
-one-is : (c : ℕ) → eqb c 1 ≡ isOne (sigOf c)
+one-is : (c : ℕ) → eqb c 1 ≡ isOneS (sigOf c)
 one-is c =
     by-test (eqb c 1) (λ t. let e : c ≡ 1 = eqb-true c 1 t in rw e)
     (λ t. t ∙ sym (ap (λ b. b && eqb (c % 2) 1) (sym (const-test c)) ∙ by-test (eqb (c / 2) 0)
     (λ h. rw (h, ne-eqb (c % 2) 1 (λ b. eqb-false c 1 t (omega (arith, eqb-true (c / 2) 0 h))))) (λ h. rw h)))
 
-zero-is : (c : ℕ) → eqb c 0 ≡ isZero (sigOf c)
+zero-is : (c : ℕ) → eqb c 0 ≡ isZeroS (sigOf c)
 zero-is c =
     by-test (eqb c 0) (λ t. let e : c ≡ 0 = eqb-true c 0 t in rw e)
     (λ t. t ∙ sym (ap (λ b. b && not (eqb (c % 2) 1)) (sym (const-test c)) ∙ by-test (eqb (c / 2) 0)
@@ -69,8 +69,8 @@ module _ {inputs n g : ℕ} {cells ps : List ℕ} (c : GateCells inputs n cells 
       ∙ by (c .gate) (sym (c .form) ∙ e) (pin-is 1 (omega (arith, flop-count e))) (pin-is 2 (omega (arith, flop-count e)))
       ∙ ap₂ (λ a b. a && b) (sym (one-is (getD ps (firstAt cells g + 1) 0))) (sym (zero-is (getD ps (firstAt cells g + 2) 0)))
     where
-      by : (x : Gate) → formCell x ≡ flopNumber → {s t : Signal} → getD (pins x) 1 (sigOf 0) ≡ s → getD (pins x) 2 (sigOf 0) ≡ t → isPlain x ≡ (isOne s && isZero t)
-      by (Dff ff) q a b = ap₂ (λ x y. isOne x && isZero y) a b
+      by : (x : Gate) → formCell x ≡ flopNumber → {s t : Signal} → getD (pins x) 1 (sigOf 0) ≡ s → getD (pins x) 2 (sigOf 0) ≡ t → isPlain x ≡ (isOneS s && isZeroS t)
+      by (Dff ff) q a b = ap₂ (λ x y. isOneS x && isZeroS y) a b
       by (Comb f qs) q a b = absurd (comb-other f qs q)
 
   -- another enable

@@ -26,7 +26,7 @@ use Rattle.gate_bits.specs.between.Slots.{slotCount}
 use Rattle.gate_bits.specs.between.Tables.{kindPad}
 use Rattle.gate_bits.proofs.SlotBits.{slot-at}
 use Rattle.run_rows.specs.between.Steps.{LaidOut, IsFlop, Flops, Shown, Held, dataBit}
-use Rattle.run_rows.specs.between.Asks.{Runnable, Workable, Takes, Holds}
+use Rattle.run_rows.specs.between.Asks.{Runnable, Workable, TakeRoom, PutRoom}
 use Rattle.run_rows.proofs.PlainFlops.{flop-three}
 use Rattle.run_rows.proofs.Showing.{known-bit, valid-known}
 
@@ -84,14 +84,14 @@ module _ {inputs n : ℕ} {cells ps outs slots tables flops : List ℕ} {k : ℕ
   few-flops : (next : List Bool) → length next ≡ 1024 → length (take k flops) ≤ length next
   few-flops next room = omega (arith, taken-flops .few, p .runs .gates .fewGates)
 
-  pub prepared-takes : {bits next : List Bool} → length bits ≡ slotCount → length next ≡ 1024 → Takes (take k flops) slots bits next
+  pub prepared-takes : {bits next : List Bool} → length bits ≡ slotCount → length next ≡ 1024 → TakeRoom (take k flops) slots bits next
   prepared-takes {next = next} size room = record {
     within = λ i l. omega (arith, taken-flops .flop i l .below, p .slotsLong);
     low = λ i l. omega (arith, first-low (taken-flops .flop i l));
     room = few-flops next room;
   }
 
-  pub prepared-holds : {bits next : List Bool} → length bits ≡ slotCount → length next ≡ 1024 → Holds (take k flops) next bits
+  pub prepared-holds : {bits next : List Bool} → length bits ≡ slotCount → length next ≡ 1024 → PutRoom (take k flops) next bits
   prepared-holds {next = next} size room = record {
     low = λ i l. omega (arith, taken-flops .flop i l .below, p .runs .gates .fewGates);
     room = few-flops next room;

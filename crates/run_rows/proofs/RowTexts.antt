@@ -17,7 +17,7 @@ use Rattle.lists.proofs.Laying.{Laying, laying-start, laying-next, laying-done}
 use Rattle.lists.proofs.Range.{Tested, tested-start, tested-next, tested-fails, tested-done}
 use Rattle.signal.specs.Signal.{Const, Input, Var}
 use Rattle.gate_bits.specs.between.Slots.{slotCount, bitAt, pinBits, Shows}
-use Rattle.run_rows.specs.Rows.{digit, lineEnd, rowText, isDigit, bitOf, rowOf}
+use Rattle.run_rows.specs.Rows.{digit, lineEnd, rowText, isDigit, digitBit, rowOf}
 use Rattle.run_rows.specs.between.Steps.{RowTaken, RowRead}
 use Rattle.run_rows.specs.between.Asks.{RowRoom}
 use Rattle.run_rows.proofs.Showing.{put, length-put, put-input, input-keeps-const, input-keeps-gate, input-keeps-input}
@@ -34,13 +34,13 @@ last line = getD line (length line - 1) 0
 
 -- a line is a row where all characters but the last are digits, and the last is LF
 row-is : (line : Bytes) → 0 < length line
-    → rowOf (length line - 1) line ≡ (if all isDigit (front line) && eqb (last line) lineEnd then some (map bitOf (front line)) else none)
+    → rowOf (length line - 1) line ≡ (if all isDigit (front line) && eqb (last line) lineEnd then some (map digitBit (front line)) else none)
 unfolding rowOf same
 row-is line h =
     let n = length line - 1 in
     let all-of : length line ≤ suc n = omega arith in
     let end : drop n line ≡ last line ∷ [] = drop-cons line n 0 (omega arith) ∙ ap (λ (t : Bytes). last line ∷ t) (drop-of-length-le line all-of) in
-    ap (λ (b : Bool). if all isDigit (front line) && b then some (map bitOf (front line)) else none)
+    ap (λ (b : Bool). if all isDigit (front line) && b then some (map digitBit (front line)) else none)
     (ap (λ (t : Bytes). same t (lineEnd ∷ [])) end ∙ and-true (eqb (last line) lineEnd))
 
 -- the first i characters are digits, and the table, which was `bits`, has their bits now
@@ -48,7 +48,7 @@ pub record Reading (line : Bytes) (bits bits′ : List Bool) (i : ℕ) : Type 0 
   -- each of them is a digit
   pub digits : Tested isDigit (front line) i
   -- its bit is that of the input
-  pub inputs : (j : ℕ) → j < i → Shows bits′ (Input j) (bitOf (getD line j 0))
+  pub inputs : (j : ℕ) → j < i → Shows bits′ (Input j) (digitBit (getD line j 0))
   -- a table as before
   pub size : length bits′ ≡ length bits
   -- the constant's bit
@@ -71,16 +71,16 @@ module _ {line : Bytes} {bits bits′ : List Bool} {i : ℕ} (room : RowRoom lin
   read t = record { taken = t; size = c .size; const = c .const; gates = c .gates }
 
   pub reading-next : length bits ≡ slotCount → i < length line - 1 → isDigit (getD line i 0) ≡ true
-      → Reading line bits (put bits′ (4094 - 2 * i) (bitOf (getD line i 0))) (i + 1)
+      → Reading line bits (put bits′ (4094 - 2 * i) (digitBit (getD line i 0))) (i + 1)
   reading-next l h t =
-      let b : Bool = bitOf (getD line i 0) in
+      let b : Bool = digitBit (getD line i 0) in
       let slot : ℕ = 4094 - 2 * i in
       let few : i < 256 = omega (arith, room .few) in
       let place : slot ≡ 4096 - 2 * (i + 1) = omega arith in
       record {
         digits = tested-next 0 (c .digits) (omega (arith, front-long)) (ap isDigit (front-at i h) ∙ t);
         inputs =
-            below-next (λ j. Shows (put bits′ slot b) (Input j) (bitOf (getD line j 0))) i
+            below-next (λ j. Shows (put bits′ slot b) (Input j) (digitBit (getD line j 0))) i
             (λ j m. input-keeps-input bits′ b i few place j (omega arith) (λ e. omega arith) (c .inputs j m))
             (put-input bits′ b i few place (c .size ∙ l));
         size = length-put bits′ slot b ∙ c .size;
@@ -98,12 +98,12 @@ module _ {line : Bytes} {bits bits′ : List Bool} {i : ℕ} (room : RowRoom lin
       let t : true ≡ all isDigit (front line) = tested-done 0 (c .digits) (omega (arith, front-long)) in
       read (rw (row-is line (room .some-byte), ← t) (taken (eqb (last line) lineEnd)))
     where
-      shown : (j : ℕ) → j < length (map bitOf (front line)) → Shows bits′ (Input j) (getD (map bitOf (front line)) j false)
+      shown : (j : ℕ) → j < length (map digitBit (front line)) → Shows bits′ (Input j) (getD (map digitBit (front line)) j false)
       shown j l =
-          let m : j < length line - 1 = omega (arith, front-long, length-map (front line) bitOf) in
-          subst (Shows bits′ (Input j)) (sym (List·getD-map bitOf (front line) j 0 ∙ ap bitOf (front-at j m))) (c .inputs j (omega arith))
+          let m : j < length line - 1 = omega (arith, front-long, length-map (front line) digitBit) in
+          subst (Shows bits′ (Input j)) (sym (List·getD-map digitBit (front line) j 0 ∙ ap digitBit (front-at j m))) (c .inputs j (omega arith))
 
-      taken : (r : Bool) → RowTaken (if r then some (map bitOf (front line)) else none) bits′ r
+      taken : (r : Bool) → RowTaken (if r then some (map digitBit (front line)) else none) bits′ r
       taken true = (refl, shown)
       taken false = refl
 

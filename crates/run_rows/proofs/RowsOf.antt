@@ -17,21 +17,21 @@ use Rattle.lists.proofs.Same.{same-is}
 use Rattle.network.specs.Net.{Net}
 use Rattle.network.specs.Clock.{sigBit}
 use Rattle.network.specs.Settle.{settle, nextOf, runFrom}
-use Rattle.run_rows.specs.Rows.{digit, lineEnd, rowText, rowsText, isDigit, bitOf, rowOf, rowBefore, rowsIn, rowsOf, Wide}
+use Rattle.run_rows.specs.Rows.{digit, lineEnd, rowText, rowsText, isDigit, digitBit, rowOf, rowBefore, rowsIn, rowsOf, Wide}
 
 -- ---- one row
 
 -- the character of a character's bit is the character
-digit-bit : (c : ℕ) → isDigit c ≡ true → digit (bitOf c) ≡ c
+digit-bit : (c : ℕ) → isDigit c ≡ true → digit (digitBit c) ≡ c
 digit-bit c t =
     by-test (eqb c 49) (λ o. let e : c ≡ 49 = eqb-true c 49 o in rw e)
     (λ o. by-test (eqb c 48) (λ z. let e : c ≡ 48 = eqb-true c 48 z in rw e) (λ z. absurd (false≢true (rw (z, o) at t))))
 
-digits-bits : (t : Bytes) → all isDigit t ≡ true → map digit (map bitOf t) ≡ t
+digits-bits : (t : Bytes) → all isDigit t ≡ true → map digit (map digitBit t) ≡ t
 digits-bits [] e = refl
 digits-bits (c ∷ t) e = ap₂ (λ (x : ℕ) (l : Bytes). x ∷ l) (digit-bit c (and-left (isDigit c) (all isDigit t) e)) (digits-bits t (and-right (isDigit c) (all isDigit t) e))
 
-bits-digits : (row : List Bool) → map bitOf (map digit row) ≡ row
+bits-digits : (row : List Bool) → map digitBit (map digit row) ≡ row
 bits-digits [] = refl
 bits-digits (true ∷ row) = ap (λ (l : List Bool). true ∷ l) (bits-digits row)
 bits-digits (false ∷ row) = ap (λ (l : List Bool). false ∷ l) (bits-digits row)
@@ -50,13 +50,13 @@ unfolding rowOf
 row-text n line {row} e =
     by-test (all isDigit (take n line) && same (drop n line) (lineEnd ∷ []))
     (λ t.
-    let q : map bitOf (take n line) ≡ row = (let is = rw t at e in cc) in
+    let q : map digitBit (take n line) ≡ row = (let is = rw t at e in cc) in
     let end : drop n line ≡ lineEnd ∷ [] = same-is (drop n line) (lineEnd ∷ []) (and-right (all isDigit (take n line)) (same (drop n line) (lineEnd ∷ [])) t) in
     let text : line ≡ rowText row =
     sym (take-append-drop n line)
     ∙ ap₂ (λ (a b : Bytes). a ++ b) (sym (digits-bits (take n line) (and-left (all isDigit (take n line)) (same (drop n line) (lineEnd ∷ [])) t)) ∙ ap (map digit) q) end in
     let long : suc (length (drop n line)) ≡ 2 = ap (λ (l : Bytes). suc (length l)) end in
-    (text, ap length (sym q) ∙ length-map (take n line) bitOf ∙ length-take-le n line (omega (arith, length-drop n line))))
+    (text, ap length (sym q) ∙ length-map (take n line) digitBit ∙ length-take-le n line (omega (arith, length-drop n line))))
     (λ t. absurd (Option·none-ne-some row (rw t at e)))
 
 -- and the text of a row has that row

@@ -11,7 +11,7 @@ use Rattle.lists.proofs.Tests.{by-order}
 use Rattle.signal.specs.Signal.{Const, Var}
 use Rattle.gate_bits.specs.between.Slots.{slotCount, Shows}
 use Rattle.run_rows.specs.between.Steps.{dataBit, DataTaken, HeldPut, Stepped}
-use Rattle.run_rows.specs.between.Asks.{Holds}
+use Rattle.run_rows.specs.between.Asks.{PutRoom}
 use Rattle.run_rows.proofs.Showing.{put, length-put, put-gate, gate-keeps-const, gate-keeps-gate}
 
 -- ---- taking
@@ -53,7 +53,7 @@ pub record Putting (flops : List ℕ) (next bits₀ bits : List Bool) (i : ℕ) 
   pub each : (val : ℕ → Bool) → ((j : ℕ) → j < length flops → getD next j false ≡ val (getD flops j 0))
       → (j : ℕ) → j < i → Shows bits (Var (getD flops j 0)) (val (getD flops j 0))
 
-module _ {flops : List ℕ} {next bits₀ : List Bool} (h : Holds flops next bits₀) where
+module _ {flops : List ℕ} {next bits₀ : List Bool} (h : PutRoom flops next bits₀) where
   pub putting-start : Putting flops next bits₀ bits₀ 0
   putting-start = record { size = h .size; const = λ s. s; each = λ val e j l. absurd (omega arith) }
 

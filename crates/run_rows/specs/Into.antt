@@ -41,7 +41,7 @@ ranRows t n = runOutcome (Ran (length t)) (overwrite t (zeros n))
 abbrev pub outputRows : Bytes → ℕ → RunOutcome
 outputRows t n = if ltb n (length t) then refusedRun refusal.WrongRows n else ranRows t n
 
--- of rows that are a text's, "one such row of outputs per clock"; of none, 31
+-- of the rows that a text has, "one such row of outputs per clock"; where it has other lines, 31
 abbrev pub runOn : Net → Option (List (List Bool)) → ℕ → RunOutcome
 runOn net none n = refusedRun refusal.WrongRows n
 runOn net (some rows) n = outputRows (rowsText (run net rows)) n

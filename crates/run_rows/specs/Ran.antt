@@ -6,9 +6,9 @@ use mathlib.Core.Path.{_≡_}
 use mathlib.Core.Bool.{Bool, true}
 use mathlib.Core.List.{List}
 use mathlib.Core.Option.{some}
-use Prim.Native.Nat.{ℕ, _≤_}
-use lib.ListN.{length, take}
-use Rattle.lists.specs.Lists.{Bytes, all}
+use Prim.Native.Nat.{ℕ, _-_, _≤_}
+use lib.ListN.{length, take, drop}
+use Rattle.lists.specs.Lists.{Bytes, all, zeros}
 use Rattle.gates.specs.Gate.{isPlain}
 use Rattle.network.specs.Net.{Net, topoSorted}
 use Rattle.network.specs.Clock.{NetRuns}
@@ -47,3 +47,5 @@ pub record RanFor (net : Net) (t : Bytes) (k : ℕ) (out : Bytes) : Type 0 where
   pub written : take k out ≡ rowsText outs
   -- all of it
   pub long : k ≡ length (rowsText outs)
+  -- "with zero bytes after it"
+  pub rest : drop k out ≡ zeros (length out - k)

@@ -38,12 +38,12 @@ abbrev pub isDigit : ℕ → Bool
 isDigit c = eqb c 48 || eqb c 49
 
 -- the bit of such a character
-abbrev pub bitOf : ℕ → Bool
-bitOf c = eqb c 49
+abbrev pub digitBit : ℕ → Bool
+digitBit c = eqb c 49
 
 -- a row of n bits: n such characters and an LF; none for any other line
 unfoldable pub rowOf : ℕ → Bytes → Option (List Bool)
-rowOf n line = if all isDigit (take n line) && same (drop n line) (lineEnd ∷ []) then some (map bitOf (take n line)) else none
+rowOf n line = if all isDigit (take n line) && same (drop n line) (lineEnd ∷ []) then some (map digitBit (take n line)) else none
 
 -- a row before others; none where it or one of the others is none
 abbrev pub rowBefore : Option (List Bool) → Option (List (List Bool)) → Option (List (List Bool))

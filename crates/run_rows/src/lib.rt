@@ -34,7 +34,7 @@ ghost use Rattle.run_rows.specs.Rows.{isDigit, rowText, rowsOf};
 ghost use Rattle.run_rows.specs.Into.{runOutcome, runOn, runInto};
 ghost use Rattle.run_rows.specs.between.Steps.{LaidOne, LaidOut, Flops, Started, combBit, RowRead, WorkedOut, RowSettled};
 ghost use Rattle.run_rows.specs.between.Steps.{DataTaken, HeldPut, Stepped, Clocked, RunRefused};
-ghost use Rattle.run_rows.specs.between.Asks.{Runnable, LayRoom, ListRoom, StartRoom, RowRoom, BitReady, Workable, LineRoom, Takes, Holds, WholeRows};
+ghost use Rattle.run_rows.specs.between.Asks.{Runnable, TableRoom, ListRoom, StartRoom, RowRoom, BitReady, Workable, LineRoom, TakeRoom, PutRoom, WholeRows};
 
 // What a run answers: the length of the rows written, or why it is refused.
 pub enum RunAnswer {
@@ -77,8 +77,8 @@ fn all_plain(gates: &[u32], pins: &[u32], n: usize) -> bool
 // ---- what is laid out once, before the clocks
 
 // Lays out gate g: its truth table, and the slots of its first six pins.
-fn lay_gate(gates: &[u32], pins: &[u32], g: usize, slots: &mut [u16], tables: &mut [u64])
-    requires { ⌜ LayRoom (now gates) (now pins) g (now slots) (now tables) ⌝ }
+fn lay_table(gates: &[u32], pins: &[u32], g: usize, slots: &mut [u16], tables: &mut [u64])
+    requires { ⌜ TableRoom (now gates) (now pins) g (now slots) (now tables) ⌝ }
     ensures { λ _.
         ⌜ LaidOne (now (gates .entry)) (now (pins .entry)) g (now (slots .entry)) (now (tables .entry))
         (now (slots .exit)) (now (tables .exit)) ⌝ }
@@ -93,15 +93,15 @@ fn lay_gate(gates: &[u32], pins: &[u32], g: usize, slots: &mut [u16], tables: &m
     );
 }
 
-// Lays out each gate that has a table.
-fn lay_gates(gates: &[u32], pins: &[u32], slots: &mut [u16], tables: &mut [u64])
+// Lays out as many gates as there are tables.
+fn lay_tables(gates: &[u32], pins: &[u32], slots: &mut [u16], tables: &mut [u64])
     requires { ⌜ ((i : ℕ) × NetCells i (length (now tables)) (now gates) (now pins)) ⌝ }
     requires { ⌜ length (now tables) * 6 ≤ length (now slots) ⌝ }
     ensures { λ _. ⌜ LaidOut (now (gates .entry)) (now (pins .entry)) (length (now (tables .exit))) (now (slots .exit)) (now (tables .exit)) ⌝ }
 {
     let mut g = 0;
     while g < tables.len() {
-        lay_gate(gates, pins, g, slots, tables);
+        lay_table(gates, pins, g, slots, tables);
         g += 1;
     }
 }
@@ -147,7 +147,7 @@ fn is_digit(c: u8) -> bool
     c == b'1'
 }
 
-// Takes the inputs' bits from a row; answers whether it has a character 0 or 1 for each, and an LF.
+// TakeRoom the inputs' bits from a row; answers whether it has a character 0 or 1 for each, and an LF.
 fn read_row(row: &[u8], bits: &mut [bool]) -> bool
     requires { ⌜ RowRoom (now row) ⌝ }
     requires { ⌜ length (now bits) ≡ slotCount ⌝ }
@@ -204,7 +204,7 @@ fn work_out(gates: &[u32], pins: &[u32], slots: &[u16], tables: &[u64], bits: &m
     }
 }
 
-// Takes a row's bits and works out the gates'; answers whether it is a row.
+// TakeRoom a row's bits and works out the gates'; answers whether it is a row.
 fn settle_row(
     gates: &[u32],
     pins: &[u32],
@@ -241,7 +241,7 @@ fn write_row(outputs: &[u32], bits: &[bool], line: &mut [u8])
 
 // The bits that the flip-flops take: those of their data.
 fn take_data(flops: &[u16], slots: &[u16], bits: &[bool], next: &mut [bool])
-    requires { ⌜ Takes (now flops) (now slots) (now bits) (now next) ⌝ }
+    requires { ⌜ TakeRoom (now flops) (now slots) (now bits) (now next) ⌝ }
     ensures { λ _. ⌜ DataTaken (now (flops .entry)) (now (slots .entry)) (now (bits .entry)) (now (next .exit)) ⌝ }
 {
     let mut i = 0;
@@ -253,7 +253,7 @@ fn take_data(flops: &[u16], slots: &[u16], bits: &[bool], next: &mut [bool])
 
 // Puts the bits that the flip-flops hold next.
 fn put_held(flops: &[u16], next: &[bool], bits: &mut [bool])
-    requires { ⌜ Holds (now flops) (now next) (now bits) ⌝ }
+    requires { ⌜ PutRoom (now flops) (now next) (now bits) ⌝ }
     ensures { λ _. ⌜ HeldPut (now (flops .entry)) (now (next .entry)) (now (bits .entry)) (now (bits .exit)) ⌝ }
 {
     let mut i = 0;
@@ -265,8 +265,8 @@ fn put_held(flops: &[u16], next: &[bool], bits: &mut [bool])
 
 // All flip-flops step together: the next bits of all are taken before the first is put.
 fn step(flops: &[u16], slots: &[u16], next: &mut [bool], bits: &mut [bool])
-    requires { ⌜ Takes (now flops) (now slots) (now bits) (now next) ⌝ }
-    requires { ⌜ Holds (now flops) (now next) (now bits) ⌝ }
+    requires { ⌜ TakeRoom (now flops) (now slots) (now bits) (now next) ⌝ }
+    requires { ⌜ PutRoom (now flops) (now next) (now bits) ⌝ }
     ensures { λ _. ⌜ Stepped (now (flops .entry)) (now (slots .entry)) (now (bits .entry)) (now (bits .exit)) ⌝ }
 {
     take_data(flops, slots, bits, next);
@@ -317,7 +317,7 @@ fn run_sorted(
     let mut flops = [0u16; 1024];
     let mut bits = [false; 4096];
     let mut next = [false; 1024];
-    lay_gates(gates, pins, &mut slots, &mut tables[..n]);
+    lay_tables(gates, pins, &mut slots, &mut tables[..n]);
     let k = list_flops(gates, n, &mut flops);
     start_bits(n, &mut bits);
     let width = inputs + 1;

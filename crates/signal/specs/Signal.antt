@@ -47,12 +47,12 @@ constNode (Input i) = false
 constNode (Var g) = false
 
 -- whether the signal is the constant zero
-abbrev pub isZero : Signal → Bool
-isZero s = constNode (s .node) && not (s .inv)
+abbrev pub isZeroS : Signal → Bool
+isZeroS s = constNode (s .node) && not (s .inv)
 
 -- whether it is the constant one
-abbrev pub isOne : Signal → Bool
-isOne s = constNode (s .node) && s .inv
+abbrev pub isOneS : Signal → Bool
+isOneS s = constNode (s .node) && s .inv
 
 -- the node with gate g renumbered π g
 abbrev pub remapNode : (ℕ → ℕ) → Node → Node

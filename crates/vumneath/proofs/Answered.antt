@@ -38,8 +38,8 @@ use Rattle.run_rows.specs.Ran.{RunsFor}
 use Rattle.run_rows.specs.declared.RunAnswer.{RunAnswer}
 use Rattle.run_rows.specs.declared.RunAnswer.the-variants as rows
 use Rattle.run_rows.proofs.Outcomes.{runs-on}
-use Rattle.run_rows.proofs.Summary.{runs-answer, answers-run, running-refuses}
-use Rattle.vumneath.specs.Handed.{networkOf, textFor, rowsFor}
+use Rattle.run_rows.proofs.Summary.{runs-answer, length-answered, running-refuses}
+use Rattle.vumneath.specs.Handed.{networkOf, textFor, rowsFor, RefusedRun}
 
 -- ---- reading
 
@@ -120,20 +120,21 @@ answer-zero (rows.Ran k) z = (k, refl)
 answer-zero (rows.Refused r) z = absurd (omega (arith, number-pos r, z))
 
 pub run-zero : (l : Lent) (t : Bytes) (n : ℕ) → rowsFor (runInto l t n .answer) .refused ≡ 0 → RunsFor l t n
-run-zero l t n z = let k = answer-zero (runInto l t n .answer) z in answers-run l t n (k .0) (k .1)
+run-zero l t n z = let k = answer-zero (runInto l t n .answer) z in length-answered l t n (k .0) (k .1)
 
 pub run-success : (l : Lent) (t : Bytes) (n : ℕ) → RunsFor l t n → rowsFor (runInto l t n .answer) .refused ≡ 0
 run-success l t n f = ap (λ (o : RunOutcome). rowsFor (o .answer) .refused) (runs-answer l t n f)
 
 -- any other number is one of a run's
-rows-refused : (a : RunAnswer) → ((k : Refusal) → a ≡ rows.Refused k → InRunning k) → (rowsFor a .refused ≡ 0 → ⊥)
-    → (k : Refusal) × InRunning k × (a ≡ rows.Refused k) × (rowsFor a .refused ≡ numberOf k)
-rows-refused (rows.Ran m) w f = absurd (f refl)
-rows-refused (rows.Refused k) w f = (k, w k refl, refl, refl)
+rows-refused : (a : RunAnswer) → (rowsFor a .refused ≡ 0 → ⊥) → (k : Refusal) × (a ≡ rows.Refused k)
+rows-refused (rows.Ran m) f = absurd (f refl)
+rows-refused (rows.Refused k) f = (k, refl)
 
-pub run-refused : (l : Lent) (t : Bytes) (n : ℕ) → (rowsFor (runInto l t n .answer) .refused ≡ 0 → ⊥)
-    → (k : Refusal) × InRunning k × (runInto l t n .answer ≡ rows.Refused k) × (rowsFor (runInto l t n .answer) .refused ≡ numberOf k)
-run-refused l t n f = rows-refused (runInto l t n .answer) (running-refuses l t n) f
+pub run-refused : (l : Lent) (t : Bytes) (n : ℕ) → (rowsFor (runInto l t n .answer) .refused ≡ 0 → ⊥) → RefusedRun l t n (rowsFor (runInto l t n .answer)) (runInto l t n .out)
+run-refused l t n f =
+    let k = rows-refused (runInto l t n .answer) f in
+    let i = running-refuses l t n (k .0) (k .1) in
+    record { refusal = k .0; among = i .0; told = k .1; number = ap (λ (a : RunAnswer). rowsFor a .refused) (k .1); length = ap (λ (a : RunAnswer). rowsFor a .length) (k .1); bytes = i .1 }
 
 -- a network that passes 20, 29 and 30 is refused by 31 alone
 pub run-rows-only : (l : Lent) (t : Bytes) (n : ℕ) → isNetwork l ≡ true → topoSorted (netOf l) ≡ true → all isPlain (netOf l .gates) ≡ true

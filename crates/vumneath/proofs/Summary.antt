@@ -3,8 +3,9 @@
 --   refused-reading, refused-writing, refused-running  `refused` is 0 exactly on success, else a number of 1 to 14, of 20 to 22, of 20 and 29 to 31
 --   read-outputs    the network in the cells has exactly the outputs that the text has, by the Berkeley text
 --   text-written    the bytes up to the length are the network's text
---   rows-run        the rows written are the only ones that document 01's clock allows
+--   rows-written        the rows written are the only ones that document 01's clock allows
 --   read-runs       a network that one call read is never refused by 20, 29 or 30 when the other runs it
+--   read-runs-for   but just where the rows are wrong or do not fit
 --   read-then-run   reading a text and running it gives exactly the outputs that the text has by the Berkeley text
 --   handed-back     demand 3: written by one call, read back by the other
 --   never-shared    two networks that share a text agree in every output
@@ -12,13 +13,14 @@
 use mathlib.Core.Path.{_≡_, sym, ap, _∙_, subst}
 use mathlib.Core.Bool.{Bool, true}
 use mathlib.Core.List.{List}
+use mathlib.Core.Option.{some}
 use mathlib.Core.Logic.{_↔_, _⊎_, inl, inr, ⊎-elim}
-use Prim.Native.Nat.{ℕ}
+use Prim.Native.Nat.{ℕ, _≤_}
 use native.Mathlib.Omega.{arith}
 use lib.ListN.{length, take, length-replicate}
 use Rattle.lists.specs.Lists.{Bytes, zeros, overwrite}
 use Rattle.lists.proofs.Over.{take-overwrite}
-use Rattle.refusals.specs.Numbers.{numberOf, InReading, InWriting, InRunning}
+use Rattle.refusals.specs.Numbers.{numberOf, InReading, InWriting}
 use Rattle.refusals.specs.declared.Refusal.{Refusal}
 use Rattle.network.specs.Net.{Net}
 use Rattle.network.specs.Cells.{Lent, lent, netOf, isNetwork, Words, countsOf}
@@ -40,12 +42,11 @@ use Rattle.round_trip.proofs.Demand as demand
 use Rattle.round_trip.proofs.Summary as trip
 use Rattle.blif_reading.proofs.ReadNet.{NetRead, read-net}
 use Rattle.blif_reading.proofs.Summary as reading
-use Rattle.run_rows.specs.Rows.{rowsText}
+use Rattle.run_rows.specs.Rows.{rowsText, rowsOf}
 use Rattle.run_rows.specs.Into.{RunOutcome, runInto}
 use Rattle.run_rows.specs.Ran.{RunsFor, RanFor}
-use Rattle.run_rows.specs.declared.RunAnswer.the-variants as ran
-use Rattle.run_rows.proofs.Summary.{runs-answer, ran-rows, ran-text}
-use Rattle.vumneath.specs.Handed.{networkOf, textFor, rowsFor, ReadHanded, WriteHanded, RunHanded, countsHanded, netHanded, HandedBack, TextRan}
+use Rattle.run_rows.proofs.Summary.{runs-answer, ran-rows, ran-text, ran-rest}
+use Rattle.vumneath.specs.Handed.{networkOf, textFor, rowsFor, ReadHanded, WriteHanded, RunHanded, RefusedRun, countsHanded, netHanded, HandedBack, TextRan}
 use Rattle.vumneath.specs.declared.VumneathNetwork.{VumneathNetwork}
 use Rattle.vumneath.specs.declared.VumneathText.{VumneathText}
 use Rattle.vumneath.specs.declared.VumneathRows.{VumneathRows}
@@ -122,20 +123,19 @@ module _ (l : Lent) (t : Bytes) (n : ℕ) {w : VumneathRows} {out : Bytes} (h : 
   told-running = ap (λ (x : VumneathRows). x .refused) (h .answer)
 
   -- every lent network and every text of rows gets a length or a numbered refusal: 0 is told exactly where nothing refuses, and any other
-  -- number is that of the refusal, one of 20, 29, 30 and 31
-  pub refused-running : ((w .refused ≡ 0) ↔ RunsFor l t n)
-      × ((w .refused ≡ 0 → ⊥) → (k : Refusal) × InRunning k × (runInto l t n .answer ≡ ran.Refused k) × (w .refused ≡ numberOf k))
+  -- number is that of the refusal, one of 20, 29, 30 and 31; the length is then 0, and so is every byte
+  pub refused-running : ((w .refused ≡ 0) ↔ RunsFor l t n) × ((w .refused ≡ 0 → ⊥) → RefusedRun l t n w out)
   refused-running = (
     ((λ z. run-zero l t n (sym told-running ∙ z)), (λ f. told-running ∙ run-success l t n f)),
-    (λ f. let k = run-refused l t n (λ z. f (told-running ∙ z)) in (k .0, k .1, k .2, told-running ∙ k .3)),
+    (λ f. subst (λ (o : Bytes). RefusedRun l t n w o) (sym (h .bytes)) (subst (λ (x : VumneathRows). RefusedRun l t n x (runInto l t n .out)) (sym (h .answer)) (run-refused l t n (λ z. f (told-running ∙ z))))),
   )
 
   length-run : (f : RunsFor l t n) → w .length ≡ length (rowsText (run (netOf l) (f .rows)))
   length-run f = ap (λ (x : VumneathRows). x .length) (h .answer ∙ ap (λ (o : RunOutcome). rowsFor (o .answer)) (runs-answer l t n f))
 
   -- where a length is answered, the rows written are, clock by clock, the only ones that document 01's clock allows from zero
-  pub rows-run : Words l → w .refused ≡ 0 → RanFor (netOf l) t (w .length) out
-  rows-run words z =
+  pub rows-written : Words l → w .refused ≡ 0 → RanFor (netOf l) t (w .length) out
+  rows-written words z =
       let f = refused-running .0 .0 z in
       ran-rows l t n words f (length-run f) (h .bytes)
 
@@ -161,6 +161,14 @@ module _ (text : Bytes) (m : Lengths) {r : VumneathNetwork} {gs ps os wgs wps : 
       ⊎-elim (λ e. inl (told-running lent-read t n ran ∙ e)) (λ e. inr (told-running lent-read t n ran ∙ e))
       (run-rows-only lent-read t n is-network (known .sorted) (known .plain))
 
+  -- and it refuses just where the text has no such rows or their outputs do not fit
+  pub read-runs-for : (w .refused ≡ 0) ↔ ((rows : List (List Bool)) × (rowsOf (r .inputs) t ≡ some rows) × (length (rowsText (run (netOf lent-read) rows)) ≤ n))
+  unfolding netOf
+  read-runs-for = (
+    (λ e. let f = refused-running lent-read t n ran .0 .0 e in (f .rows, f .has, f .room)),
+    (λ f. refused-running lent-read t n ran .0 .1 (record { network = is-network; sorted = known .sorted; plain = known .plain; rows = f .0; has = f .1; room = f .2 })),
+  )
+
   -- where a length is answered, the rows written are exactly the outputs that the text has by the Berkeley text, for every list of rows, the
   -- empty one too
   pub read-then-run : w .refused ≡ 0 → TextRan text (r .inputs) t (w .length) out
@@ -175,6 +183,7 @@ module _ (text : Bytes) (m : Lengths) {r : VumneathNetwork} {gs ps os wgs wps : 
         only = λ others. read-outputs text m h z (f .rows) others .1;
         written = ran-text lent-read t n f k (ran .bytes);
         long = k;
+        rest = ran-rest lent-read t n f k (ran .bytes);
       }
 
 -- ---- demand 3

@@ -5,13 +5,14 @@ use mathlib.Core.Bool.{Bool}
 use mathlib.Core.List.{List}
 use mathlib.Core.Option.{some}
 use mathlib.Core.Logic.{_↔_}
-use Prim.Native.Nat.{ℕ}
-use lib.ListN.{length, take}
-use Rattle.lists.specs.Lists.{Bytes}
-use Rattle.refusals.specs.Numbers.{numberOf}
+use Prim.Native.Nat.{ℕ, _-_}
+use lib.ListN.{length, take, drop}
+use Rattle.lists.specs.Lists.{Bytes, zeros}
+use Rattle.refusals.specs.Numbers.{numberOf, InRunning}
+use Rattle.refusals.specs.declared.Refusal.{Refusal}
 use Rattle.network.specs.Net.{Net}
 use Rattle.network.specs.Settle.{SameOutputs}
-use Rattle.network.specs.Cells.{lent, netOf}
+use Rattle.network.specs.Cells.{Lent, lent, netOf}
 use Rattle.network.specs.declared.Counts.{Counts}
 use Rattle.blif_meaning.specs.Model.{BlifRuns}
 use Rattle.blif_reading.specs.TextModel.{modelOfText}
@@ -23,7 +24,7 @@ use Rattle.blif_write.specs.Into.{WriteOutcome}
 use Rattle.blif_write.specs.declared.WriteAnswer.{WriteAnswer}
 use Rattle.blif_write.specs.declared.WriteAnswer.the-variants as write
 use Rattle.run_rows.specs.Rows.{rowsText, rowsOf}
-use Rattle.run_rows.specs.Into.{RunOutcome}
+use Rattle.run_rows.specs.Into.{RunOutcome, runInto}
 use Rattle.run_rows.specs.declared.RunAnswer.{RunAnswer}
 use Rattle.run_rows.specs.declared.RunAnswer.the-variants as rows
 use Rattle.vumneath.specs.declared.VumneathNetwork.{VumneathNetwork}
@@ -78,6 +79,21 @@ pub record RunHanded (o : RunOutcome) (r : VumneathRows) (out : Bytes) : Type 0 
   -- the bytes
   pub bytes : out ≡ o .out
 
+-- what a refused run hands over
+pub record RefusedRun (l : Lent) (t : Bytes) (n : ℕ) (r : VumneathRows) (out : Bytes) : Type 0 where
+  -- the refusal
+  pub refusal : Refusal
+  -- one of 20, 29, 30 and 31
+  pub among : InRunning refusal
+  -- which is answered
+  pub told : runInto l t n .answer ≡ rows.Refused refusal
+  -- its number
+  pub number : r .refused ≡ numberOf refusal
+  -- no length
+  pub length : r .length ≡ 0
+  -- "A refusal zeroes the output rows"
+  pub bytes : out ≡ zeros n
+
 -- ---- what was handed over, as a network
 
 -- the counts in C's struct
@@ -120,3 +136,5 @@ pub record TextRan (text : Bytes) (inputs : ℕ) (given : Bytes) (k : ℕ) (out 
   pub written : take k out ≡ rowsText outs
   -- all of it
   pub long : k ≡ length (rowsText outs)
+  -- with zero bytes after it
+  pub rest : drop k out ≡ zeros (length out - k)

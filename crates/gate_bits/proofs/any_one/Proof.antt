@@ -25,8 +25,7 @@ made : (c : tie.After-any-in Inv-loop μ-loop)
     → let a = c .before .before .before .before .before .before .before .args in
     MadeOf (any (invertIf (a .inverted))) (a .bits .now) (a .run .now) (c .any-in .result) (c .before .before .part-end .result)
 made c =
-    let end = c .before .before .part-end .ensures in
-    made-part (any-joins _) (c .before .before .before .before .loop .inv) (omega arith) (end .within) (c .any-in .ensures)
+    made-part (any-joins _) (c .before .before .before .before .loop .inv) (omega (arith, c .before .before .part-end .ensures)) (omega (arith, c .before .before .part-end .ensures)) (c .any-in .ensures)
 
 returns : tie.Need-returns Inv-loop μ-loop
 returns c = made-found (rw (c .if1 .taken) at (made (c .before)))

@@ -9,7 +9,7 @@
 use mathlib.Core.Path.{_≡_}
 use mathlib.Core.Bool.{Bool, false, not}
 use mathlib.Core.List.{List, map}
-use Prim.Native.Nat.{ℕ, suc, _+_, _-_, _*_, _%_, _<_, _≤_}
+use Prim.Native.Nat.{ℕ, suc, _+_, _-_, _*_, _%_, _<_}
 use lib.ListN.{length, getD}
 use Rattle.lists.specs.Lists.{range}
 use Rattle.signal.specs.Signal.{Node, Const, Input, Var}
@@ -69,10 +69,3 @@ pub record SixSlots (slots : List ℕ) (bits : List Bool) : Type 0 where
   pub six : length slots ≡ 6
   -- each is one of the table's
   pub within : (i : ℕ) → i < 6 → getD slots i 0 < length bits
-
--- r ends a part of one or more of the pins from `at` on
-pub record PartEnd (at len r : ℕ) : Type 0 where
-  -- one or more
-  pub some-pin : at < r
-  -- within the pins
-  pub within : r ≤ len

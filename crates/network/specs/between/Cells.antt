@@ -30,7 +30,7 @@ pub record Laid (net : Net) (l : Lent) : Type 0 where
 
 -- ---- the gates of a network in cells
 
--- so few inputs and gates that the low half of a cell, or of its complement, tells them apart
+-- so few inputs and gates that half of a cell's number, and half of its complement's, tell them apart
 pub record FewNodes (inputs gates : ℕ) : Type 0 where
   -- "256 inputs"
   pub fewInputs : inputs ≤ maxInputs

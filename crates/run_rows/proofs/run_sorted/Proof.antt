@@ -28,10 +28,10 @@ abbrev entry : tie.After-bits2 Inv-loop μ-loop → tie.Start Inv-loop μ-loop
 entry c = c .before .before .before .before .before .before .before .before .before .before .before .before .before .before .before .before
 
 abbrev slots : tie.After-bits2 Inv-loop μ-loop → List ℕ
-slots c = c .before .before .before .before .before .before .before .before .lay-gates .last .1 .1 .0
+slots c = c .before .before .before .before .before .before .before .before .lay-tables .last .1 .1 .0
 
 abbrev laid : tie.After-bits2 Inv-loop μ-loop → List ℕ
-laid c = c .before .before .before .before .before .before .before .before .lay-gates .last .1 .1 .1 .0
+laid c = c .before .before .before .before .before .before .before .before .lay-tables .last .1 .1 .1 .0
 
 abbrev flops : tie.After-bits2 Inv-loop μ-loop → List ℕ
 flops c = c .before .before .before .before .list-flops .last .1 .1 .0
@@ -39,7 +39,7 @@ flops c = c .before .before .before .before .list-flops .last .1 .1 .0
 prepared : (c : tie.After-bits2 Inv-loop μ-loop) (rest : List ℕ) → let a = entry c .args in
     Prepared (a .counts .inputs) (a .counts .gates) (a .gates .now) (a .pins .now) (a .outputs .now) (slots c) (laid c ++ rest) (flops c) (c .before .before .before .before .list-flops .result)
 prepared c rest =
-    let lay = c .before .before .before .before .before .before .before .before .lay-gates in
+    let lay = c .before .before .before .before .before .before .before .before .lay-tables in
     let list = c .before .before .before .before .list-flops in
     let few = entry c .pre .0 .gates .fewGates in
     prepared-from rest (entry c .pre .0) (lay .kept .1 .1 .1 .0 ∙ length-take-le {A = ℕ} _ (replicate 1024 0) few) (lay .ensures)
@@ -49,11 +49,11 @@ prepared c rest =
 array-borrow-prefix-tables : tie.Need-array-borrow-prefix-tables Inv-loop μ-loop
 array-borrow-prefix-tables c = c .before .before .before .before .before .before .pre .0 .gates .fewGates
 
-slice-aggregate-lay-gates-2 : tie.Need-slice-aggregate-lay-gates-2 Inv-loop μ-loop
-slice-aggregate-lay-gates-2 c = sym (length-take-le {A = ℕ} _ (replicate 1024 0) (c .before .before .before .before .before .before .before .pre .0 .gates .fewGates))
+slice-aggregate-lay-tables-2 : tie.Need-slice-aggregate-lay-tables-2 Inv-loop μ-loop
+slice-aggregate-lay-tables-2 c = sym (length-take-le {A = ℕ} _ (replicate 1024 0) (c .before .before .before .before .before .before .before .pre .0 .gates .fewGates))
 
-lay-gates-requires : tie.Need-lay-gates-requires Inv-loop μ-loop
-lay-gates-requires c κs =
+lay-tables-requires : tie.Need-lay-tables-requires Inv-loop μ-loop
+lay-tables-requires c κs =
     let start = c .before .before .before .before .before .before .before in
     let gates = start .pre .0 .gates in
     let long = length-take-le {A = ℕ} _ (replicate 1024 0) (gates .fewGates) in
@@ -149,7 +149,7 @@ pub run-sorted-spec : {M : Type 1} → statement M
 run-sorted-spec =
     tie.close
     (tie.spec
-    Inv-loop μ-loop (λ c. search needs) array-borrow-prefix-tables slice-aggregate-lay-gates-2 lay-gates-requires (λ c. search needs)
+    Inv-loop μ-loop (λ c. search needs) array-borrow-prefix-tables slice-aggregate-lay-tables-2 lay-tables-requires (λ c. search needs)
     list-flops-requires (λ c. search needs) start-bits-requires add-width (λ c. search needs) loop-holds add-end add-upto
     (λ c. search needs) array-share-prefix-tables slice-aggregate-settle-row-2 (λ c. search needs) (λ c. search needs) part-settle-row-end
     (λ c. search needs) settle-row-requires (λ c. search needs) returns (λ c. search needs) (λ c. search needs) (λ c. search needs)

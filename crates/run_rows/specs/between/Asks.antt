@@ -15,7 +15,7 @@ use Rattle.network.specs.Record.{formAt}
 use Rattle.network.specs.between.Record.{RecordIn, HasRun}
 use Rattle.network.specs.between.Cells.{GateCells, NetCells}
 use Rattle.gate_bits.specs.between.Slots.{slotCount, Shows}
-use Rattle.run_rows.specs.between.Steps.{GateLaid, LaidOut}
+use Rattle.run_rows.specs.between.Steps.{TableLaid, LaidOut}
 
 -- ---- a network
 
@@ -35,7 +35,7 @@ pub record Runnable (inputs n : ℕ) (cells ps outs : List ℕ) : Type 0 where
 -- ---- before the clocks
 
 -- gate g can be laid out
-pub record LayRoom (cells ps : List ℕ) (g : ℕ) (slots tables : List ℕ) : Type 0 where
+pub record TableRoom (cells ps : List ℕ) (g : ℕ) (slots tables : List ℕ) : Type 0 where
   -- its record and its run are there
   pub has : HasRun cells ps g
   -- six slots for it
@@ -79,7 +79,7 @@ pub record BitReady (cells ps : List ℕ) (g : ℕ) (slots tables : List ℕ) (b
   -- it is no flip-flop
   pub comb : formAt cells g ≡ flopNumber → ⊥
   -- it is laid out
-  pub laid : GateLaid cells ps slots tables g
+  pub laid : TableLaid cells ps slots tables g
   -- its slots
   pub slot : g * 6 + 6 ≤ length slots
   -- its table
@@ -114,7 +114,7 @@ pub record LineRoom (outs : List ℕ) (bits : List Bool) (line : Bytes) : Type 0
   pub room : length line ≡ suc (length outs)
 
 -- each flip-flop's first slot is one of the table's, and it has a place
-pub record Takes (flops slots : List ℕ) (bits next : List Bool) : Type 0 where
+pub record TakeRoom (flops slots : List ℕ) (bits next : List Bool) : Type 0 where
   -- its first slot is there
   pub within : (i : ℕ) → i < length flops → getD flops i 0 * 6 < length slots
   -- and one of the table's
@@ -123,7 +123,7 @@ pub record Takes (flops slots : List ℕ) (bits next : List Bool) : Type 0 where
   pub room : length flops ≤ length next
 
 -- each flip-flop has a slot and a place
-pub record Holds (flops : List ℕ) (next bits : List Bool) : Type 0 where
+pub record PutRoom (flops : List ℕ) (next bits : List Bool) : Type 0 where
   -- "1,024 gates"
   pub low : (i : ℕ) → i < length flops → getD flops i 0 < 1024
   -- a place for each

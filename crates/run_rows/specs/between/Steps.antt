@@ -32,7 +32,7 @@ use Rattle.run_rows.specs.declared.RunAnswer.the-variants.{Refused}
 -- ---- what is laid out before the clocks
 
 -- gate g's truth table and the slots of its first six pins
-pub record GateLaid (cells ps slots tables : List ℕ) (g : ℕ) : Type 0 where
+pub record TableLaid (cells ps slots tables : List ℕ) (g : ℕ) : Type 0 where
   -- the table of its form
   pub table : getD tables g 0 ≡ kindTable (kindOf (formAt cells g))
   -- a slot for each of six pins
@@ -41,9 +41,9 @@ pub record GateLaid (cells ps slots tables : List ℕ) (g : ℕ) : Type 0 where
 -- laying out gate g leaves those before it as they were
 pub record LaidOne (cells ps : List ℕ) (g : ℕ) (slots tables slots′ tables′ : List ℕ) : Type 0 where
   -- gate g is laid out
-  pub laid : GateLaid cells ps slots′ tables′ g
+  pub laid : TableLaid cells ps slots′ tables′ g
   -- those before it still are
-  pub kept : (h : ℕ) → h < g → GateLaid cells ps slots tables h → GateLaid cells ps slots′ tables′ h
+  pub kept : (h : ℕ) → h < g → TableLaid cells ps slots tables h → TableLaid cells ps slots′ tables′ h
   -- as many slots
   pub slotsLong : length slots′ ≡ length slots
   -- as many tables
@@ -52,7 +52,7 @@ pub record LaidOne (cells ps : List ℕ) (g : ℕ) (slots tables slots′ tables
 -- n gates are laid out
 pub record LaidOut (cells ps : List ℕ) (n : ℕ) (slots tables : List ℕ) : Type 0 where
   -- each of them
-  pub each : (g : ℕ) → g < n → GateLaid cells ps slots tables g
+  pub each : (g : ℕ) → g < n → TableLaid cells ps slots tables g
 
 -- gate g is a flip-flop, of n gates
 pub record IsFlop (cells : List ℕ) (n g : ℕ) : Type 0 where
@@ -167,7 +167,7 @@ pub record Stepped (flops slots : List ℕ) (bits bits′ : List Bool) : Type 0 
 
 -- ---- clocks
 
--- a clock for each row, from these held bits; r tells whether there are rows
+-- a clock for each row, from these held bits; r tells whether the text has rows and no other lines
 abbrev pub Clocked : Net → Option (List (List Bool)) → (ℕ → Bool) → Bytes → Bool → Type 0
 Clocked net none held out r = r ≡ false
 Clocked net (some rows) held out r = (r ≡ true) × (out ≡ rowsText (runFrom net held rows))
