@@ -66,6 +66,10 @@ extern "C" {
 #define VUMNEATH_REFUSED_OTHER_FLIP_FLOP 30    /* a flip-flop has another enable or reset */
 #define VUMNEATH_REFUSED_WRONG_ROWS 31         /* a row has the wrong length, another character or no LF, or the output rows do not fit */
 
+/* Refusals of the program passreport; no function answers these. */
+#define VUMNEATH_REFUSED_WRONG_SHEET 32        /* a sheet line is missing, misformed or left over, or the sheet is over 40,960 bytes */
+#define VUMNEATH_REFUSED_NO_OUTPUT 33          /* the network has no output */
+
 /* Signals. A signal is one cell: a constant, an input or a gate, as it is or inverted. Bit 0 is the inversion. Gates are numbered from 0
  * in the order of their records, inputs from 0 in the order in which the text names them. Input 0 is FFFFFFFE hexadecimal, input 1
  * FFFFFFFC, gate 0 is 2, gate 1 is 4; each plus 1 where it is inverted. */

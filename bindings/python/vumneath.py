@@ -55,6 +55,8 @@ _REFUSALS = (
     (29, "NotSorted", "a combinational gate has a gate input whose number is not lower than its own"),
     (30, "OtherFlipFlop", "a flip-flop has another enable or reset"),
     (31, "WrongRows", "a row has the wrong length, another character or no LF, or the output rows do not fit"),
+    (32, "WrongSheet", "a sheet line is missing, misformed or left over, or the sheet is over 40,960 bytes"),
+    (33, "NoOutput", "the network has no output"),
 )
 REFUSALS = {number: sentence for number, _, sentence in _REFUSALS}
 _NAMES = {number: name for number, name, _ in _REFUSALS}

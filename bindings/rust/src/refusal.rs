@@ -54,6 +54,8 @@ refusals! {
     NotSorted = 29, "a combinational gate has a gate input whose number is not lower than its own";
     OtherFlipFlop = 30, "a flip-flop has another enable or reset";
     WrongRows = 31, "a row has the wrong length, another character or no LF, or the output rows do not fit";
+    WrongSheet = 32, "a sheet line is missing, misformed or left over, or the sheet is over 40,960 bytes";
+    NoOutput = 33, "the network has no output";
 }
 
 impl Refusal {

@@ -30,6 +30,8 @@ number-pos refusal.TextDoesNotFit = omega arith
 number-pos refusal.NotSorted = omega arith
 number-pos refusal.OtherFlipFlop = omega arith
 number-pos refusal.WrongRows = omega arith
+number-pos refusal.WrongSheet = omega arith
+number-pos refusal.NoOutput = omega arith
 
 -- the refusal of each number; the first stands where there is none
 byNumber : List Refusal
@@ -66,6 +68,8 @@ byNumber =
     ∷ refusal.NotSorted
     ∷ refusal.OtherFlipFlop
     ∷ refusal.WrongRows
+    ∷ refusal.WrongSheet
+    ∷ refusal.NoOutput
     ∷ []
 
 number-again : (r : Refusal) → getD byNumber (numberOf r) refusal.TooFewCells ≡ r
@@ -90,6 +94,8 @@ number-again refusal.TextDoesNotFit = refl
 number-again refusal.NotSorted = refl
 number-again refusal.OtherFlipFlop = refl
 number-again refusal.WrongRows = refl
+number-again refusal.WrongSheet = refl
+number-again refusal.NoOutput = refl
 
 -- no two refusals share a number
 pub number-one : (a b : Refusal) → numberOf a ≡ numberOf b → a ≡ b

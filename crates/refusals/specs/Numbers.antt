@@ -4,6 +4,7 @@
 --   InReading r  one that reading answers
 --   InWriting r  one that writing answers
 --   InRunning r  one that a run answers
+--   InReport r   one that a report answers
 use mathlib.Core.Path.{_≡_}
 use mathlib.Core.Logic.{_⊎_}
 use Prim.Native.Nat.{ℕ, _≤_}
@@ -11,7 +12,7 @@ use Rattle.refusals.specs.declared.Refusal.{Refusal}
 use Rattle.refusals.specs.declared.Refusal.the-variants as refusal
 
 -- "Reading refuses, in order: 1 .. 14"; "Writing refuses, in order: 20 .. 22"; document 02, CR 1: "The order is 20, then these. 29 .. 30 ..
--- and 31"
+-- and 31"; CR 2: "32 when a sheet line is missing, misformed or left over, or the sheet passes 40,960 bytes", "33 when the network has no output"
 abbrev pub numberOf : Refusal → ℕ
 numberOf refusal.TooFewCells = 1
 numberOf refusal.TextTooLong = 2
@@ -33,6 +34,8 @@ numberOf refusal.TextDoesNotFit = 22
 numberOf refusal.NotSorted = 29
 numberOf refusal.OtherFlipFlop = 30
 numberOf refusal.WrongRows = 31
+numberOf refusal.WrongSheet = 32
+numberOf refusal.NoOutput = 33
 
 -- a refusal of reading: 1 to 14
 pub record InReading (r : Refusal) : Type 0 where
@@ -51,3 +54,7 @@ pub record InWriting (r : Refusal) : Type 0 where
 -- a refusal of a run: 20, or 29 to 31
 abbrev pub InRunning : Refusal → Type 0
 InRunning r = (numberOf r ≡ 20) ⊎ (numberOf r ≡ 29) ⊎ (numberOf r ≡ 30) ⊎ (numberOf r ≡ 31)
+
+-- a refusal of a report: one of reading, or 31 to 33
+abbrev pub InReport : Refusal → Type 0
+InReport r = InReading r ⊎ (numberOf r ≡ 31) ⊎ (numberOf r ≡ 32) ⊎ (numberOf r ≡ 33)

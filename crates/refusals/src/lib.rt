@@ -3,7 +3,7 @@ ghost use mathlib.Core.Path.{_≡_};
 ghost use Rattle.refusals.specs.Numbers.{numberOf};
 ghost use Rattle.refusals.specs.Order.{refuseIf};
 
-// Why a text, a network or rows are refused.
+// Why a text, a network, rows or a sheet are refused.
 pub enum Refusal {
     // too few cells are lent
     TooFewCells,
@@ -45,6 +45,10 @@ pub enum Refusal {
     OtherFlipFlop,
     // a row has the wrong length, another character or no LF, or the output rows do not fit
     WrongRows,
+    // a sheet line is missing, misformed or left over, or the sheet is over 40,960 bytes
+    WrongSheet,
+    // the network has no output
+    NoOutput,
 }
 
 // What a check answers: nothing is wrong, or the refusal.
@@ -89,6 +93,8 @@ impl Refusal {
             Refusal::NotSorted => 29,
             Refusal::OtherFlipFlop => 30,
             Refusal::WrongRows => 31,
+            Refusal::WrongSheet => 32,
+            Refusal::NoOutput => 33,
         }
     }
 }
