@@ -1,4 +1,3 @@
 pub mod Printing
-pub mod Input
 pub mod ReadForms
 pub mod Summary

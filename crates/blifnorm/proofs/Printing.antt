@@ -1,23 +1,21 @@
 -- What is printed, from what the reader and the writer answer. Assumes nothing.
 use mathlib.Core.Path.{_≡_, refl, sym, ap, _∙_, subst}
 use mathlib.Core.Bool.{Bool, true, false, true≢false, false≢true}
-use mathlib.Core.List.{List, [], _∷_, _++_, append-assoc}
+use mathlib.Core.List.{List}
 use Prim.Native.Nat.{ℕ}
 use native.Mathlib.Omega.{arith}
 use lib.ListN.{length, length-replicate}
-use Rattle.lists.specs.Lists.{if_then_else_, Bytes, bytes, zeros, any, overwrite}
+use Rattle.lists.specs.Lists.{if_then_else_, Bytes, zeros, any, overwrite}
 use Rattle.lists.proofs.Over.{take-overwrite}
 use Rattle.lists.proofs.Tests.{by-test}
 use Rattle.network.specs.Cells.{Lent, lent, isNetwork, netOf}
 use Rattle.network.specs.declared.Counts.{Counts}
 use Rattle.refusals.specs.declared.Refusal.{Refusal}
 use Rattle.refusals.specs.declared.Refusal.the-variants as refusal
-use Rattle.refusals.specs.Numbers.{numberOf}
-use Rattle.blif_writing.specs.Names.{decimal}
 use Rattle.blif_writing.specs.WrittenModel.{wide}
 use Rattle.blif_writing.specs.Text.{textOf}
 use Rattle.blif_write_names.specs.between.Text.{Wrote}
-use Rattle.blif_write_names.proofs.Numbers.{decimal-then}
+use Rattle.printed_lines.specs.Lines.{refusedLine}
 use Rattle.blif_read.specs.Into.{Lengths, readInto, ReadOutcome, readOutcome}
 use Rattle.blif_read.specs.declared.ReadAnswer.{ReadAnswer}
 use Rattle.blif_read.specs.declared.ReadAnswer.the-variants as read
@@ -25,7 +23,7 @@ use Rattle.blif_write.specs.Into.{WriteOutcome, writeOutcome, refusedText, writ
 use Rattle.blif_write.specs.declared.WriteAnswer.{WriteAnswer}
 use Rattle.blif_write.specs.declared.WriteAnswer.the-variants.{Written, Refused}
 use Rattle.blif_write.proofs.Answers.{in-slice, Ways, refuses, writes, writer-ways}
-use Rattle.blifnorm.specs.Norm.{refusedLine, writtenFrom, normInto, printed}
+use Rattle.blifnorm.specs.Norm.{writtenFrom, normInto, printed}
 
 -- ---- the reader's answer, then the writer's
 
@@ -40,13 +38,6 @@ module _ (text : Bytes) (ls : Lengths) (n : ℕ) {gs ps os wgs wps : List ℕ} {
 
   pub norm-refused : {k : Refusal} {b : Bytes} → a ≡ read.Refused k → b ≡ zeros n → writeOutcome (Refused k) b ≡ normInto text ls n
   norm-refused {k} q z = ap (λ (o : Bytes). writeOutcome (Refused k) o) z ∙ after q
-
--- ---- the line of a refusal
-
-pub line-is : (r : Refusal) {k : ℕ} → k ≡ numberOf r → (bytes "refused=" ++ decimal k []) ++ (10 ∷ []) ≡ refusedLine r
-line-is r {k} e =
-    append-assoc (bytes "refused=") (decimal k []) (10 ∷ [])
-    ∙ ap (λ (s : Bytes). bytes "refused=" ++ s) (decimal-then k (10 ∷ []) ∙ ap (λ (m : ℕ). decimal m (10 ∷ [])) e)
 
 -- ---- what the writer answers
 

@@ -12,11 +12,12 @@ use Rattle.network.specs.Cells.{Lent, lent, countsOf, netOf, isNetwork}
 use Rattle.network.specs.Record.{gateCells, pinCells}
 use Rattle.blif_writing.specs.WrittenModel.{wide}
 use Rattle.blif_writing.specs.Text.{textOf}
+use Rattle.printed_lines.specs.Lines.{refusedLine}
 use Rattle.blif_reading.specs.Read.{Result, read, refused, readText}
 use Rattle.blif_read.specs.Into.{Lengths, enough, ReadOutcome, filled, readInto}
 use Rattle.blif_read.proofs.CellsRead.{read-layout, read-decodes}
 use Rattle.blif_write.specs.Into.{tooLong, writeInto}
-use Rattle.blifnorm.specs.Norm.{refusedLine, writtenFrom, normInto, printed}
+use Rattle.blifnorm.specs.Norm.{writtenFrom, normInto, printed}
 use Rattle.blifnorm.proofs.Printing.{network-text}
 use Rattle.blifnorm.proofs.ReadForms.{read-not-wide}
 

@@ -1,22 +1,15 @@
 -- What the program prints for a text (document 01: "The program `blifnorm` reads standard input and prints the written text of the network
 -- read, or the line `refused=N`"). Assumes nothing: these are definitions.
-use mathlib.Core.List.{[], _∷_, _++_}
 use Prim.Native.Nat.{ℕ}
 use lib.ListN.{take}
-use Rattle.lists.specs.Lists.{Bytes, bytes}
-use Rattle.refusals.specs.declared.Refusal.{Refusal}
-use Rattle.refusals.specs.Numbers.{numberOf}
+use Rattle.lists.specs.Lists.{Bytes}
 use Rattle.network.specs.Cells.{lent}
-use Rattle.blif_writing.specs.Names.{decimal}
+use Rattle.printed_lines.specs.Lines.{refusedLine}
 use Rattle.blif_read.specs.Into.{Lengths, readInto, ReadOutcome}
 use Rattle.blif_read.specs.declared.ReadAnswer.{ReadAnswer}
 use Rattle.blif_read.specs.declared.ReadAnswer.the-variants.{Read, Refused}
 use Rattle.blif_write.specs.Into.{WriteOutcome, refusedText, writeInto}
 use Rattle.blif_write.specs.declared.WriteAnswer.the-variants as written
-
--- "the line `refused=N`", with its line's end
-abbrev pub refusedLine : Refusal → Bytes
-refusedLine r = bytes "refused=" ++ decimal (numberOf r) (10 ∷ [])
 
 -- after the reader's answer, with the cells that it left: its refusal, or what the writer answers for those cells; n is the output
 -- slice's length

@@ -5,17 +5,17 @@ use blif_read::ReadAnswer;
 use blif_read::read_blif;
 use blif_write::WriteAnswer;
 use blif_write::write_blif;
-use blif_write_names::append;
-use blif_write_names::append_number;
 use lists::fill_zero_bytes;
-use refusals::Refusal;
+use printed_lines::append_refused;
+use program_io::print_front;
+use program_io::read_open;
 ghost use mathlib.Core.Path.{_≡_};
 ghost use lib.ListN.{length};
 ghost use Rattle.lists.specs.Lists.{zeros};
 ghost use Rattle.blif_write_names.specs.between.Text.{Wrote};
 ghost use Rattle.blif_read.specs.Into.{lengths};
 ghost use Rattle.blif_write.specs.Into.{writeOutcome};
-ghost use Rattle.blifnorm.specs.Norm.{refusedLine, normInto, printed};
+ghost use Rattle.blifnorm.specs.Norm.{normInto, printed};
 
 // Writes the text of the network read into out, or gives the reader's or else the writer's refusal.
 fn normalise(
@@ -41,15 +41,6 @@ fn normalise(
     }
 }
 
-// Writes the line of a refusal.
-fn put_refusal(out: &mut [u8], refusal: Refusal) -> usize
-    ensures { λ r. ⌜ Wrote (refusedLine refusal) (now (out .entry)) (now (out .exit)) r ⌝ }
-{
-    let mut at = append(out, 0, b"refused=");
-    at = append_number(out, at, refusal.number());
-    append(out, at, b"\n")
-}
-
 // Writes into out what is printed for a text, and gives back its length.
 fn answer(
     text: &[u8],
@@ -67,19 +58,8 @@ fn answer(
 {
     match normalise(text, out, gates, pins, outputs, work_gates, work_pins) {
         WriteAnswer::Written(n) => n,
-        WriteAnswer::Refused(refusal) => put_refusal(out, refusal),
+        WriteAnswer::Refused(refusal) => append_refused(out, 0, refusal),
     }
-}
-
-// Prints the first n bytes, where there are as many, or says that it cannot.
-fn print_front(bytes: &[u8], n: usize) {
-    if n > bytes.len() {
-        return;
-    }
-    if io::write_all(1, &bytes[..n]) {
-        return;
-    }
-    io::write_all(2, b"blifnorm: standard output cannot be written\n");
 }
 
 // Prints what is answered for a text.
@@ -99,38 +79,13 @@ fn print_answer(text: &[u8]) {
         &mut work_gates,
         &mut work_pins,
     );
-    print_front(&out, end);
-}
-
-// One read of standard input: how many bytes came, none at its end, or more than there is room for where the read failed.
-fn read_some(bytes: &mut [u8]) -> usize {
-    let got = libc::read(0, bytes);
-    if got < 0 {
-        return bytes.len() + 1;
-    }
-    io::count(got, bytes)
-}
-
-// Reads standard input to its end or until the slice is full: how many bytes came, or more than there is room for where a read failed.
-fn read_input(text: &mut [u8]) -> usize {
-    let mut done = 0;
-    while done < text.len() {
-        let n = read_some(&mut text[done..]);
-        if n > text.len() - done {
-            return text.len() + 1;
-        }
-        if n == 0 {
-            return done;
-        }
-        done += n;
-    }
-    done
+    print_front(&out, end, b"blifnorm: standard output cannot be written\n");
 }
 
 // A text has at most 32,768 bytes; one byte more is read, so that a longer one is refused.
 fn main() {
     let mut text = [0u8; 32769];
-    let n = read_input(&mut text);
+    let n = read_open(0, &mut text);
     if n > 32769 {
         io::write_all(2, b"blifnorm: standard input cannot be read\n");
         return;

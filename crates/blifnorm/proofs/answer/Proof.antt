@@ -1,6 +1,7 @@
 -- `answer` leaves the text, or the refusal's line. Assumes nothing.
 use Rattle.blifnorm.proofs.Printing.{prints-text, prints-line}
 use borrow.Author.Needs.{needs}
+use Rattle.blif_write_names.proofs.Laws.{from-start}
 use Rattle.blifnorm.proofs.answer.Statement.{statement}
 use Rattle.blifnorm.proofs.answer.Tie as tie
 
@@ -13,7 +14,7 @@ returns-2 : tie.Need-returns-2
 returns-2 c =
     let normalise = c .before .before .before .before .before .before .before .before .before .before .before .before .before .before .before .before .before .before .before .normalise in
     let refusal = c .before .before .before .before .before .refusal in
-    prints-line _ _ _ (normalise .ensures) (refusal .given .1) (c .before .before .put-refusal .ensures)
+    prints-line _ _ _ (normalise .ensures) (refusal .given .1) (from-start (c .before .before .append-refused .ensures))
 
 pub answer-spec : {M : Type 1} → statement M
 answer-spec =

@@ -9,7 +9,7 @@ use Rattle.blifnorm.proofs.main.Statement.{statement}
 use Rattle.blifnorm.proofs.main.Tie as tie
 
 slice-aggregate-print-answer : tie.Need-slice-aggregate-print-answer
-slice-aggregate-print-answer c = sym (length-take-le (c .before .before .before .read-input .result) (c .before .before .before .read-input .last .0) (omega (arith, c .before .before .before .read-input .kept .0, length-replicate {A = ℕ} 32769 0, c .before .if1 .left)))
+slice-aggregate-print-answer c = sym (length-take-le (c .before .before .before .read-open .result) (c .before .before .before .read-open .last .1 .0) (omega (arith, c .before .before .before .read-open .kept .1 .0, length-replicate {A = ℕ} 32769 0, c .before .if1 .left)))
 
 pub main-spec : {M : Type 1} → statement M
 main-spec =
