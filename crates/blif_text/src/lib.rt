@@ -179,7 +179,7 @@ fn line_end(text: &[u8], at: usize) -> usize
 }
 
 // The place behind the first LF from at on, or the text's length.
-fn line_after(text: &[u8], at: usize) -> usize
+pub fn line_after(text: &[u8], at: usize) -> usize
     requires { ⌜ at ≤ length (now text) ⌝ }
     ensures { λ r. ⌜ LineAfter (now (text .entry)) at r ⌝ }
 {

@@ -1,0 +1,5 @@
+pub mod Lines
+pub mod HeadTests
+pub mod Found
+pub mod SheetTexts
+pub mod Summary
