@@ -1,0 +1,2 @@
+-- Definitions that contracts between the crates and proofs use, and no promise reaches.
+pub mod Rows
