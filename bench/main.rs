@@ -1,12 +1,14 @@
-// Measures the part and Quaigh on the same inputs, by turns: reading, writing, and running beside a plain simulator over Quaigh's network.
-// usage: bench names [FILES] | once PLACED NAME [FILES] | stack PLACED | measure PLACED COUNTS DOCS [FILES]
-//        PLACED is a folder that bench/place filled
+// Measures the part and Quaigh on the same inputs, by turns: reading, writing, and running beside a plain simulator over Quaigh's network; and
+// the program `passreport` beside a plain one.
+// usage: bench names [FILES] | once PLACED NAME [FILES] | stack PLACED | reports [once] FOLDER | measure PLACED FOLDER DOCS [FILES]
+//        PLACED is a folder that bench/place filled; FOLDER has counts of instructions and the programs `passreport` and `plain_report`
 mod clock;
 mod inputs;
 mod io;
 mod network;
 mod networks;
 mod part;
+mod programs;
 mod quaigh;
 mod report;
 mod runs;
@@ -200,13 +202,16 @@ fn main() {
         }
         "once" => once(part::load_all(&words[1])[0], &words[2], words.get(3)),
         "stack" => stack::measure(part::load_all(&words[1])[0]).iter().for_each(|d| println!("{d}")),
+        "reports" if words[1] == "once" => programs::measure_all(&words[2], true).all.iter().for_each(|m| println!("{} was reported on once", m.name)),
+        "reports" => report::print_reports(&programs::measure_all(&words[1], false)),
         _ => {
             let made = all(None).len();
             let parts = part::load_all(&words[1]);
             let measured: Vec<Measured> = all(words.get(4)).iter().map(|i| measure(&parts, i)).collect();
             let worst = inputs::worst().each_ref().map(|i| measure(&parts, i));
             let runs: Vec<MeasuredRun> = networks::runs().iter().map(|r| runs::measure(&parts, r, false)).collect();
-            report::report(&measured, made, &worst, &runs, &stack::measure(parts[0]), &rule(), &words[2], &words[3]);
+            let reports = programs::measure_all(&words[2], false);
+            report::report(&measured, made, &worst, &runs, &reports, &stack::measure(parts[0]), &rule(), &words[2], &words[3]);
         }
     }
 }

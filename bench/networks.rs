@@ -133,7 +133,7 @@ fn some(numbers: &mut Numbers, names: &[String], count: usize) -> Vec<String> {
 
 // An interlock of so many gates when it is read. A fifth are flip-flops. A cover of one line is a Buf, an And or a Nand of up to five of the
 // names before it; one of k lines is an Or of k gates, each a Buf or an And.
-fn interlock(size: usize) -> String {
+pub fn interlock(size: usize) -> String {
     let mut numbers = Numbers(size as u64);
     let flops = size / 5;
     let mut names: Vec<String> = (0..4 + numbers.below(6)).map(|i| format!("in{i}")).collect();
@@ -161,7 +161,7 @@ fn interlock(size: usize) -> String {
 }
 
 // A shift register of so many flip-flops, seen at four places.
-fn shift_register(size: usize) -> String {
+pub fn shift_register(size: usize) -> String {
     let seen = [0, size / 4, size / 2, size - 1].map(|f| format!("q{f}"));
     let mut text = format!(".model m\n.inputs d\n.outputs {}\n.latch d q0 0\n", seen.join(" "));
     for f in 1..size {

@@ -1,4 +1,5 @@
 // The table, the plot and the page docs/speed.md.
+use crate::programs::Reports;
 use crate::stack::Deepest;
 use crate::{Measured, MeasuredRun, Pair, Rule};
 use std::collections::HashMap;
@@ -53,6 +54,30 @@ fn run_table(runs: &[MeasuredRun], folder: &str) -> String {
         let _ = writeln!(t, "| {} | {} | {} | {} {}|", m.name, m.gates, m.pins, m.clocks, cells(Some(m.run), units, &counts(folder, &m.name), "run"));
     }
     t
+}
+
+fn report_table(reports: &Reports) -> String {
+    let mut t = String::from("| netlist | bytes | inputs | gates | µs, `passreport` / plain program | ratio |\n|---|---|---|---|---|---|\n");
+    for m in &reports.all {
+        let p = m.report;
+        let _ = writeln!(t, "| {} | {} | {} | {} | {:.0} / {:.0} | **{:.2}** |", m.name, m.bytes, m.inputs, m.gates, p.part / 1e3, p.rust / 1e3, ratio(&p));
+    }
+    t
+}
+
+// The reports' table and the line about them.
+pub fn print_reports(reports: &Reports) {
+    println!("{}{}\nits start: {}", report_table(reports), report_summary(reports), starts(reports));
+}
+
+// How long both programs take where they have next to nothing to do.
+fn starts(reports: &Reports) -> String {
+    format!("{:.0} µs beside {:.0} µs", reports.start.part / 1e3, reports.start.rust / 1e3)
+}
+
+fn report_summary(reports: &Reports) -> String {
+    let all: Vec<(&str, Pair)> = reports.all.iter().map(|m| (m.name.as_str(), m.report)).collect();
+    summary("the process of `passreport`, its start included", "that of a plain program over Quaigh", &all)
 }
 
 fn pairs<'a>(rows: &'a [Measured], f: fn(&Measured) -> Option<Pair>) -> Vec<(&'a str, Pair)> {
@@ -132,14 +157,26 @@ fn told(m: &Measured) -> String {
     format!("{} bytes, {:.0} µs here and {:.0} µs in the Rust", m.bytes, p.part / 1e3, p.rust / 1e3)
 }
 
-pub fn report(rows: &[Measured], made: usize, worst: &[Measured], runs: &[MeasuredRun], stack: &[Deepest], rule: &Rule, folder: &str, docs: &str) {
+pub fn report(
+    rows: &[Measured],
+    made: usize,
+    worst: &[Measured],
+    runs: &[MeasuredRun],
+    reports: &Reports,
+    stack: &[Deepest],
+    rule: &Rule,
+    folder: &str,
+    docs: &str,
+) {
     let behind = slower(rows, "reading", rule.cells, |m| m.read) + &slower(rows, "writing", rule.bytes, |m| m.write);
     let cores = std::thread::available_parallelism().map_or(1, |n| n.get());
     let (made, given) = rows.split_at(made);
-    let lines = summaries(made, given, runs);
+    let mut lines = summaries(made, given, runs);
     let filled: String = made.iter().filter(|m| m.name.starts_with("small-gates-")).map(|m| format!("| {} | {:.2} | {:.2} |\n", m.bytes, m.read.unwrap().part / 1e3, m.read_filled / 1e3)).collect();
     print!("{}{}", table(rows, folder), run_table(runs, folder));
     println!("{}", lines.join("\n"));
+    print_reports(reports);
+    lines.push(report_summary(reports));
     stack.iter().for_each(|d| println!("{d}"));
     let (tree, hash) = (told(&worst[0]), told(&worst[1]));
     println!("names of one tree: {tree}\nnames of one hash: {hash}");
@@ -157,6 +194,8 @@ pub fn report(rows: &[Measured], made: usize, worst: &[Measured], runs: &[Measur
         ("@BYTES@", format!("{:.2}", rule.bytes / 1e3)),
         ("@SLOWER@", behind),
         ("@RUNS@", run_table(runs, folder)),
+        ("@REPORTS@", report_table(reports)),
+        ("@START@", starts(reports)),
         ("@STACK@", deepest),
     ];
     let page = fills.iter().fold(include_str!("speed.template").to_string(), |page, (mark, text)| page.replace(mark, text.trim_end()));

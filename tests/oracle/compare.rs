@@ -17,6 +17,16 @@ pub trait Case: Clone {
     fn answer(&self) -> (Vec<u8>, Vec<bool>); // what the program must print, and which of the notes hold
     fn smaller(&self) -> Box<dyn Iterator<Item = Self> + '_>; // each below this one in an order without endless descent
     fn shown(&self) -> String;
+
+    // The refusal's number of an answer, 0 where there is none.
+    fn number(&self, answer: &[u8]) -> u32 {
+        number(answer)
+    }
+
+    // The lines that tell how often each of the notes holds.
+    fn notes(sums: &[usize]) -> Vec<String> {
+        Self::NOTES.iter().zip(sums).map(|(what, n)| format!("{what}: {n}")).collect()
+    }
 }
 
 const BATCH_BYTES: usize = 2 << 20;
@@ -110,8 +120,10 @@ fn end_of<C: Case>(last: &[u8], wanted: &[u8]) -> usize {
 fn brief(answer: &[u8]) -> String {
     let s = String::from_utf8_lossy(answer);
     let first = s.lines().next().unwrap_or("");
+    let second = s.lines().nth(1).unwrap_or("");
     let kind = match first {
         f if f.starts_with("counts ") => "read",
+        f if f.starts_with("length=") && second.starts_with("refused=") => second,
         f if f.starts_with("length=") => "a length",
         f if f.starts_with("refused=") => f,
         "" => "nothing",
@@ -177,7 +189,7 @@ impl<C: Case> Report<C> {
 
     fn add(&mut self, case: &C, wanted: &[u8], got: Option<&[u8]>) {
         self.compared += 1;
-        *self.seen.entry(number(wanted)).or_insert(0) += 1;
+        *self.seen.entry(case.number(wanted)).or_insert(0) += 1;
         if got == Some(wanted) {
             return;
         }
@@ -236,8 +248,8 @@ impl<C: Case> Report<C> {
         let answer = |k: &u32| if *k == 0 { C::ANSWERED.to_string() } else { k.to_string() };
         let answers: Vec<String> = self.seen.iter().map(|(k, n)| format!("{} {n}", answer(k))).collect();
         println!("{name}: answers: {}", answers.join(", "));
-        for (what, n) in C::NOTES.iter().zip(&self.notes) {
-            println!("{name}: {what}: {n}");
+        for l in C::notes(&self.notes) {
+            println!("{name}: {l}");
         }
     }
 }

@@ -8,6 +8,8 @@
 //        oracle compare_trips SEED COUNT PROGRAM   such networks, written and read back by a program
 //        oracle runs SEED COUNT GIVEN WANTED       files of lent networks with rows, and of the output rows, as document 02 has it
 //        oracle compare_runs SEED COUNT PROGRAM    so many networks with rows run by a program, beside a plain run of the oracle's own
+//        oracle reports SEED COUNT GIVEN WANTED    files of netlists with sheets, and of the reports for them, as document 02 has it
+//        oracle compare_reports SEED COUNT PROGRAM such netlists with sheets reported on by a program, beside the oracle's own report
 //        oracle compare_reads SEED COUNT PROGRAM   so many texts read by a program, beside what `read_blif` answers
 //        oracle compare_writes SEED COUNT PROGRAM  so many networks written by a program, beside what `write_blif` writes
 //        oracle compare_files PROGRAM FILE..       files of one text each read by a program, cut behind 32,769 bytes
@@ -23,10 +25,13 @@ mod network;
 mod plain_writer;
 mod points;
 mod reads;
+mod report;
+mod report_lists;
 mod rows;
 mod run_lists;
 mod runs;
 mod scale;
+mod sheets;
 mod simulate;
 mod smaller_nets;
 mod smaller_texts;
@@ -206,6 +211,8 @@ fn run(a: &[String]) {
         "compare_trips" => finish(compare::compare(&a[4], "trips", trips::trips(seed(), count()).into_iter())),
         "runs" => store(a, run_lists::lists(seed(), count())),
         "compare_runs" => finish(compare::compare(&a[4], "runs", run_lists::runs(seed(), count()))),
+        "reports" => store(a, report_lists::lists(seed(), count())),
+        "compare_reports" => finish(compare::compare(&a[4], "reports", report_lists::reports(seed(), count()))),
         "compare_reads" => finish(compare::compare(&a[4], "reading", scale::texts(seed(), count()))),
         "compare_writes" => finish(compare::compare(&a[4], "writing", scale::networks(seed(), count()))),
         "compare_files" => {

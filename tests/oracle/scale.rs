@@ -56,7 +56,7 @@ fn any_text(r: &mut Numbers) -> Vec<u8> {
 
 // Three quarters of the kinds that the stored list has; the others as they are written, with long names alike, or of any bytes, and one
 // in 1,600 near the sizes and damaged.
-fn text(r: &mut Numbers, k: usize) -> Vec<u8> {
+pub fn text(r: &mut Numbers, k: usize) -> Vec<u8> {
     match k % 8 {
         6 => as_written(r, k / 8),
         7 if k % 1600 == 1599 => {
