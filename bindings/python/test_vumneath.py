@@ -1,4 +1,4 @@
-"""The tests of the Python module: stored texts, networks and rows with their answers, and calls by hand.
+"""The tests of the Python module: stored texts, networks, rows and sheets with their answers, and calls by hand.
 
 Usage: python3 test_vumneath.py
 """
@@ -11,6 +11,7 @@ import multiprocessing
 import os
 import pickle
 import re
+import string
 import unittest
 
 import vumneath
@@ -83,6 +84,26 @@ def run_guarded(counts, cells, rows, room):
     return b"length=%d\n" % answer.length + bytes(out.part[: answer.length])
 
 
+def stored_reports():
+    """The stored netlists and sheets, each with the cells that are lent of each kind."""
+    listed, at = stored("report_replay/stdin"), 9
+    for _ in range(int(listed[:8], 16)):
+        words = [int(word, 16) for word in listed[at : at + 72].split()]
+        between, end = at + 72 + words[6], at + 72 + words[6] + words[7]
+        yield words[1:6], listed[at + 72 : between], listed[between:end]
+        at = end
+    if at != len(listed):
+        raise ValueError(f"the list of reports has {len(listed) - at} bytes behind the last")
+
+
+def printed(netlist, sheet):
+    """The bytes that passreport prints for two texts, by the module: those of the report, or of the refusal's line."""
+    try:
+        return str(vumneath.report(netlist, sheet)).encode("ascii")
+    except Refusal as refusal:
+        return b"refused=%d\n" % refusal.number
+
+
 def number(call, *arguments):
     """The refusal's number, or 0."""
     try:
@@ -131,6 +152,19 @@ class Replay(unittest.TestCase):
             counts = [upper * 2**32 + lower for upper, lower in zip(words[::2], words[1::2])]
             self.assertEqual(run_guarded(counts, cells, listed[at - length : at], room), answers[i], f"network {i}")
         self.assertEqual(at, len(listed))
+
+    def test_stored_reports(self):
+        answers = re.split(rb"^report \d+\n", stored("report_replay/stdout"), flags=re.M)[1:]
+        left_out = 0
+        for i, (sizes, netlist, sheet) in enumerate(stored_reports()):
+            # a report that is cut, since the bytes lent for it are fewer, and one for which too few cells are lent: nothing is lent here
+            if answers[i].endswith(b"cut\n") or any(lent < wanted for lent, wanted in zip(sizes, ENOUGH)):
+                left_out += 1
+                continue
+            said = printed(netlist, sheet)
+            self.assertEqual(b"length=%d\n" % len(said) + said, answers[i], f"report {i}")
+        self.assertLess(left_out * 4, len(answers))
+        self.assertEqual(len(list(stored_reports())), len(answers))
 
 
 class Calls(unittest.TestCase):
@@ -379,6 +413,98 @@ class Runs(unittest.TestCase):
             with open(os.path.join(HERE, "../netlists", name), "rb") as file:
                 files.append(file.read())
         self.assertEqual(vumneath.read(files[0]).run(files[1]), files[2])
+
+
+class Reports(unittest.TestCase):
+    # accepts where a and not b; the second output is one always
+    NETLIST = b".inputs a b\n.outputs y one\n.names a b y\n10 1\n.names one\n1\n"
+    SHEET = b"part=ADCS7\nrows=4\n10\n11\n10\n00\n"
+
+    def number(self, sheet, netlist=NETLIST):
+        return number(vumneath.report, netlist, sheet)
+
+    def test_counts(self):
+        counted = vumneath.report(self.NETLIST, self.SHEET)
+        self.assertEqual(counted, vumneath.Report(part="ADCS7", commands=4, accepted=2, rejected=2))
+        self.assertEqual(str(counted), "part=ADCS7\ncommands=4\naccepted=2\nrejected=2\n")
+        self.assertEqual(vumneath.report(bytearray(self.NETLIST), memoryview(self.SHEET)), counted)
+        constant = vumneath.report(b".outputs y\n.names y\n1\n", b"part=a\nrows=3\n\n\n\n")
+        self.assertEqual(constant, ("a", 3, 3, 0))
+
+    def test_pass(self):
+        files = []
+        for name in ("netlist.blif", "sheet.txt", "report.txt"):
+            with open(os.path.join(HERE, "../pass", name), "rb") as file:
+                files.append(file.read())
+        self.assertEqual(printed(*files[:2]), files[2])
+
+    def test_limits(self):
+        for part, rows, wanted in (
+            ("a", 1, 0), ("0123456789abcdeF", 1, 0), ("", 1, 32), ("0123456789abcdeFg", 1, 32),
+            ("Z9", 128, 0), ("Z9", 129, 32), ("Z9", 0, 32),
+        ):
+            sheet = f"part={part}\nrows={rows}\n" + "10\n" * rows
+            self.assertEqual(self.number(sheet.encode()), wanted, (part, rows))
+        taken = bytes(byte for byte in range(256) if self.number(b"part=%c\nrows=1\n10\n" % byte) == 0)
+        self.assertEqual(taken.decode(), string.digits + string.ascii_uppercase + string.ascii_lowercase)
+        self.assertEqual([self.number(b"part=a\nrows=1\n%s\n" % (b"1" * (n - 15))) for n in (40960, 40961)], [31, 32])
+        self.assertEqual([self.number(self.SHEET, b" " * n) for n in (32768, 32769)], [33, 2])
+
+    def test_order(self):
+        wrong, bad_row = b"part=a\nrows=1\n", b"part=a\nrows=1\nx\n"
+        netlists = (b".end", b"\x80", b".inputs a a", b"", b".inputs a b\n", self.NETLIST)
+        for sheet, wanted in ((wrong, [32] * 6), (bad_row, [8, 3, 10, 33, 33, 31]), (self.SHEET, [8, 3, 10, 33, 33, 0])):
+            self.assertEqual([self.number(sheet, netlist) for netlist in netlists], wanted)
+        self.assertEqual([self.number(b""), self.number(b"", b""), self.number(b"part=a\nrows=1\n\n", b"")], [32, 32, 33])
+
+    def test_details(self):
+        part, rows = "part= with 1 to 16 letters or digits is wanted", "rows= with a number from 1 to 128 without leading zeros is wanted"
+        details = [
+            (b"", 32, f"line 1 is missing, where {part}"),
+            (b"\n", 32, f"line 1 is b'', where {part}"),
+            (b"part=a", 32, "line 1 has no LF at its end"),
+            (b"part=a\nrows=1", 32, "line 2 has no LF at its end"),
+            (b"part=a\nrows=1\n10", 32, "line 3 has no LF at its end"),
+            (b"part=a\nrows=1\n10\n1", 32, "line 4 has no LF at its end"),
+            (b"part=\nrows=1\n10\n", 32, f"line 1 is b'part=', where {part}"),
+            (b"part=a\r\nrows=1\n10\n", 32, f"line 1 is b'part=a\\r', where {part}"),
+            (b"part=a b\nrows=1\n10\n", 32, f"line 1 is b'part=a b', where {part}"),
+            (b"part=\xe9\nrows=1\n10\n", 32, f"line 1 is b'part=\\xe9', where {part}"),
+            (b" part=a\nrows=1\n10\n", 32, f"line 1 is b' part=a', where {part}"),
+            (b"part=" + b"a" * 50 + b"\n", 32, f"line 1 is b'part={'a' * 27}' and so on, where {part}"),
+            (b"rows=1\npart=a\n10\n", 32, f"line 1 is b'rows=1', where {part}"),
+            (b"part=a\n", 32, f"line 2 is missing, where {rows}"),
+            (b"part=a\n\nrows=1\n10\n", 32, f"line 2 is b'', where {rows}"),
+            (b"part=a\nrows=1\r\n10\n", 32, f"line 2 is b'rows=1\\r', where {rows}"),
+            (b"part=a\nrows=01\n10\n", 32, f"line 2 is b'rows=01', where {rows}"),
+            (b"part=a\nrows=+1\n10\n", 32, f"line 2 is b'rows=+1', where {rows}"),
+            (b"part=a\nrows=0\n", 32, f"line 2 is b'rows=0', where {rows}"),
+            (b"part=a\nrows=129\n" + b"10\n" * 129, 32, f"line 2 is b'rows=129', where {rows}"),
+            (b"part=a\nrows=1\n", 32, "line 3 is missing: line 2 is b'rows=1', and there are 0 command rows"),
+            (b"part=a\nrows=3\n10\n10\n", 32, "line 5 is missing: line 2 is b'rows=3', and there are 2 command rows"),
+            (b"part=a\nrows=1\n10\n\n", 32, "line 4 is left over: line 2 is b'rows=1', and there are 2 command rows"),
+            (b"x" * 40961, 32, "40961 bytes, where at most 40960 are possible"),
+            (b"part=a\nrows=2\n10\n1\n", 31, "row 1 has b'\\n' at place 1, where 0 or 1 is wanted"),
+            (b"part=a\nrows=2\n10\n101\n", 31, "row 1 has b'1' at place 2, where an LF is wanted"),
+            (b"part=a\nrows=2\n10\r\n10\n", 31, "row 0 has b'\\r' at place 2, where an LF is wanted"),
+            (b"part=a\nrows=2\n10\n1 \n", 31, "row 1 has b' ' at place 1, where 0 or 1 is wanted"),
+        ]
+        for sheet, wanted, detail in details:
+            with self.assertRaises(Refusal) as raised:
+                vumneath.report(self.NETLIST, sheet)
+            self.assertEqual((raised.exception.number, raised.exception.detail), (wanted, detail))
+
+    def test_damaged(self):
+        for length in range(len(self.SHEET)):
+            self.assertEqual(self.number(self.SHEET[:length]), 32)
+        for at in range(len(self.SHEET)):
+            for byte in b"\0\n\r 09Zz\xff":
+                sheet = self.SHEET[:at] + bytes([byte]) + self.SHEET[at + 1 :]
+                self.assertIn(self.number(sheet), (0, 31, 32), sheet)
+
+    def test_messages(self):
+        for netlist, sheet in (("", self.SHEET), (self.NETLIST, self.SHEET.decode())):
+            self.assertRaisesRegex(TypeError, r"^report\(\) wants a bytes-like object, .* not str$", vumneath.report, netlist, sheet)
 
 
 if __name__ == "__main__":

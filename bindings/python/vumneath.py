@@ -3,6 +3,7 @@
 BLIF is the Berkeley Logic Interchange Format, a text that describes logic gates and flip-flops. read() turns such a text into a
 sorted Network and write() turns a Network into such a text; Network.run() runs a sorted Network over rows of 0 and 1. All call a
 library that is proved to answer every text, every network and all rows, sound or damaged, with a result or a numbered Refusal.
+report() reads and runs by these calls, and counts the commands of a pass that an interlock accepts and rejects.
 
 >>> network = read(b".model m\\n.inputs a b\\n.outputs y\\n.names a b y\\n10 1\\n.end\\n")
 >>> [str(gate) for gate in network.gates], [str(signal) for signal in network.outputs]
@@ -22,6 +23,7 @@ into, else the one that tests/bindings leaves in the repository.
 import ctypes
 import operator
 import os
+import re
 from typing import Iterable, List, NamedTuple, Optional, Tuple, Union
 
 __version__ = "0.3.0"
@@ -31,6 +33,8 @@ MAX_INPUTS = 256
 MAX_OUTPUTS = 256
 MAX_GATES = 1024
 MAX_PINS = 16384
+MAX_SHEET = 40960
+MAX_COMMANDS = 128
 GATE_CELLS = 3
 
 # Each refusal: its number, its name, its sentence.
@@ -72,8 +76,9 @@ _PIN_COUNTS = {"Binary": 2, "Ternary": 3, "Buf": 1, "Dff": 3}
 
 
 class Refusal(Exception):
-    """Why a text is not read, or a network not written or not run: its number, its name and a plain sentence. Where write() or run()
-    refuses what is no network, and where run() refuses a network or rows, the detail says what is wrong with it."""
+    """Why a text is not read, a network not written or not run, or no report made: its number, its name and a plain sentence. Where write()
+    or run() refuses what is no network, where run() refuses a network or rows, and where report() refuses a sheet, the detail says what is
+    wrong with it."""
 
     def __init__(self, number: int, detail: str = ""):
         # What stands in the exception's args is handed to this function again where a refusal is copied or pickled.
@@ -179,6 +184,19 @@ class Network(NamedTuple):
         return [[character - 48 for character in row] for row in _run(self, text, wrong).splitlines()]
 
 
+class Report(NamedTuple):
+    """The report for a pass log: the part that a sheet names, how many commands the sheet has, and how many of them an interlock accepts
+    and rejects. Its str() is the four lines that the program passreport prints, each ended by LF."""
+
+    part: str
+    commands: int
+    accepted: int
+    rejected: int
+
+    def __str__(self) -> str:
+        return "".join(f"{name}={value}\n" for name, value in zip(self._fields, self))
+
+
 class NetworkAnswer(ctypes.Structure):
     """The struct that vumneath_read_blif answers."""
 
@@ -243,18 +261,19 @@ def run_cells(counts, gates, pins, outputs, rows, out) -> RowsAnswer:
     return _library.vumneath_run(*_fitting(counts), *(part for array in lent for part in (array, len(array))))
 
 
-def _bytes_of(text) -> bytes:
-    """All bytes of a bytes-like object: also of one whose items have several bytes, or whose items do not lie side by side."""
+def _bytes_of(text, call: str) -> bytes:
+    """All bytes of a bytes-like object: also of one whose items have several bytes, or whose items do not lie side by side. Call is the
+    name of the function that was given it."""
     try:
         return memoryview(text).tobytes()
     except TypeError:
-        raise TypeError(f"read() wants a bytes-like object, such as bytes or bytearray, not {type(text).__name__}") from None
+        raise TypeError(f"{call}() wants a bytes-like object, such as bytes or bytearray, not {type(text).__name__}") from None
 
 
 def read(text: bytes) -> Network:
     """Reads a BLIF text: all bytes of a bytes-like object. Flip-flops come first, then every other gate behind those that it takes its
     inputs from. A latch's type, control and start value are ignored: every flip-flop starts at zero."""
-    data = _bytes_of(text)
+    data = _bytes_of(text, "read")
     lent = [(ctypes.c_uint32 * n)() for n in (MAX_GATES * GATE_CELLS, MAX_PINS, MAX_OUTPUTS, MAX_GATES * GATE_CELLS, MAX_PINS)]
     answer = read_cells((ctypes.c_uint8 * len(data)).from_buffer_copy(data), *lent)
     if answer.refused:
@@ -415,3 +434,60 @@ def _run(network: Network, text: bytes, wrong: str = "") -> bytes:
         raise Refusal(31, wrong or _wrong_row(text, inputs))
     _refuse(answer.refused, network)
     return memoryview(out)[: answer.length].tobytes()
+
+
+def _wrong_head(lines: List[bytes], number: int, wanted: str) -> Refusal:
+    """The refusal of a sheet whose line of this number, counted from 1, is missing or misformed; wanted says what it has to be."""
+    if number > len(lines):
+        return Refusal(32, f"line {number} is missing, where {wanted} is wanted")
+    line = lines[number - 1]
+    return Refusal(32, f"line {number} is {line[:32]!r}{' and so on' if line[32:] else ''}, where {wanted} is wanted")
+
+
+def _sheet_of(text: bytes) -> Tuple[str, int, bytes]:
+    """The part, the number of command rows and the text of these rows that a sheet has. What is no sheet is refused with 32."""
+    if len(text) > MAX_SHEET:
+        raise Refusal(32, f"{len(text)} bytes, where at most {MAX_SHEET} are possible")
+    *lines, behind = text.split(b"\n")
+    if behind:
+        raise Refusal(32, f"line {len(lines) + 1} has no LF at its end")
+    first, second = (lines + [b"", b""])[:2]
+    part = re.fullmatch(rb"part=([A-Za-z0-9]{1,16})", first)
+    if not part:
+        raise _wrong_head(lines, 1, "part= with 1 to 16 letters or digits")
+    count = re.fullmatch(rb"rows=([1-9][0-9]{0,2})", second)
+    if not count or int(count[1]) > MAX_COMMANDS:
+        raise _wrong_head(lines, 2, f"rows= with a number from 1 to {MAX_COMMANDS} without leading zeros")
+    commands, found = int(count[1]), len(lines) - 2
+    if found != commands:
+        wrong = f"line {len(lines) + 1} is missing" if found < commands else f"line {commands + 3} is left over"
+        raise Refusal(32, f"{wrong}: line 2 is {second!r}, and there are {found} command rows")
+    return part[1].decode("ascii"), commands, text[len(first) + len(second) + 2 :]
+
+
+def report(netlist: bytes, sheet: bytes) -> Report:
+    """The report for a pass log, as the program passreport gives it for the files netlist.blif and sheet.txt: runs the commands of a sheet
+    on a netlist, from all flip-flops at zero, and counts the rows at which the first output is 1 and those at which it is 0.
+
+    A sheet is the line part= with 1 to 16 ASCII letters or digits, the line rows= with a number from 1 to 128 without leading zeros, and so
+    many command rows: a character 0 or 1 for each input of the netlist, in order. An LF ends each line, and nothing stands behind the last.
+
+    >>> netlist = b".inputs arm fire safe\\n.outputs go\\n.names arm fire safe go\\n110 1\\n"
+    >>> report(netlist, b"part=ADCS7\\nrows=3\\n110\\n111\\n010\\n")
+    Report(part='ADCS7', commands=3, accepted=1, rejected=2)
+    >>> print(report(netlist, b"part=ADCS7\\nrows=3\\n110\\n111\\n010\\n"), end="")
+    part=ADCS7
+    commands=3
+    accepted=1
+    rejected=2
+
+    The refusals are, in this order, 32 where the sheet is none, those of read(), 33 where the network has no output, and 31 where a command
+    row has another length or another character. The detail of 32 names the sheet's line, counted from 1; that of 31 names the command row,
+    counted from 0 as run() does."""
+    netlist, sheet = _bytes_of(netlist, "report"), _bytes_of(sheet, "report")
+    part, commands, rows = _sheet_of(sheet)
+    network = read(netlist)
+    if not network.outputs:
+        raise Refusal(33)
+    first = network.run(rows)[:: len(network.outputs) + 1]
+    return Report(part, commands, first.count(b"1"), first.count(b"0"))

@@ -1,9 +1,10 @@
 //! BLIF netlists, read, written and run, proved.
 //!
 //! BLIF is the Berkeley Logic Interchange Format, a text that describes logic gates and flip-flops. [`Network::read`] turns such
-//! a text into a sorted network and [`Network::write`] turns a network into such a text; [`Network::run`] runs a sorted network over
-//! rows of 0 and 1, and [`Network::run_bits`] over rows of bits. All call a static library that is proved to answer every text, every
-//! network and all rows, sound or damaged, with a result or a numbered [`Refusal`].
+//! a text into a sorted network and [`Network::write`] turns a network into such a text; [`Network::run`] runs a sorted network over rows
+//! of 0 and 1, and [`Network::run_bits`] over rows of bits. All call a static library that is proved to answer every text, every network
+//! and all rows, sound or damaged, with a result or a numbered [`Refusal`]. [`report()`] reads and runs by these calls, and counts the
+//! commands of a pass that an interlock accepts and rejects.
 //!
 //! ```
 //! use vumneath::{Gate, NaryType, Network, Refusal, Signal};
@@ -31,9 +32,11 @@ pub mod cells;
 mod gate;
 mod network;
 mod refusal;
+mod report;
 mod signal;
 
 pub use gate::{BinaryType, Gate, NaryType, TernaryType};
 pub use network::Network;
 pub use refusal::Refusal;
+pub use report::{report, Report};
 pub use signal::Signal;

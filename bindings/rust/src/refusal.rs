@@ -3,7 +3,7 @@ use std::fmt;
 /// Makes the enum and its functions of a table with a line for each refusal: its case, its number and its sentence.
 macro_rules! refusals {
     ($($case:ident = $number:literal, $sentence:literal;)+) => {
-        /// Why a text is not read, or a network not written or not run. It prints as its sentence.
+        /// Why a text is not read, a network not written or not run, or no report made. It prints as its sentence.
         #[derive(Clone, Copy, Debug, PartialEq, Eq, Hash)]
         #[non_exhaustive]
         #[repr(u32)]
@@ -75,7 +75,7 @@ impl Refusal {
         }
     }
 
-    /// The number: 1 to 14 of reading, 20 to 22 of writing, 20 and 29 to 31 of running.
+    /// The number: 1 to 14 of reading, 20 to 22 of writing, 20 and 29 to 31 of running, 2 to 14 and 31 to 33 of a report.
     pub const fn number(self) -> u32 {
         self as u32
     }

@@ -112,5 +112,5 @@ fn refusals_of_the_header() {
     }
     assert_eq!(found, Refusal::ALL);
     assert_eq!(Refusal::of(0), Ok(()));
-    assert_eq!([0, 15, 19, 28, 32, u32::MAX].map(Refusal::from_number), [None; 6]);
+    assert_eq!([0, 15, 19, 28, 34, u32::MAX].map(Refusal::from_number), [None; 6]);
 }

@@ -1,9 +1,9 @@
-//! The stored texts, networks and rows with their answers.
+//! The stored texts, networks, rows and sheets with their answers.
 mod common;
 
 use common::{read_notation, run, stored, write, List, ENOUGH, ONE_MORE};
 use vumneath::cells::Counts;
-use vumneath::Network;
+use vumneath::{report, Network};
 
 /// The stored answers from the first one on; before it a program shows what it tells of cells that are not as they must be.
 fn answers(path: &str, first: &str) -> Vec<u8> {
@@ -40,9 +40,9 @@ fn stored_texts() {
     }
 }
 
-/// The stored answer of network i, cut off the front of the rest.
-fn next_answer<'a>(rest: &mut &'a [u8], i: u32) -> &'a [u8] {
-    let next = format!("\nnetwork {}\n", i + 1);
+/// The stored answer of network or report i, cut off the front of the rest.
+fn next_answer<'a>(rest: &mut &'a [u8], word: &str, i: u32) -> &'a [u8] {
+    let next = format!("\n{word} {}\n", i + 1);
     let end = rest.windows(next.len()).position(|part| part == next.as_bytes()).map_or(rest.len(), |at| at + 1);
     let (answer, behind) = rest.split_at(end);
     *rest = behind;
@@ -65,7 +65,7 @@ where
         let [gates, pins, outputs] = [9, 10, 11].map(|kind| list.words(words[kind]));
         let fitting = [0, 2, 4, 6].iter().all(|&upper| words[upper] == 0);
         let counts = Counts { inputs: words[1], gates: words[3], pins: words[5], outputs: words[7] };
-        let wanted = next_answer(&mut rest, i);
+        let wanted = next_answer(&mut rest, "network", i);
         match answer(&mut list, fitting.then_some(counts), [&gates, &pins, &outputs], words[8] as usize) {
             None => left_out += 1,
             Some((0, length, text)) => {
@@ -94,4 +94,36 @@ fn stored_runs() {
         let (answer, ran) = run(counts?, lent, &rows, room);
         Some((answer.refused, answer.length, ran))
     });
+}
+
+/// The report's lines for a netlist and a sheet, or the line of the refusal, in the notation of the stored answers.
+fn report_notation(netlist: &[u8], sheet: &[u8]) -> String {
+    let said =
+        report(netlist, sheet).map_or_else(|refusal| format!("refused={}\n", refusal.number()), |report| report.to_string());
+    format!("length={}\n{said}", said.len())
+}
+
+/// Left out are reports that are cut, since the bytes lent for them are fewer, and those for which too few cells are lent: nothing is lent
+/// here.
+#[test]
+fn stored_reports() {
+    let mut list = List::new(stored("report_replay/stdin"));
+    let answers = answers("report_replay/stdout", "report 0\n");
+    let mut rest = &answers[..];
+    let count = list.word();
+    let mut left_out = 0;
+    for i in 0..count {
+        let words = list.words(8);
+        let [netlist, sheet] = [6, 7].map(|kind| list.bytes(words[kind] as usize));
+        let wanted = next_answer(&mut rest, "report", i);
+        let enough = words[1..6].iter().zip(ENOUGH).all(|(&lent, wanted)| lent as usize >= wanted);
+        if enough && !wanted.ends_with(b"cut\n") {
+            let said = report_notation(&netlist, &sheet);
+            assert_eq!(format!("report {i}\n{said}"), String::from_utf8_lossy(wanted));
+        } else {
+            left_out += 1;
+        }
+    }
+    assert!(list.ended() && rest.is_empty());
+    assert!(left_out * 4 < count, "{left_out} of {count} left out");
 }
