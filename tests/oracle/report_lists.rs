@@ -157,7 +157,7 @@ fn damaged(r: &mut Numbers, s: &mut Parts, inputs: usize) {
         1 => s.head[0] = [b"part=", &other_part(r)[..]].concat(),
         2 => {
             let line = r.below(2);
-            let value = s.head[line].split_off(5);
+            let value = s.head[line].get(5..).unwrap_or_default().to_vec();
             s.head[line] = [KEYS[r.below(KEYS.len())].as_bytes(), &value].concat();
         }
         3 => damaged_count(r, s, inputs),

@@ -26,7 +26,7 @@ use Rattle.run_rows.specs.Rows.{rowsOf, Wide}
 use Rattle.run_rows.proofs.RowsOf.{length-run, wide-run}
 use Rattle.printed_lines.specs.Lines.{keyLine, countLine, refusedLine}
 use Rattle.pass_sheet.specs.Sheet.{Sheet, sheetOf, commandText, sheetText, IsSheet}
-use Rattle.pass_sheet.specs.Places.{placesOf, sheetAnswer}
+use Rattle.pass_sheet.specs.between.Places.{placesOf, sheetAnswer}
 use Rattle.pass_sheet.specs.declared.SheetPlaces.{SheetPlaces}
 use Rattle.pass_sheet.specs.declared.SheetAnswer.{SheetAnswer}
 use Rattle.pass_sheet.specs.declared.SheetAnswer.the-variants as sheet

@@ -21,7 +21,7 @@ use Rattle.network.specs.Clock.{NetRuns}
 use Rattle.network.specs.Settle.{run}
 use Rattle.blif_text.specs.Lines.{maxText}
 use Rattle.blif_reading.specs.Read.{Result, read, refused, answer, readFault, readText}
-use Rattle.blif_reading.proofs.Summary.{read-means}
+use Rattle.blif_reading.proofs.Summary.{read-means, reading-refuses}
 use Rattle.blif_read.specs.Into.{Lengths, enough, answered}
 use Rattle.run_rows.specs.Rows.{rowsOf}
 use Rattle.printed_lines.specs.Lines.{refusedLine}
@@ -89,7 +89,7 @@ module _ (netlist sheet : Bytes) where
       rw e (rows-as is reads first others q (rowsOf (net .inputs) (commandText s)) refl)
 
   result-as : {s : Sheet} → sheetOf sheet ≡ some s → (r : Result) → readText netlist ≡ r → ReportedAs netlist sheet (printed (s .part) (length (s .rows)) (judged r (commandText s)))
-  result-as is (refused k) q = not-read is q
+  result-as is (refused k) q = not-read is q (reading-refuses netlist k q)
   result-as is (read net) q = outputs-as is q (net .outputs) refl
 
   sheet-as : (o : Option Sheet) → sheetOf sheet ≡ o → ReportedAs netlist sheet (reportFrom (readText netlist) o)

@@ -11,6 +11,7 @@ use mathlib.Core.Logic.{_↔_}
 use Prim.Native.Nat.{ℕ, suc, _+_}
 use lib.ListN.{length}
 use Rattle.lists.specs.Lists.{Bytes}
+use Rattle.refusals.specs.Numbers.{InReading}
 use Rattle.refusals.specs.declared.Refusal.{Refusal}
 use Rattle.refusals.specs.declared.Refusal.the-variants as refusal
 use Rattle.signal.specs.Signal.{Signal}
@@ -67,7 +68,7 @@ pub data ReportedAs (netlist sheet : Bytes) : Bytes → Type 0 where
   -- "32 .. before all others"
   wrong-sheet : sheetOf sheet ≡ none → ReportedAs netlist sheet (refusedLine refusal.WrongSheet)
   -- then the reader's
-  not-read : {s : Sheet} {k : Refusal} → sheetOf sheet ≡ some s → readText netlist ≡ refused k → ReportedAs netlist sheet (refusedLine k)
+  not-read : {s : Sheet} {k : Refusal} → sheetOf sheet ≡ some s → readText netlist ≡ refused k → InReading k → ReportedAs netlist sheet (refusedLine k)
   -- "33 when the network has no output, between 30 and 31"
   no-output : {s : Sheet} {net : Net} → sheetOf sheet ≡ some s → readText netlist ≡ read net → net .outputs ≡ [] → ReportedAs netlist sheet (refusedLine refusal.NoOutput)
   -- "A command row's length and characters are left to 31"

@@ -15,7 +15,7 @@ use Rattle.refusals.specs.declared.Refusal.the-variants as refusal
 use Rattle.blif_text.specs.Lines.{split}
 use Rattle.blif_text.specs.between.Scan.{LineAfter}
 use Rattle.pass_sheet.specs.Sheet.{Sheet, isPartLine, isRowsLine, inOrder, endsInLf, maxSheet, isWhole, sheetOf}
-use Rattle.pass_sheet.specs.Places.{sheetAnswer}
+use Rattle.pass_sheet.specs.between.Places.{sheetAnswer}
 use Rattle.pass_sheet.specs.between.HeadLines.{HeadLines}
 use Rattle.pass_sheet.specs.declared.SheetPlaces.{SheetPlaces}
 use Rattle.pass_sheet.specs.declared.SheetAnswer.{SheetAnswer}

@@ -1,2 +1,3 @@
 -- Definitions that contracts between the crates and proofs use, and no promise reaches.
+pub mod Places
 pub mod HeadLines

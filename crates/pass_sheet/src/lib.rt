@@ -9,7 +9,7 @@ ghost use lib.Dec.{eqb};
 ghost use lib.ListN.{length};
 ghost use Rattle.blif_text.specs.Lines.{split};
 ghost use Rattle.pass_sheet.specs.Sheet.{isLetterOrDigit, isPart, isPartLine, isRowsLine, inOrder, isWhole, sheetOf};
-ghost use Rattle.pass_sheet.specs.Places.{sheetAnswer};
+ghost use Rattle.pass_sheet.specs.between.Places.{sheetAnswer};
 ghost use Rattle.pass_sheet.specs.between.HeadLines.{HeadLines};
 
 // Where the parts of a sheet stand in its text.

@@ -4,7 +4,6 @@
 --   InReading r  one that reading answers
 --   InWriting r  one that writing answers
 --   InRunning r  one that a run answers
---   InReport r   one that a report answers
 use mathlib.Core.Path.{_≡_}
 use mathlib.Core.Logic.{_⊎_}
 use Prim.Native.Nat.{ℕ, _≤_}
@@ -54,7 +53,3 @@ pub record InWriting (r : Refusal) : Type 0 where
 -- a refusal of a run: 20, or 29 to 31
 abbrev pub InRunning : Refusal → Type 0
 InRunning r = (numberOf r ≡ 20) ⊎ (numberOf r ≡ 29) ⊎ (numberOf r ≡ 30) ⊎ (numberOf r ≡ 31)
-
--- a refusal of a report: one of reading, or 31 to 33
-abbrev pub InReport : Refusal → Type 0
-InReport r = InReading r ⊎ (numberOf r ≡ 31) ⊎ (numberOf r ≡ 32) ⊎ (numberOf r ≡ 33)

@@ -14,6 +14,9 @@ Inv-loop rows width a₀ r₀ at₀ a r at = Counting width rows at a r
 abbrev μ-loop : tie.MeasureT-loop
 μ-loop rows width a₀ r₀ at₀ a r at = length rows - at
 
+loop-holds : tie.Need-loop-holds Inv-loop μ-loop
+loop-holds c = counting-start _ _
+
 add-accepted : tie.Need-add-accepted Inv-loop μ-loop
 add-accepted c =
     let byte = getD (c .before .before .before .args .rows .now) (c .before .before .loop .at) 0 in
@@ -42,5 +45,5 @@ pub count-verdicts-spec : {M : Type 1} → statement M
 count-verdicts-spec =
     tie.close
     (tie.spec
-    Inv-loop μ-loop (λ c. counting-start _ _) (λ c. search needs) (λ c. search needs) add-accepted (λ c. search needs)
+    Inv-loop μ-loop loop-holds (λ c. search needs) (λ c. search needs) add-accepted (λ c. search needs)
     (λ c. search needs) add-rejected add-at loop-less loop-again returns)
