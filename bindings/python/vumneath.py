@@ -26,7 +26,7 @@ import os
 import re
 from typing import Iterable, List, NamedTuple, Optional, Tuple, Union
 
-__version__ = "0.3.0"
+__version__ = "0.4.0"
 
 MAX_TEXT = 32768
 MAX_INPUTS = 256
