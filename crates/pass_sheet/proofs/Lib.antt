@@ -2,4 +2,5 @@ pub mod Lines
 pub mod HeadTests
 pub mod Found
 pub mod SheetTexts
+pub mod Cases
 pub mod Summary
