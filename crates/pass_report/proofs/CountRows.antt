@@ -1,19 +1,18 @@
 -- Counting rows of outputs by the first character of each. Assumes nothing.
 use mathlib.Core.Path.{_≡_, refl, sym, ap, _∙_, subst}
 use mathlib.Core.Bool.{Bool, true, false, not}
-use mathlib.Core.List.{List, [], _∷_, _++_, map, List·Memᴰ·head, List·Memᴰ·tail}
-use Prim.Native.Nat.{ℕ, zero, suc, _+_, _-_, _≤_, _<_}
+use mathlib.Core.List.{List, [], _∷_, List·Memᴰ·head, List·Memᴰ·tail}
+use Prim.Native.Nat.{ℕ, suc, _+_, _≤_, _<_}
 use native.Mathlib.Omega.{arith}
 use native.Mathlib.Nat.{add-zero}
 use mir.Val.{boolByte}
 use lib.Dec.{eqb}
-use lib.ListN.{length, getD, take, drop, length-drop, drop-of-length-le, length-append}
+use lib.ListN.{length, getD, drop, length-drop, drop-of-length-le, length-append}
 use lib.Seq.{drop-drop, drop-at, getD-drop}
-use Rattle.lists.specs.Lists.{if_then_else_, Bytes, filter}
-use Rattle.run_rows.specs.Rows.{digit, lineEnd, rowText, rowsText, Wide}
+use Rattle.lists.specs.Lists.{Bytes, filter}
+use Rattle.run_rows.specs.Rows.{digit, rowText, rowsText}
 use Rattle.run_rows.proofs.RowsOf.{length-rowText}
 use Rattle.pass_report.specs.Report.{accepts, rejects, verdictsOf}
-use Rattle.pass_report.specs.declared.Verdicts.{Verdicts}
 use Rattle.pass_report.specs.between.Rows.{OutputRows}
 
 -- 1 for a bit that is one, else 0

@@ -1,16 +1,16 @@
 -- What is found of the commands on a network, from what a run answers. Assumes nothing.
-use mathlib.Core.Path.{_≡_, refl, sym, ap, ap₂, _∙_, subst}
-use mathlib.Core.Bool.{Bool, true, false, not}
-use mathlib.Core.List.{List, [], _∷_, _++_, map, append-assoc}
+use mathlib.Core.Path.{_≡_, refl, sym, ap, _∙_}
+use mathlib.Core.Bool.{Bool, true, false}
+use mathlib.Core.List.{List, [], _∷_, map, append-assoc}
 use mathlib.Core.Option.{Option, none, some}
-use Prim.Native.Nat.{ℕ, suc, _+_, _*_, _≤_, _<_}
+use Prim.Native.Nat.{ℕ, suc, _+_, _≤_, _<_}
 use native.Mathlib.Omega.{arith}
 use native.Mathlib.Nat.{mul-le-mul}
 use lib.Dec.{eqb}
 use lib.ListN.{length, take, length-map, length-replicate}
 use lib.Seq.{length-take-le}
 use borrow.Author.Tests.{eq-eqb, ne-eqb}
-use Rattle.lists.specs.Lists.{Bytes, any, all, zeros, overwrite}
+use Rattle.lists.specs.Lists.{Bytes, zeros, overwrite}
 use Rattle.lists.proofs.Over.{length-overwrite}
 use Rattle.refusals.specs.declared.Refusal.{Refusal}
 use Rattle.refusals.specs.declared.Refusal.the-variants as refusal
@@ -23,7 +23,7 @@ use Rattle.network.proofs.Lent.{network-sizes}
 use Rattle.blif_text.specs.Lines.{split}
 use Rattle.blif_text.proofs.Parts.{Without, split-end}
 use Rattle.blif_reading.specs.Read.{read}
-use Rattle.run_rows.specs.Rows.{digit, rowText, rowsText, rowsOf, Wide}
+use Rattle.run_rows.specs.Rows.{digit, rowsText, rowsOf}
 use Rattle.run_rows.specs.Into.{RunOutcome, runOutcome, runOn, runInto}
 use Rattle.run_rows.specs.Ran.{RunsFor}
 use Rattle.run_rows.specs.declared.RunAnswer.{RunAnswer}
@@ -33,7 +33,6 @@ use Rattle.run_rows.proofs.Outcomes.{runs-on}
 use Rattle.run_rows.proofs.Summary.{rows-of-text, runs-answer, length-answered, rows-take, ran-text}
 use Rattle.pass_report.specs.Report.{verdictsOf, judgedRows, judged}
 use Rattle.pass_report.specs.declared.Verdicts.{Verdicts}
-use Rattle.pass_report.specs.declared.Judged.{Judged}
 use Rattle.pass_report.specs.declared.Judged.the-variants.{Counted, Refused}
 use Rattle.pass_report.specs.between.Rows.{OutputRows, RunReady}
 

@@ -1,10 +1,10 @@
 -- A netlist that was read is a network that a run takes. Assumes nothing.
 use mathlib.Core.Path.{_≡_, refl, sym, ap, _∙_, subst}
-use mathlib.Core.Bool.{Bool, true, false}
+use mathlib.Core.Bool.{true}
 use mathlib.Core.List.{List}
 use Prim.Native.Nat.{ℕ}
 use native.Mathlib.Omega.{arith}
-use Rattle.lists.specs.Lists.{if_then_else_, Bytes}
+use Rattle.lists.specs.Lists.{Bytes}
 use Rattle.lists.proofs.Tests.{by-test}
 use Rattle.refusals.specs.declared.Refusal.{Refusal}
 use Rattle.refusals.specs.declared.Refusal.the-variants as refusal
@@ -18,7 +18,6 @@ use Rattle.blif_read.specs.declared.ReadAnswer.{ReadAnswer}
 use Rattle.blif_read.specs.declared.ReadAnswer.the-variants as answer
 use Rattle.blif_read.proofs.CellsRead.{read-layout, read-decodes}
 use Rattle.pass_report.specs.Report.{judged}
-use Rattle.pass_report.specs.declared.Judged.{Judged}
 use Rattle.pass_report.specs.declared.Judged.the-variants.{Refused}
 use Rattle.pass_report.specs.between.Rows.{FewRows, RunReady}
 

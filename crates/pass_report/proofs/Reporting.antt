@@ -1,16 +1,16 @@
 -- The report, from where the parts of the sheet stand and what is found of its commands. Assumes nothing.
-use mathlib.Core.Path.{_≡_, refl, sym, ap, ap₂, _∙_, subst}
-use mathlib.Core.Bool.{Bool, true, false, not, false≢true}
+use mathlib.Core.Path.{_≡_, refl, sym, ap, _∙_}
+use mathlib.Core.Bool.{Bool, true, false}
 use mathlib.Core.List.{List, [], _∷_, _++_, append-assoc, List·Memᴰ·head, List·Memᴰ·tail}
 use mathlib.Core.Option.{Option, none, some}
-use Prim.Native.Nat.{ℕ, suc, _+_, _-_, _≤_, _<_, min}
+use Prim.Native.Nat.{ℕ, _+_, _-_, _≤_, _<_, min}
 use native.Mathlib.Omega.{arith}
-use lib.Dec.{eqb, leb}
+use lib.Dec.{eqb}
 use lib.ListN.{length, take, drop, length-append, length-replicate}
 use lib.Seq.{take-at, drop-at}
-use borrow.Author.Tests.{eqb-false, leb-true}
-use Rattle.lists.specs.Lists.{if_then_else_, Bytes, bytes, filter, zeros, overwrite}
-use Rattle.lists.proofs.Tests.{by-test, and-right}
+use borrow.Author.Tests.{eqb-false}
+use Rattle.lists.specs.Lists.{Bytes, bytes, zeros, overwrite}
+use Rattle.lists.proofs.Tests.{by-test}
 use Rattle.lists.proofs.OverAt.{part-is}
 use Rattle.refusals.specs.declared.Refusal.{Refusal}
 use Rattle.refusals.specs.declared.Refusal.the-variants as refusal
@@ -18,7 +18,6 @@ use Rattle.network.specs.Net.{Net}
 use Rattle.network.specs.Clock.{zeroBits}
 use Rattle.network.specs.Settle.{run}
 use Rattle.blif_text.specs.Lines.{split}
-use Rattle.blif_writing.specs.Names.{decimal}
 use Rattle.blif_reading.specs.Read.{Result, read, refused}
 use Rattle.blif_read.specs.Into.{Lengths, answered}
 use Rattle.blif_write_names.specs.between.Text.{Wrote}
@@ -31,12 +30,12 @@ use Rattle.pass_sheet.specs.declared.SheetPlaces.{SheetPlaces}
 use Rattle.pass_sheet.specs.declared.SheetAnswer.{SheetAnswer}
 use Rattle.pass_sheet.specs.declared.SheetAnswer.the-variants as sheet
 use Rattle.pass_sheet.proofs.SheetTexts.{sheet-text, command-lines, rows-few}
-use Rattle.pass_report.specs.Report.{accepts, rejects, verdictsOf, judgedRows, judged, printed, reportFrom}
+use Rattle.pass_report.specs.Report.{verdictsOf, judgedRows, judged, printed, reportFrom}
 use Rattle.pass_report.specs.Into.{reportOutcome, reportInto}
 use Rattle.pass_report.specs.declared.Verdicts.{Verdicts}
 use Rattle.pass_report.specs.declared.Judged.{Judged}
 use Rattle.pass_report.specs.declared.Judged.the-variants.{Counted, Refused}
-use Rattle.pass_report.specs.between.Rows.{FewRows, FewCounts, FewJudged}
+use Rattle.pass_report.specs.between.Rows.{FewRows, FewJudged}
 use Rattle.pass_report.proofs.CountRows.{acceptedOf, rejectedOf}
 use Rattle.pass_report.proofs.Judging.{rows-count}
 

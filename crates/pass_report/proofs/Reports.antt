@@ -1,36 +1,32 @@
 -- What is printed for two texts, and why. Assumes nothing.
-use mathlib.Core.Path.{_≡_, refl, sym, ap, _∙_, subst}
+use mathlib.Core.Path.{_≡_, refl, sym, ap, _∙_}
 use mathlib.Core.Bool.{Bool, true, false}
 use mathlib.Core.List.{List, [], _∷_}
 use mathlib.Core.Option.{Option, none, some}
 use mathlib.Core.Logic.{_↔_}
-use Prim.Native.Nat.{ℕ, suc, _+_, _≤_, _<_}
+use Prim.Native.Nat.{ℕ, _≤_, _<_}
 use native.Mathlib.Omega.{arith}
-use lib.Dec.{eqb, ltb}
+use lib.Dec.{eqb}
 use lib.ListN.{length, take}
 use lib.Seq.{take-all, length-take-le}
 use borrow.Author.Tests.{lt-ltb, lt-leb, ne-eqb}
 use Rattle.lists.specs.Lists.{if_then_else_, Bytes}
 use Rattle.lists.proofs.Tests.{by-order}
 use Rattle.refusals.specs.Order.{_orElse_, refuseIf}
-use Rattle.refusals.specs.declared.Refusal.{Refusal}
 use Rattle.refusals.specs.declared.Refusal.the-variants as refusal
 use Rattle.signal.specs.Signal.{Signal}
 use Rattle.network.specs.Net.{Net}
 use Rattle.network.specs.Clock.{NetRuns}
 use Rattle.network.specs.Settle.{run}
-use Rattle.blif_text.specs.Lines.{maxText}
 use Rattle.blif_reading.specs.Read.{Result, read, refused, answer, readFault, readText}
 use Rattle.blif_reading.proofs.Summary.{read-means, reading-refuses}
-use Rattle.blif_read.specs.Into.{Lengths, enough, answered}
+use Rattle.blif_read.specs.Into.{Lengths, enough}
 use Rattle.run_rows.specs.Rows.{rowsOf}
-use Rattle.printed_lines.specs.Lines.{refusedLine}
-use Rattle.pass_sheet.specs.Sheet.{Sheet, maxSheet, isWhole, sheetOf, commandText}
+use Rattle.pass_sheet.specs.Sheet.{Sheet, isWhole, sheetOf, commandText}
 use Rattle.pass_sheet.proofs.SheetTexts.{sheet-text, command-lines}
 use Rattle.pass_report.specs.Report.{verdictsOf, judgedRows, judged, printed, reportFrom, reportOf}
 use Rattle.pass_report.specs.Into.{leaving, reportInto}
 use Rattle.pass_report.specs.Counted.{CountedFor, ReportedAs, wrong-sheet, not-read, no-output, wrong-rows, reported}
-use Rattle.pass_report.specs.declared.Verdicts.{Verdicts}
 use Rattle.pass_report.proofs.Judging.{rows-count}
 use Rattle.pass_report.proofs.Reporting.{CountedRows, counted-run}
 use Rattle.pass_report.proofs.Tally.{tallies-are}

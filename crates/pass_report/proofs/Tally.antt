@@ -1,21 +1,15 @@
 -- The counts by document 01's clock. Assumes nothing.
 use mathlib.Core.Path.{_≡_, refl, sym, ap, _∙_, subst}
-use mathlib.Core.Bool.{Bool, true, false, not}
+use mathlib.Core.Bool.{Bool, not}
 use mathlib.Core.List.{List, [], _∷_, map}
-use mathlib.Core.Option.{Option, none, some}
 use mathlib.Core.Logic.{_↔_}
-use Prim.Native.Nat.{ℕ, suc, _+_, _<_}
+use Prim.Native.Nat.{ℕ, suc, _+_}
 use native.Mathlib.Omega.{arith}
-use lib.ListN.{length}
-use Rattle.lists.specs.Lists.{Bytes, filter}
 use Rattle.lists.proofs.Tests.{by-test}
 use Rattle.signal.specs.Signal.{Signal}
 use Rattle.network.specs.Net.{Net}
 use Rattle.network.specs.Clock.{sigBit, Clock, Runs, done, tick, zeroBits, NetRuns}
-use Rattle.network.specs.Settle.{run, OneRun}
-use Rattle.pass_report.specs.Report.{accepts, rejects, verdictsOf}
 use Rattle.pass_report.specs.Counted.{Tallies, end, accept, reject}
-use Rattle.pass_report.specs.declared.Verdicts.{Verdicts}
 use Rattle.pass_report.proofs.CountRows.{one, acceptedOf, rejectedOf, accepted-cons, rejected-cons}
 
 module _ (net : Net) (first : Signal) (others : List Signal) (outputs : net .outputs ≡ first ∷ others) where

@@ -16,7 +16,7 @@ use Rattle.refusals.specs.declared.Refusal.{Refusal}
 use Rattle.refusals.specs.declared.Refusal.the-variants as refusal
 use Rattle.signal.specs.Signal.{Signal}
 use Rattle.network.specs.Net.{Net}
-use Rattle.network.specs.Clock.{sigBit, Clock, zeroBits, NetRuns}
+use Rattle.network.specs.Clock.{sigBit, Clock, zeroBits}
 use Rattle.blif_meaning.specs.Model.{BlifRuns}
 use Rattle.blif_reading.specs.TextModel.{modelOfText}
 use Rattle.blif_reading.specs.Read.{read, refused, readText}

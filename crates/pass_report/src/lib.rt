@@ -16,7 +16,7 @@ use run_rows::run_rows;
 ghost use mathlib.Core.Path.{_≡_};
 ghost use mathlib.Core.Bool.{Bool};
 ghost use mathlib.Core.List.{List};
-ghost use Prim.Native.Nat.{_≤_, _<_};
+ghost use Prim.Native.Nat.{_<_};
 ghost use lib.ListN.{length};
 ghost use Rattle.network.specs.Cells.{lent, netOf};
 ghost use Rattle.run_rows.specs.Rows.{rowsOf};

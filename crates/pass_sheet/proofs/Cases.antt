@@ -2,7 +2,6 @@
 use mathlib.Core.Path.{_≡_, refl}
 use mathlib.Core.Bool.{Bool, true, false, not}
 use mathlib.Core.List.{List, [], _∷_, _++_, flatMap}
-use mathlib.Core.Option.{none, some}
 use Rattle.lists.specs.Lists.{Bytes, bytes, optional, all, same}
 use Rattle.blif_text.specs.Lines.{consFirst, split}
 use Rattle.pass_sheet.specs.Sheet.{Sheet, isLetterOrDigit, isPart, isPartLine, isRowCount, isRowsLine, inOrder, endsInLf, isWhole, sheetOf}

@@ -1,26 +1,24 @@
 -- The answer of `read_sheet`, from the places of the lines. Assumes nothing.
 use mathlib.Core.Path.{_≡_, refl, sym, ap, ap₂, _∙_}
-use mathlib.Core.Bool.{Bool, true, false, _&&_}
+use mathlib.Core.Bool.{true, false}
 use mathlib.Core.List.{List, [], _∷_, _++_, flatMap}
 use Prim.Native.Nat.{ℕ, suc, _+_, _-_, _≤_, _<_}
 use native.Mathlib.Omega.{arith}
 use lib.Dec.{eqb, leb}
 use lib.ListN.{length, getD, take, drop, length-drop, drop-of-length-le}
 use lib.Seq.{getD-drop, length-take-le}
-use borrow.Author.Tests.{eqb-true, le-leb, lt-leb, ne-eqb}
+use borrow.Author.Tests.{eqb-true, le-leb, lt-leb}
 use Rattle.lists.specs.Lists.{Bytes}
-use Rattle.lists.proofs.Tests.{and-left, and-right}
+use Rattle.lists.proofs.Tests.{and-right}
 use Rattle.lists.proofs.OverAt.{part-is}
 use Rattle.refusals.specs.declared.Refusal.the-variants as refusal
 use Rattle.blif_text.specs.Lines.{split}
 use Rattle.blif_text.specs.between.Scan.{LineAfter}
-use Rattle.pass_sheet.specs.Sheet.{Sheet, isPartLine, isRowsLine, inOrder, endsInLf, maxSheet, isWhole, sheetOf}
+use Rattle.pass_sheet.specs.Sheet.{isPartLine, isRowsLine, inOrder, endsInLf, maxSheet, isWhole, sheetOf}
 use Rattle.pass_sheet.specs.between.Places.{sheetAnswer}
 use Rattle.pass_sheet.specs.between.HeadLines.{HeadLines}
-use Rattle.pass_sheet.specs.declared.SheetPlaces.{SheetPlaces}
-use Rattle.pass_sheet.specs.declared.SheetAnswer.{SheetAnswer}
 use Rattle.pass_sheet.specs.declared.SheetAnswer.the-variants.{Found, Refused}
-use Rattle.pass_sheet.proofs.Lines.{EndedAt, ended-at, lines-again}
+use Rattle.pass_sheet.proofs.Lines.{ended-at, lines-again}
 use Rattle.pass_sheet.proofs.HeadTests.{part-line-long}
 
 -- ---- whether the text is whole

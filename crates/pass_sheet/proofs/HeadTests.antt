@@ -1,13 +1,13 @@
 -- The tests of the two lines before the rows, from what the code finds. Assumes nothing.
-use mathlib.Core.Path.{_≡_, refl, sym, ap, ap₂, _∙_}
-use mathlib.Core.Bool.{Bool, true, false, _&&_}
-use mathlib.Core.List.{List, [], _∷_, _++_}
-use Prim.Native.Nat.{ℕ, suc, _+_, _-_, _≤_, _<_, min}
+use mathlib.Core.Path.{_≡_, refl, sym, ap, _∙_}
+use mathlib.Core.Bool.{true, false, _&&_}
+use mathlib.Core.List.{[], _++_}
+use Prim.Native.Nat.{ℕ, _-_, _≤_, _<_}
 use native.Mathlib.Omega.{arith}
-use lib.Dec.{eqb, leb, ltb}
+use lib.Dec.{leb}
 use lib.ListN.{length, getD, take, drop, length-take, length-drop, length-append}
-use borrow.Author.Tests.{le-leb, lt-leb, leb-true, eq-eqb, ne-eqb}
-use Rattle.lists.specs.Lists.{Bytes, bytes, all, same, range, zeros, overwrite}
+use borrow.Author.Tests.{le-leb, lt-leb, leb-true}
+use Rattle.lists.specs.Lists.{Bytes, bytes, all, same, range, zeros}
 use Rattle.lists.proofs.Tests.{and-left, and-right}
 use Rattle.lists.proofs.Range.{range-all, Tested, tested-fails, tested-done}
 use Rattle.lists.proofs.Over.{take-overwrite, length-overwrite}

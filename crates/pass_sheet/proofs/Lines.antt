@@ -3,7 +3,7 @@ use mathlib.Core.Path.{_≡_, refl, sym, ap, ap₂, _∙_}
 use mathlib.Core.Bool.{Bool, true, false}
 use mathlib.Core.List.{List, [], _∷_, _++_, flatMap}
 use mathlib.Core.Logic.{⊎-elim}
-use Prim.Native.Nat.{ℕ, zero, suc, _+_, _-_, _≤_, _<_}
+use Prim.Native.Nat.{ℕ, suc, _+_, _-_, _≤_, _<_}
 use native.Mathlib.Omega.{arith}
 use lib.Dec.{eqb}
 use lib.ListN.{length, getD, take, drop, length-drop, drop-of-length-le}
@@ -12,7 +12,7 @@ use borrow.Author.Tests.{eqb-true, eqb-false}
 use Rattle.lists.specs.Lists.{Bytes, any}
 use Rattle.lists.proofs.Tests.{by-test}
 use Rattle.blif_text.specs.Lines.{consFirst, split}
-use Rattle.blif_text.specs.between.Scan.{NoneTo, FirstTo, LineAfter}
+use Rattle.blif_text.specs.between.Scan.{NoneTo, LineAfter}
 use Rattle.blif_text.proofs.Parts.{Without, split-end, split-last}
 
 -- no byte at any place passes the test

@@ -1,17 +1,17 @@
 -- Which texts are sheets: just the texts of sheets, and each of one. Assumes nothing.
 use mathlib.Core.Path.{_≡_, refl, sym, ap, ap₂, _∙_, subst}
-use mathlib.Core.Bool.{Bool, true, false, _&&_, not, false≢true}
-use mathlib.Core.List.{List, [], _∷_, _++_, flatMap, append-assoc, append-nil}
-use mathlib.Core.Option.{Option, none, some, Option·none-ne-some}
+use mathlib.Core.Bool.{true, false, _&&_, not, false≢true}
+use mathlib.Core.List.{List, [], _∷_, _++_, flatMap, append-assoc}
+use mathlib.Core.Option.{some, Option·none-ne-some}
 use mathlib.Core.Logic.{_↔_}
 use Prim.Native.Nat.{ℕ, zero, suc, _-_, _≤_}
 use native.Mathlib.Omega.{arith}
 use lib.Dec.{eqb, leb}
 use lib.ListN.{length, getD, take, drop, take-append-drop, length-append}
 use lib.Seq.{take-at, drop-at}
-use borrow.Author.Tests.{not-true, eqb-true, eqb-false, eq-eqb, le-leb, leb-true}
-use Rattle.lists.specs.Lists.{if_then_else_, Bytes, bytes, same, all, any, range}
-use Rattle.lists.proofs.Tests.{by-test, and-left, and-right, and-both}
+use borrow.Author.Tests.{not-true, eqb-true, eq-eqb, le-leb, leb-true}
+use Rattle.lists.specs.Lists.{Bytes, bytes, same, all, any, range}
+use Rattle.lists.proofs.Tests.{by-test, and-left, and-right}
 use Rattle.lists.proofs.Same.{same-is, same-refl}
 use Rattle.lists.proofs.Every.{any-append}
 use Rattle.lists.proofs.Range.{range-all}

@@ -1,10 +1,9 @@
 -- What `read_sheet` promises, as a reviewer would read it. Assumes nothing.
 --   sheet-of-text    which texts are sheets
 
-use mathlib.Core.Path.{_≡_, sym, ap, _∙_}
+use mathlib.Core.Path.{_≡_}
 use mathlib.Core.Option.{some}
 use mathlib.Core.Logic.{_↔_}
-use lib.ListN.{length, take, drop}
 use Rattle.lists.specs.Lists.{Bytes}
 use Rattle.pass_sheet.specs.Sheet.{Sheet, sheetOf, sheetText, IsSheet}
 use Rattle.pass_sheet.proofs.SheetTexts as texts

@@ -1,5 +1,5 @@
 -- The report where as many cells are lent as reading wants. Assumes nothing.
-use mathlib.Core.Path.{_≡_, refl, sym, ap, _∙_}
+use mathlib.Core.Path.{_≡_, ap, _∙_}
 use mathlib.Core.Bool.{true}
 use mathlib.Core.List.{List}
 use Prim.Native.Nat.{ℕ}
@@ -9,7 +9,7 @@ use Rattle.lists.specs.Lists.{Bytes, zeros}
 use Rattle.blif_read.specs.Into.{Lengths, lengths, enough}
 use Rattle.blif_write_names.specs.between.Text.{Wrote}
 use Rattle.pass_report.specs.Report.{reportOf}
-use Rattle.pass_report.specs.Into.{ReportOutcome, reportOutcome, leaving, reportInto}
+use Rattle.pass_report.specs.Into.{ReportOutcome, reportOutcome, reportInto}
 use Rattle.pass_report.proofs.Summary.{report-into}
 
 -- the lengths of the program's arrays
