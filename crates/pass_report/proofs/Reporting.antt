@@ -57,9 +57,9 @@ pub record CountedRows (result : Result) (t : Bytes) (v : Verdicts) : Type 0 whe
   pub has : rowsOf (net .inputs) t ≡ some rows
   pub verdicts : v ≡ verdictsOf (run net rows)
 
-judged-counted : (net : Net) (o : Option (List (List Bool))) {v : Verdicts} → judgedRows net o ≡ Counted v → (rows : List (List Bool)) × (o ≡ some rows) × (v ≡ verdictsOf (run net rows))
-judged-counted net none e = absurd (let z : _≡_ {A = ℕ} 0 1 = cc in omega arith)
-judged-counted net (some rows) {v} e = let same : verdictsOf (run net rows) ≡ v = cc in (rows, refl, sym same)
+rows-counted : (net : Net) (o : Option (List (List Bool))) {v : Verdicts} → judgedRows net o ≡ Counted v → (rows : List (List Bool)) × (o ≡ some rows) × (v ≡ verdictsOf (run net rows))
+rows-counted net none e = absurd (let z : _≡_ {A = ℕ} 0 1 = cc in omega arith)
+rows-counted net (some rows) {v} e = let same : verdictsOf (run net rows) ≡ v = cc in (rows, refl, sym same)
 
 pub counted-rows : (result : Result) (t : Bytes) {v : Verdicts} → judged result t ≡ Counted v → CountedRows result t v
 counted-rows (refused r) t e = absurd (let z : _≡_ {A = ℕ} 0 1 = cc in omega arith)
@@ -67,7 +67,7 @@ counted-rows (read net) t {v} e =
     by-test (eqb (length (net .outputs)) 0)
     (λ h. absurd (let w : Refused refusal.NoOutput ≡ Counted v = rw h at e in let z : _≡_ {A = ℕ} 0 1 = cc in omega arith))
     (λ h.
-    let x = judged-counted net (rowsOf (net .inputs) t) (rw h at e) in
+    let x = rows-counted net (rowsOf (net .inputs) t) (rw h at e) in
     let f : length (net .outputs) ≡ 0 → ⊥ = eqb-false (length (net .outputs)) 0 h in
     record { net = net; reads = refl; some-output = omega arith; rows = x .0; has = x .1; verdicts = x .2 })
 

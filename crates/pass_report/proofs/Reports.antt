@@ -1,17 +1,18 @@
 -- What is printed for two texts, and why. Assumes nothing.
 use mathlib.Core.Path.{_≡_, refl, sym, ap, _∙_}
 use mathlib.Core.Bool.{Bool, true, false}
-use mathlib.Core.List.{List, [], _∷_}
+use mathlib.Core.List.{List, [], _∷_, _++_}
 use mathlib.Core.Option.{Option, none, some}
 use mathlib.Core.Logic.{_↔_}
-use Prim.Native.Nat.{ℕ, _≤_, _<_}
+use Prim.Native.Nat.{ℕ, _+_, _≤_, _<_}
 use native.Mathlib.Omega.{arith}
 use lib.Dec.{eqb}
-use lib.ListN.{length, take}
+use lib.ListN.{length, take, length-append}
 use lib.Seq.{take-all, length-take-le}
 use borrow.Author.Tests.{lt-ltb, lt-leb, ne-eqb}
-use Rattle.lists.specs.Lists.{if_then_else_, Bytes}
+use Rattle.lists.specs.Lists.{if_then_else_, Bytes, bytes}
 use Rattle.lists.proofs.Tests.{by-order}
+use Rattle.refusals.specs.Numbers.{numberOf}
 use Rattle.refusals.specs.Order.{_orElse_, refuseIf}
 use Rattle.refusals.specs.declared.Refusal.the-variants as refusal
 use Rattle.signal.specs.Signal.{Signal}
@@ -21,12 +22,16 @@ use Rattle.network.specs.Settle.{run}
 use Rattle.blif_reading.specs.Read.{Result, read, refused, answer, readFault, readText}
 use Rattle.blif_reading.proofs.Summary.{read-means, reading-refuses}
 use Rattle.blif_read.specs.Into.{Lengths, enough}
+use Rattle.blif_writing.specs.Names.{decimal}
 use Rattle.run_rows.specs.Rows.{rowsOf}
+use Rattle.printed_lines.specs.Lines.{keyLine, countLine}
 use Rattle.pass_sheet.specs.Sheet.{Sheet, isWhole, sheetOf, commandText}
-use Rattle.pass_sheet.proofs.SheetTexts.{sheet-text, command-lines}
-use Rattle.pass_report.specs.Report.{verdictsOf, judgedRows, judged, printed, reportFrom, reportOf}
+use Rattle.pass_sheet.proofs.HeadTests.{decimal-short, part-few}
+use Rattle.pass_sheet.proofs.SheetTexts.{sheet-text, command-lines, rows-few}
+use Rattle.pass_report.specs.Report.{verdictsOf, judgedRows, judged, reportLines, printed, reportFrom, reportOf}
 use Rattle.pass_report.specs.Into.{leaving, reportInto}
 use Rattle.pass_report.specs.Counted.{CountedFor, ReportedAs, wrong-sheet, not-read, no-output, wrong-rows, reported}
+use Rattle.pass_report.specs.declared.Verdicts.{Verdicts}
 use Rattle.pass_report.proofs.Judging.{rows-count}
 use Rattle.pass_report.proofs.Reporting.{CountedRows, counted-run}
 use Rattle.pass_report.proofs.Tally.{tallies-are}
@@ -118,3 +123,40 @@ pub report-front : (netlist sheet : Bytes) → reportOf (take 32769 netlist) (ta
 unfolding reportOf
 report-front netlist sheet =
     λ i. reportFrom (front 32769 netlist readText (refused refusal.TextTooLong) (λ u h. too-long u (omega (arith, h))) i) (front 40961 sheet sheetOf none (λ u h. too-large u (omega (arith, h))) i)
+
+-- ---- how long a report is
+
+-- a key, a number up to 128 and LF
+count-short : (key : Bytes) (n : ℕ) → n ≤ 128 → length (countLine key n) ≤ length key + 4
+count-short key n h = omega (arith, decimal-short n h, length-append (key ++ decimal n []) (10 ∷ []), length-append key (decimal n []))
+
+lines-short : (sheet : Bytes) {s : Sheet} (v : Verdicts) → sheetOf sheet ≡ some s → v .accepted + v .rejected ≡ length (s .rows) → length (reportLines (s .part) (length (s .rows)) v) ≤ 61
+lines-short sheet {s} v e adds =
+    let is = sheet-text sheet e .1 in
+    let few = rows-few s is in
+    let part : Bytes = keyLine (bytes "part=") (s .part) in
+    let commands : Bytes = countLine (bytes "commands=") (length (s .rows)) in
+    let accepted : Bytes = countLine (bytes "accepted=") (v .accepted) in
+    let rejected : Bytes = countLine (bytes "rejected=") (v .rejected) in
+    omega (
+      arith,
+      part-few (s .part) (is .part),
+      length-append (bytes "part=" ++ s .part) (10 ∷ []),
+      length-append (bytes "part=") (s .part),
+      count-short (bytes "commands=") (length (s .rows)) few,
+      count-short (bytes "accepted=") (v .accepted) (omega (arith, adds, few)),
+      count-short (bytes "rejected=") (v .rejected) (omega (arith, adds, few)),
+      length-append (part ++ commands ++ accepted) rejected,
+      length-append (part ++ commands) accepted,
+      length-append part commands,
+    )
+
+as-short : {netlist sheet t : Bytes} → ReportedAs netlist sheet t → length t ≤ 61
+as-short (wrong-sheet e) = omega arith
+as-short (not-read {k = k} e q i) = omega (arith, count-short (bytes "refused=") (numberOf k) (omega (arith, i .high)))
+as-short (no-output e q o) = omega arith
+as-short (wrong-rows e q o r) = omega arith
+as-short {sheet = sheet} (reported {v = v} e c) = lines-short sheet v e (c .adds)
+
+pub report-short : (netlist sheet : Bytes) → length (reportOf netlist sheet) ≤ 61
+report-short netlist sheet = as-short (report-as netlist sheet)

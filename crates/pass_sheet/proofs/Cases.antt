@@ -4,8 +4,8 @@ use mathlib.Core.Bool.{Bool, true, false, not}
 use mathlib.Core.List.{List, [], _∷_, _++_, flatMap}
 use Rattle.lists.specs.Lists.{Bytes, bytes, optional, all, same}
 use Rattle.blif_text.specs.Lines.{consFirst, split}
+use Rattle.blif_text.proofs.Splitting.{ended}
 use Rattle.pass_sheet.specs.Sheet.{Sheet, isLetterOrDigit, isPart, isPartLine, isRowCount, isRowsLine, inOrder, endsInLf, isWhole, sheetOf}
-use Rattle.pass_sheet.proofs.Lines.{ended-lines}
 
 -- whether a text is a sheet
 isSheetText : Bytes → Bool
@@ -13,7 +13,7 @@ isSheetText t = optional (λ (s : Sheet). true) false (sheetOf t)
 
 -- a part, the line of the rows, and rows
 three : Bytes → Bytes → List Bytes → Bytes
-three part rows commands = ended-lines (part ∷ rows ∷ commands)
+three part rows commands = ended (part ∷ rows ∷ commands)
 
 zero : Bytes
 zero = bytes "0"

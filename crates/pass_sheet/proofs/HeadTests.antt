@@ -40,6 +40,11 @@ module _ (p : Bytes) where
     pub part-right : length p ≤ i → true ≡ isPart p
     part-right h = tested-done 0 a h ∙ sym within
 
+-- and 16 at most
+pub part-few : (p : Bytes) → isPart p ≡ true → length p ≤ 16
+unfolding isPart
+part-few p e = leb-true (length p) 16 (and-right (leb 1 (length p)) (leb (length p) 16) (and-left (leb 1 (length p) && leb (length p) 16) (all isLetterOrDigit p) e))
+
 -- a part has a byte
 pub part-some : (p : Bytes) → isPart p ≡ true → 1 ≤ length p
 unfolding isPart
@@ -88,10 +93,11 @@ wanted n = bytes "rows=" ++ decimal n []
 three-digits : all (λ n. leb (length (decimal n [])) 3) (range 0 129) ≡ true
 three-digits = refl
 
+pub decimal-short : (n : ℕ) → n ≤ 128 → length (decimal n []) ≤ 3
+decimal-short n h = leb-true (length (decimal n [])) 3 (range-all (λ (k : ℕ). leb (length (decimal k [])) 3) 0 129 three-digits n (omega arith) (omega arith))
+
 pub wanted-short : (n : ℕ) → n ≤ 128 → length (wanted n) ≤ 8
-wanted-short n h =
-    let few : length (decimal n []) ≤ 3 = leb-true (length (decimal n [])) 3 (range-all (λ (k : ℕ). leb (length (decimal k [])) 3) 0 129 three-digits n (omega arith) (omega arith)) in
-    omega (arith, few, length-append (bytes "rows=") (decimal n []))
+wanted-short n h = omega (arith, decimal-short n h, length-append (bytes "rows=") (decimal n []))
 
 module _ {n : ℕ} {p q : Bytes} {at end : ℕ} (few : n ≤ 128) (key : Appended (bytes "rows=") (zeros 8) 0 p at) (number : Appended (decimal n []) p at q end) where
   both : Appended (wanted n) (zeros 8) 0 q end

@@ -14,6 +14,7 @@ use Rattle.lists.proofs.Tests.{by-test}
 use Rattle.blif_text.specs.Lines.{consFirst, split}
 use Rattle.blif_text.specs.between.Scan.{NoneTo, LineAfter}
 use Rattle.blif_text.proofs.Parts.{Without, split-end, split-last}
+use Rattle.blif_text.proofs.Splitting.{ended}
 
 -- no byte at any place passes the test
 any-places : (p : ℕ → Bool) (w : Bytes) → ((j : ℕ) → j < length w → p (getD w j 0) ≡ false) → any p w ≡ false
@@ -51,8 +52,8 @@ module _ {t : Bytes} {at next : ℕ} (l : LineAfter t at next) (inside : at < le
   abbrev k : ℕ
   k = l .end - at
 
-  ended : l .end < length t → next ≡ l .end + 1 → EndedAt t at next
-  ended h e =
+  by-lf : l .end < length t → next ≡ l .end + 1 → EndedAt t at next
+  by-lf h e =
       let inner : k < length (drop at t) = omega (arith, none .low, length-drop at t) in
       let place : at + k ≡ l .end = omega (arith, none .low) in
       let after : at + suc k ≡ next = omega (arith, none .low) in
@@ -91,13 +92,13 @@ module _ {t : Bytes} {at next : ℕ} (l : LineAfter t at next) (inside : at < le
   pub line-at : LineAt t at next
   line-at =
       ⊎-elim
-      (λ h. let x = ended (h .0) (h .1) in record { low = x .low; high = x .high; line = take (next - 1 - at) (drop at t); cuts = x .cuts })
+      (λ h. let x = by-lf (h .0) (h .1) in record { low = x .low; high = x .high; line = take (next - 1 - at) (drop at t); cuts = x .cuts })
       (λ h. last (h .0) (h .1)) (l .is)
 
   -- the next line of a text whose last byte is an LF
   pub ended-at : getD t (length t - 1) 0 ≡ 10 → EndedAt t at next
   ended-at z =
-      ⊎-elim (λ h. ended (h .0) (h .1))
+      ⊎-elim (λ h. by-lf (h .0) (h .1))
       (λ h. absurd (eqb-false 10 (getD t (length t - 1) 0) (none .none (length t - 1) (omega arith) (omega (arith, h .0))) (sym z))) (l .is)
 
 -- ---- counting lines
@@ -124,15 +125,11 @@ count-done {t} {n} {at} c h =
 
 -- ---- back to the text
 
--- each line with an LF behind it
-abbrev pub ended-lines : List Bytes → Bytes
-ended-lines ls = flatMap (λ (l : Bytes). l ++ 10 ∷ []) ls
-
 -- an LF is the last byte, if there is one
 abbrev pub Closed : Bytes → Type 0
 Closed t = (n : ℕ) → suc n ≡ length t → getD t n 0 ≡ 10
 
-first-more : (c : ℕ) (s : Bytes) (ls : List Bytes) → (ls ≡ [] → ⊥) → ended-lines ls ≡ s → ended-lines (consFirst c ls) ≡ c ∷ s
+first-more : (c : ℕ) (s : Bytes) (ls : List Bytes) → (ls ≡ [] → ⊥) → ended ls ≡ s → ended (consFirst c ls) ≡ c ∷ s
 unfolding consFirst flatMap
 first-more c s [] f e = absurd (f refl)
 first-more c s (l ∷ ls) f e = ap (λ (x : Bytes). c ∷ x) e
@@ -147,7 +144,7 @@ some-line c s e = by-test (eqb 10 c) (λ h. let y : suc (length (split (eqb 10) 
     by (l ∷ ls) e = let y : suc (length ls) ≡ 0 = ap length e in omega arith
 
 -- a text whose last byte is an LF is its lines, each with an LF behind it
-pub lines-again : (t : Bytes) → Closed t → ended-lines (split (eqb 10) t) ≡ t
+pub lines-again : (t : Bytes) → Closed t → ended (split (eqb 10) t) ≡ t
 unfolding split flatMap
 lines-again [] f = refl
 lines-again (c ∷ s) f =

@@ -18,8 +18,9 @@ use Rattle.lists.proofs.Range.{range-all}
 use Rattle.blif_writing.specs.Names.{decimal}
 use Rattle.blif_text.specs.Lines.{consFirst, split}
 use Rattle.blif_text.proofs.Parts.{Without, split-end}
+use Rattle.blif_text.proofs.Splitting.{ended}
 use Rattle.pass_sheet.specs.Sheet.{Sheet, isLetterOrDigit, isPart, isPartLine, isRowCount, isRowsLine, inOrder, endsInLf, maxSheet, isWhole, sheetOf, commandText, sheetText, IsSheet}
-use Rattle.pass_sheet.proofs.Lines.{ended-lines, Closed, lines-again}
+use Rattle.pass_sheet.proofs.Lines.{Closed, lines-again}
 
 -- ---- lines without an LF
 
@@ -39,14 +40,14 @@ lines-no-lf [] = refl
 lines-no-lf (c ∷ t) = by-test (eqb 10 c) (λ e. rw e (lines-no-lf t)) (λ e. rw e (first-no-lf c (split (eqb 10) t) e (lines-no-lf t)))
 
 -- and such lines, each with an LF behind it, come back
-pub ended-again : (ls : List Bytes) → NoLf ls → split (eqb 10) (ended-lines ls) ≡ ls
+pub ended-again : (ls : List Bytes) → NoLf ls → split (eqb 10) (ended ls) ≡ ls
 unfolding split flatMap
 ended-again [] f = refl
 ended-again (l ∷ ls) f =
     let free : Without (eqb 10) l = not-true (any (eqb 10) l) (and-left (not (any (eqb 10) l)) (all (λ row. not (any (eqb 10) row)) ls) f) in
     let rest : NoLf ls = and-right (not (any (eqb 10) l)) (all (λ row. not (any (eqb 10) row)) ls) f in
-    ap (split (eqb 10)) (append-assoc l (10 ∷ []) (ended-lines ls))
-    ∙ split-end (eqb 10) l 10 (ended-lines ls) free refl
+    ap (split (eqb 10)) (append-assoc l (10 ∷ []) (ended ls))
+    ∙ split-end (eqb 10) l 10 (ended ls) free refl
     ∙ ap (λ (r : List Bytes). l ∷ r) (ended-again ls rest)
 
 -- ---- from a text to its sheet
@@ -85,7 +86,7 @@ abbrev rowsLine : Sheet → Bytes
 rowsLine s = bytes "rows=" ++ decimal (length (s .rows)) []
 
 -- a sheet's text is its lines, each with an LF behind it
-pub lines-of : (s : Sheet) → ended-lines (partLine s ∷ rowsLine s ∷ s .rows) ≡ sheetText s
+pub lines-of : (s : Sheet) → ended (partLine s ∷ rowsLine s ∷ s .rows) ≡ sheetText s
 unfolding flatMap
 lines-of s = sym (append-assoc (partLine s ++ 10 ∷ []) (rowsLine s ++ 10 ∷ []) (commandText s))
 
@@ -116,8 +117,8 @@ sheet-text t {s} e =
     let lf = closed t (and-right (leb (length t) maxSheet) (endsInLf t) (l .0)) in
     let text : t ≡ sheetText s =
     sym (lines-again t lf)
-    ∙ ap ended-lines (l .1 .lines)
-    ∙ ap₂ (λ (a b : Bytes). ended-lines (a ∷ b ∷ s .rows)) (first-is (l .1)) (second-is (l .1))
+    ∙ ap ended (l .1 .lines)
+    ∙ ap₂ (λ (a b : Bytes). ended (a ∷ b ∷ s .rows)) (first-is (l .1)) (second-is (l .1))
     ∙ lines-of s in
     let no-lf : NoLf (l .1 .first ∷ l .1 .second ∷ s .rows) = subst NoLf (l .1 .lines) (lines-no-lf t) in
     let first = l .1 .first in
@@ -158,11 +159,11 @@ closed-lf : (t : Bytes) → Closed t → Closed (10 ∷ t)
 closed-lf t f zero h = refl
 closed-lf t f (suc n) h = f n (omega (arith, h))
 
-ended-closed : (ls : List Bytes) → Closed (ended-lines ls)
+ended-closed : (ls : List Bytes) → Closed (ended ls)
 unfolding flatMap
 ended-closed [] n h = absurd (omega (arith, h))
 ended-closed (l ∷ ls) n h =
-    subst Closed (sym (append-assoc l (10 ∷ []) (ended-lines ls))) (closed-behind l 10 (ended-lines ls) (closed-lf (ended-lines ls) (ended-closed ls))) n h
+    subst Closed (sym (append-assoc l (10 ∷ []) (ended ls))) (closed-behind l 10 (ended ls) (closed-lf (ended ls) (ended-closed ls))) n h
 
 module _ (s : Sheet) (is : IsSheet s) where
   pub rows-few : length (s .rows) ≤ 128
