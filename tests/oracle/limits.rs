@@ -1,4 +1,4 @@
-// Texts by hand at the limits of the sizes and one over, with the answer that document 01 gives each (0: read).
+// Texts by hand at the limits of the sizes and one over, with the answer that documents 01 and 02 give each (0: read).
 
 fn names(keyword: &str, first: &str, n: usize) -> String {
     keyword.to_string() + &(0..n).map(|k| format!(" {first}{k}")).collect::<String>() + "\n"
@@ -33,7 +33,7 @@ fn ports() -> Vec<(u32, String)> {
         (5, again(".inputs", "a", 257) + ".foo"),
         (4, again(".outputs", "a", 257) + ".model"),
         (0, ".exdc\n".to_string() + &again(".inputs", "a", 257) + &again(".outputs", "a", 257)),
-        (6, ".model m\n.end\n".to_string() + &again(".inputs", "a", 257)),
+        (0, ".model m\n.end\n".to_string() + &again(".inputs", "a", 257)),
     ]
 }
 
@@ -61,6 +61,29 @@ fn gates() -> Vec<(u32, String)> {
         // 1,280 definitions, used from the last to the first
         (0, names(".inputs", "i", 256) + &empty(1024) + &again(".outputs", "1023", 1) + ".outputs i0 0 i255\n"),
         (10, names(".inputs", "i", 256) + &empty(1023) + ".names i255\n"),
+    ]
+}
+
+// Behind `.end` nothing is counted, also where it is refused; what stands before it is.
+fn ended() -> Vec<(u32, String)> {
+    let model = || ".model m\n".to_string();
+    let outputs = again(".outputs", "a", 257);
+    let gates = lines(".names", 1025);
+    let pins = cover(8191, 1);
+    vec![
+        (0, model() + ".end\n" + &outputs),
+        (0, model() + ".end\n" + &gates),
+        (0, model() + ".end\n" + &pins),
+        (8, ".end\n".to_string() + &gates),
+        (8, ".end\n".to_string() + &outputs + ".model m\n"),
+        (6, model() + &outputs + ".end\n"),
+        (6, model() + &gates + ".end\n"),
+        (6, model() + &pins + ".end\n"),
+        (6, gates + ".end\n"),
+        // 256 before it and one behind it, also of a cover's lines
+        (0, model() + &names(".inputs", "i", 256) + ".end\n.inputs a\n"),
+        (0, model() + ".names y\n" + &lines("1", 1023) + ".end\n1\n"),
+        (6, model() + ".names y\n" + &lines("1", 1024) + ".end\n"),
     ]
 }
 
@@ -105,7 +128,7 @@ fn bytes() -> Vec<(u32, Vec<u8>)> {
 }
 
 pub fn sizes() -> Vec<(u32, Vec<u8>)> {
-    let texts = [ports(), gates(), pins()].concat();
+    let texts = [ports(), gates(), pins(), ended()].concat();
     let mut all: Vec<(u32, Vec<u8>)> = texts.into_iter().map(|(k, t)| (k, t.into_bytes())).collect();
     all.extend(bytes());
     all

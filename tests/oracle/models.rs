@@ -1,7 +1,7 @@
 // BLIF texts made from a seed, what Quaigh's `read_blif` makes of them, and what its `write_blif` writes.
-use crate::generate::{make, plain_of, Numbers, Plain, Shape};
+use crate::generate::{make, Numbers, Plain, Shape};
 use crate::io::blif::{read_blif, write_blif};
-use crate::io::statements::{list, Found};
+use crate::reads::{wanted, Wanted};
 use crate::{Network, Signal};
 use std::panic::{catch_unwind, AssertUnwindSafe};
 
@@ -26,10 +26,10 @@ fn number(message: &str) -> u32 {
     known.iter().find(|(m, _)| message.contains(m)).expect(message).1
 }
 
-// What `read_blif` gives for a text in whose statements no name is missing, and whether it panics: where a latch's input is undefined
-// (11) and at a loop (14).
-pub fn built(text: &[u8]) -> (Answer, bool) {
-    match catch_unwind(|| read_blif(text)) {
+// What a reader gives for a text in whose statements no name is missing, and whether it panics: where a latch's input is undefined (11) and
+// at a loop (14).
+pub fn outcome(read: impl FnOnce() -> Result<Network, String>) -> (Answer, bool) {
+    match catch_unwind(AssertUnwindSafe(read)) {
         Ok(Ok(n)) => (Answer::Read(n), false),
         Ok(Err(m)) => (Answer::Refused(number(&m)), false),
         Err(e) => {
@@ -41,12 +41,9 @@ pub fn built(text: &[u8]) -> (Answer, bool) {
     }
 }
 
-// What `read_blif` gives; it panics where a name is missing, too (4).
-fn answer(text: &[u8]) -> Answer {
-    if catch_unwind(|| matches!(list(text), Found::Statements(_))).is_err() {
-        return Answer::Refused(4);
-    }
-    built(text).0
+// What `read_blif` gives for such a text.
+pub fn built(text: &[u8]) -> (Answer, bool) {
+    outcome(|| read_blif(text))
 }
 
 const NAMES: [&str; 7] = ["a", "b", "c", "d", "y", "z", "w"];
@@ -104,9 +101,13 @@ pub fn text(r: &mut Numbers) -> String {
     s += match r.below(30) {
         0 => ".gate\n",
         1 => ".names\n",
-        2 => "1 1\n.end\n.outputs\n",
+        2 => "1 1\n.end\n.outputs q\n",
         3 | 4 => ".exdc\n.names q\n",
-        5..=9 => ".end\n.end\n",
+        5 => ".end\n.end\n",
+        6 => ".end\n.inputs q\n.model n\n",
+        7 => ".end\n.names\n1 1\n",
+        8 => ".end\n2 2\n.latch q\n",
+        9 => ".end\n0 1\n.names y y\n1 1\n",
         10 => ".model\n",
         11 => ".latch a\n",
         12 | 13 => ".model n\n",
@@ -155,14 +156,6 @@ fn quoted(text: &str) -> String {
     text.replace('\\', "\\\\").replace('\n', "\\n").replace('\r', "\\r")
 }
 
-fn of(n: &Network) -> Plain {
-    Plain {
-        inputs: n.nb_inputs(),
-        gates: (0..n.nb_nodes()).map(|i| plain_of(n.gate(i))).collect(),
-        outputs: (0..n.nb_outputs()).map(|i| n.output(i)).collect(),
-    }
-}
-
 // Plain flip-flops, since Quaigh writes others in a notation of its own.
 pub fn plain_flops(mut p: Plain) -> Plain {
     for (form, ps) in &mut p.gates {
@@ -195,12 +188,12 @@ pub fn checks(seed: u64, count: usize) -> String {
     let mut seen = std::collections::BTreeMap::new();
     for _ in 0..count {
         let t = text(&mut r);
-        let (kind, wanted) = match answer(t.as_bytes()) {
-            Answer::Read(n) => (0, format!("network ({})", net(&of(&n)))),
-            Answer::Refused(k) => (k, format!("number {k}")),
+        let (kind, answer) = match wanted(t.as_bytes()) {
+            Wanted::Read(p) => (0, format!("network ({})", net(&p))),
+            Wanted::Refused(k) => (k, format!("number {k}")),
         };
         *seen.entry(kind).or_insert(0) += 1;
-        parts.push(format!("reads (bytes \"{}\") ({wanted})", quoted(&t)));
+        parts.push(format!("reads (bytes \"{}\") ({answer})", quoted(&t)));
     }
     let texts = parts.len();
     for k in 0..count / 4 {

@@ -1,4 +1,4 @@
-// Texts by hand with the answer that document 01 gives each (0: read), and every short sequence of fragments.
+// Texts by hand with the answer that documents 01 and 02 give each (0: read), and every short sequence of fragments.
 use crate::limits::sizes;
 
 // Document 01's netlists worked by hand, those that are read.
@@ -117,6 +117,62 @@ const ORDER: &[(u32, &str)] = &[
     (12, ".inputs a\n.names a y\n1 1\n0 0\n1 2"),
 ];
 
+// `.end` ends the model (document 02, CR 3).
+const ENDED: &[(u32, &str)] = &[
+    // what stands behind it defines, uses and builds nothing: none of 7 to 14
+    (0, ".model m\n.end\n.model n"),
+    (0, ".model m\n.end\n.names"),
+    (0, ".model m\n.end\n.inputs a a"),
+    (0, ".model m\n.inputs a\n.end\n.inputs a"),
+    (0, ".model m\n.end\n.outputs a"),
+    (0, ".model m\n.end\n.latch d q"),
+    (0, ".model m\n.end\n.names y\n2"),
+    (0, ".model m\n.end\n.names y\n1\n0"),
+    (0, ".model m\n.end\n.names y y\n1 1"),
+    (11, ".model m\n.outputs a\n.end\n.inputs a"),
+    (11, ".model m\n.latch d q\n.end\n.inputs d"),
+    (11, ".model m\n.names a y\n.end\n.inputs a"),
+    (0, ".model m\n.inputs a\n.outputs a\n.end\n.inputs b\n.outputs b\n.names a b c\n11 1\n.latch b d"),
+    (0, ".model m\n.inputs a\n.outputs y\n.names a y\n1 1\n.end\n.model n\n.inputs a b\n.outputs y\n.names a b y\n11 1\n.end"),
+    // cube lines behind it join no cover
+    (0, ".model m\n.inputs a\n.outputs y\n.names a y\n1 1\n.end\n0 1"),
+    (0, ".model m\n.inputs a\n.outputs y\n.names a y\n.end\n1 1"),
+    (0, ".model m\n.inputs a\n.names a y\n1 1\n.end\n1 0"),
+    (12, ".model m\n.inputs a\n.names a y\n2 1\n.end\n1 1"),
+    // it has to parse
+    (4, ".model m\n.end\n.model"),
+    (4, ".model m\n.end\n.latch d"),
+    (5, ".model m\n.end\n.gate"),
+    (5, ".model m\n.end\n.end_kiss"),
+    (5, ".end\n.gate"),
+    (4, ".end\n.model"),
+    (4, ".model m\n.end\n.exdc\n.latch d"),
+    // 8 where no `.model` comes before it, in the order of statements
+    (8, ".end\n.end"),
+    (8, ".end\n.exdc"),
+    (8, ".end\n.model m\n.end"),
+    (8, ".inputs a\n.end\n.inputs a"),
+    (7, ".model m\n.model n\n.end"),
+    (9, ".names\n.end\n.model m"),
+    (10, ".inputs a a\n.end"),
+    (8, ".outputs q\n.end\n.inputs q"),
+    // the first of `.end` and `.exdc` stops
+    (0, ".exdc\n.end"),
+    (0, ".model m\n.exdc\n.end\n.inputs a a"),
+    (0, ".model m\n.end\n.exdc\n.inputs a a"),
+    (0, ".model m\n.inputs a\n.end\n.inputs b\n.end\n.inputs c\n.end"),
+    // words behind it and lines that it continues into are no statements
+    (0, ".model m\n.end .inputs a\n.inputs b b"),
+    (0, ".model m\n.end\\\n.inputs a\n.inputs b b"),
+    (0, ".model m\n\\\n.end\n.inputs b b"),
+    (0, ".model m\r\n.end\r\n.inputs b b\r\n"),
+    (0, ".model m\n.end # notes\n# notes\n.inputs b b"),
+    (10, ".model m\n# .end\n.inputs b b"),
+    (10, ".model m\\\n.end\n.inputs b b"),
+    (10, ".model .end\n.inputs b b"),
+    (10, ".model m\n.inputs .end\n.inputs .end"),
+];
+
 const COVERS: &[(u32, &str)] = &[
     // directly after: empty and comment lines do not interrupt, statements do
     (0, ".inputs a\n.outputs y\n.names a y\n\n# c\n1 1\n \n0 1"),
@@ -206,7 +262,7 @@ const HIGH: &[(u32, &[u8])] = &[
 ];
 
 pub fn by_hand() -> Vec<(u32, Vec<u8>)> {
-    let parts = [CASES, LINES, ORDER, COVERS, SORT].concat();
+    let parts = [CASES, LINES, ORDER, COVERS, SORT, ENDED].concat();
     let mut all: Vec<(u32, Vec<u8>)> = parts.iter().map(|(k, t)| (*k, t.as_bytes().to_vec())).collect();
     all.extend(HIGH.iter().map(|(k, t)| (*k, t.to_vec())));
     all.extend(sizes());

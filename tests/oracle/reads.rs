@@ -1,10 +1,12 @@
-// Texts, and what reading must answer for each: Quaigh's `read_blif`, with document 01's numbers and sizes and its And where cover
-// lines with output 0 are joined.
+// Texts, and what reading must answer for each: Quaigh's `read_blif` of the part up to `.end`, with document 01's numbers and sizes and its
+// And where cover lines with output 0 are joined.
 use crate::{cells, line};
 use crate::compare::{number, Case};
 use crate::generate::{Numbers, Plain};
-use crate::io::statements::{too_large, with_ones};
-use crate::models::{built, Answer};
+use crate::io::statements::{
+    goes_on_behind_end, network_with, parsed_with, parses, too_large, too_large_with, up_to_end, with_ones, EndMistake, END_MISTAKES,
+};
+use crate::models::{built, outcome, Answer};
 use crate::points;
 use crate::smaller_texts;
 use crate::tricky;
@@ -50,20 +52,36 @@ pub fn wanted(text: &[u8]) -> Wanted {
 }
 
 fn sourced(text: &[u8]) -> (Wanted, Source) {
-    let limit = |k: u32| (Wanted::Refused(k), Source::Limit);
     if text.len() > MAX_TEXT {
-        return limit(2);
+        return (Wanted::Refused(2), Source::Limit);
     }
     if text.iter().any(|b| *b >= 128) {
-        return limit(3);
+        return (Wanted::Refused(3), Source::Limit);
     }
-    match catch_unwind(|| too_large(text)) {
-        Err(_) => return (Wanted::Refused(4), Source::Panic),
-        Ok(None) => return (Wanted::Refused(5), Source::Error),
-        Ok(Some(true)) => return limit(6),
-        Ok(Some(false)) => (),
+    match catch_unwind(|| parses(text)) {
+        Err(_) => (Wanted::Refused(4), Source::Panic),
+        Ok(false) => (Wanted::Refused(5), Source::Error),
+        Ok(true) => by_model(up_to_end(text)),
     }
-    match built(text) {
+}
+
+// What Quaigh answers for a text that parses, behind 6.
+fn by_quaigh(text: &[u8]) -> (Answer, bool) {
+    if too_large(text) { (Answer::Refused(6), false) } else { built(text) }
+}
+
+// An answer of Quaigh's as lines.
+fn in_quaigh(a: Answer) -> String {
+    match a {
+        Answer::Read(n) => shown(&Wanted::Read(Plain::of(&n))),
+        Answer::Refused(k) => shown(&Wanted::Refused(k)),
+    }
+}
+
+// What reading must answer for a text that parses and that ends where it is stopped.
+fn by_model(text: &[u8]) -> (Wanted, Source) {
+    match by_quaigh(text) {
+        (Answer::Refused(6), _) => (Wanted::Refused(6), Source::Limit),
         (Answer::Refused(k), panicked) => (Wanted::Refused(k), if panicked { Source::Panic } else { Source::Error }),
         (Answer::Read(n), _) => {
             let p = Plain::of(&n);
@@ -71,6 +89,46 @@ fn sourced(text: &[u8]) -> (Wanted, Source) {
             let (p, any) = if nand { joined_by_and(text, p) } else { (p, false) };
             (Wanted::Read(p), if any { Source::Joined } else { Source::Same })
         }
+    }
+}
+
+// Whether statements stand behind the `.end` that stops a text, and whether Quaigh answers otherwise for the whole of it.
+fn behind_end(text: &[u8], w: &Wanted) -> [bool; 2] {
+    let some = !matches!(w, Wanted::Refused(2..=5)) && goes_on_behind_end(text);
+    [some, some && shown(&by_model(text).0) != shown(w)]
+}
+
+// What a reader answers that goes wrong at `.end`, in Quaigh's networks; 0 where it breaks down.
+fn with_mistake(text: &[u8], m: EndMistake) -> String {
+    let refused = |k: u32| shown(&Wanted::Refused(k));
+    match catch_unwind(|| parses(parsed_with(text, m))) {
+        Err(_) => return refused(4),
+        Ok(false) => return refused(5),
+        Ok(true) => (),
+    }
+    if too_large_with(text, m) {
+        return refused(6);
+    }
+    match catch_unwind(|| outcome(|| network_with(text, m)).0) {
+        Err(_) => refused(0),
+        Ok(a) => in_quaigh(a),
+    }
+}
+
+// Tells the shortest text that tells each mistake at `.end` apart; each must be. Without a mistake, the statements up to `.end` have to give
+// what the text up to it gives.
+fn tell_end_mistakes(texts: &[Text]) {
+    let few: Vec<&Vec<u8>> = texts.iter().map(|t| &t.0).filter(|t| t.len() <= MAX_TEXT && t.is_ascii()).collect();
+    for t in &few {
+        let right = with_mistake(t, EndMistake::Nothing);
+        let parsed = catch_unwind(|| parses(t)).unwrap_or(false);
+        assert!(!parsed || right == in_quaigh(by_quaigh(up_to_end(t)).0), "{:?}: the part up to `.end`", t.escape_ascii().to_string());
+    }
+    for m in END_MISTAKES {
+        let apart = few.iter().filter(|t| with_mistake(t, m) != with_mistake(t, EndMistake::Nothing)).min_by_key(|t| t.len());
+        let apart = apart.unwrap_or_else(|| panic!("the list does not tell {m:?} apart"));
+        let shown = apart.escape_ascii().to_string();
+        eprintln!("{m:?} told apart by {} bytes: {}", apart.len(), &shown[..shown.len().min(60)]);
     }
 }
 
@@ -119,8 +177,9 @@ pub fn by_hand() -> Vec<Vec<u8>> {
 // The texts by hand, every short sequence of fragments, and so many from a seed: the kinds that the stored list has.
 fn texts(seed: u64, count: usize) -> Vec<Vec<u8>> {
     let mut r = Numbers(seed);
-    let seeded = (0..count).map(|k| tricky::text(&mut r, k));
-    by_hand().into_iter().chain(points::sequences(3)).chain(seeded).collect()
+    let seeded: Vec<Vec<u8>> = (0..count).map(|k| tricky::text(&mut r, k)).collect();
+    let ended = (0..count / 10).map(|k| tricky::ended(&mut r, k));
+    by_hand().into_iter().chain(points::sequences(3)).chain(seeded).chain(ended).collect()
 }
 
 #[derive(Clone)]
@@ -137,6 +196,8 @@ impl Case for Text {
         "refused where Quaigh gives a message",
         "refused where Quaigh panics",
         "refused for a size or a byte that Quaigh takes",
+        "with statements behind `.end`, as Quaigh answers for the part up to it",
+        "of these, where Quaigh answers otherwise for the whole",
     ];
 
     fn bytes(&self) -> usize {
@@ -151,7 +212,8 @@ impl Case for Text {
     fn answer(&self) -> (Vec<u8>, Vec<bool>) {
         let (w, source) = sourced(&self.0);
         let sources = [Source::Same, Source::Joined, Source::Error, Source::Panic, Source::Limit];
-        (shown(&w).into_bytes(), sources.map(|s| s == source).to_vec())
+        let notes = [&sources.map(|s| s == source)[..], &behind_end(&self.0, &w)].concat();
+        (shown(&w).into_bytes(), notes)
     }
 
     fn smaller(&self) -> Box<dyn Iterator<Item = Text> + '_> {
@@ -179,5 +241,6 @@ pub fn lists(seed: u64, count: usize) -> (Vec<u8>, Vec<u8>) {
     wanted.extend(SHORT.bytes());
     eprintln!("{} texts; answers (0 for read): {seen:?}", texts.len());
     assert!((2..15).all(|k| seen.contains_key(&k)), "a refusal does not occur");
+    tell_end_mistakes(&texts);
     (given, wanted)
 }

@@ -288,7 +288,8 @@ fn runs() -> Vec<Case> {
         counts(&LOCK.replace('\n', "\r\n"), &["10", "01", "11"], 2),
         counts(&LOCK.replace("accepted locked", "locked accepted"), &["10", "10", "10", "10"], 2),
         counts(&format!("{WIRE}.exdc\n.outputs b\n"), &["1", "0"], 1),
-        counts(".model m\n.end\n.inputs a\n.outputs a\n", &["1", "0"], 1),
+        counts(&format!(".model m\n{WIRE}.end\n.model n\n.inputs a b\n.outputs b a\n"), &["1", "0"], 1),
+        refused(".model m\n.end\n.inputs a\n.outputs a\n", &sheet("A1", &["1", "0"]), 33),
     ]
 }
 

@@ -160,6 +160,37 @@ fn whole(r: &mut Numbers, k: usize) -> Vec<u8> {
     all.concat().into_bytes()
 }
 
+// A model with more behind its `.end`: another model, the same one again, cube lines, statements over the sizes, or one that does not parse.
+pub fn ended(r: &mut Numbers, k: usize) -> Vec<u8> {
+    let s = shape(r, k);
+    let names = distinct(r, s.inputs + s.gates + 1);
+    let named = statement(r, &tokens(".model", &["m".to_string()]));
+    let mut all = model(r, &s, &names);
+    let before = if r.below(12) > 0 { 0 } else { r.below(all.len() + 1) };
+    all.insert(before, named.clone());
+    let end = if r.below(6) > 0 { all.len() } else { r.below(all.len() + 1) };
+    all.insert(end, statement(r, &[".end".to_string()]));
+    match r.below(7) {
+        0 => all.extend(all.clone()),
+        1 => {
+            let (s, names) = (shape(r, k + 1), distinct(r, 20));
+            let few = Shape { inputs: s.inputs.min(9), gates: s.gates.min(9), ..s };
+            all.push(named);
+            all.extend(model(r, &few, &names));
+        }
+        2 => {
+            let columns = r.below(4);
+            all.push(lines(r, &s, columns));
+        }
+        3 => all.push(pick(r, &[".inputs", ".outputs"]).to_string() + &" a".repeat(257) + "\n"),
+        4 => all.push(pick(r, &[".names\n", ".inputs q q\n", ".outputs q w\n", ".latch q w\n", ".end\n", ".exdc\n.names\n"]).to_string()),
+        5 => all.push(pick(r, &[".model\n", ".latch q\n", ".gate\n", ".endd\n", ". end\n"]).to_string()),
+        _ => all.push("# notes\n".to_string()),
+    }
+    let t = all.concat().into_bytes();
+    if r.below(4) == 0 { damaged(r, t) } else { t }
+}
+
 // Distinct long names that are hard to tell apart: of pieces that the index's hash does not tell apart, or alike but for one byte.
 fn alike(r: &mut Numbers, n: usize) -> Vec<String> {
     let pieces = r.below(2) == 0;

@@ -1,12 +1,11 @@
 -- What a row declares, with the cube lines behind it. Assumes nothing.
 use mathlib.Core.Path.{_≡_, refl, sym, ap, ap₂, _∙_, subst}
-use mathlib.Core.List.{List, [], _∷_, _++_}
+use mathlib.Core.List.{List, [], _∷_, _++_, append-nil}
 use Prim.Native.Nat.{ℕ, _+_, _-_, _≤_, _<_}
 use native.Mathlib.Omega.{arith}
 use lib.ListN.{length, take}
 use Rattle.lists.specs.Lists.{Bytes}
 use Rattle.blif_text.specs.Decls.{cover, Decl, model, inputs, outputs, gate, decls}
-use Rattle.blif_text.specs.Decls as decl
 use Rattle.blif_text.specs.between.PlacedStatements.{namesRun}
 use Rattle.blif_text.specs.between.Walk.{rowsFrom, stmtsFrom, RowsAt, StmtsAt}
 use Rattle.blif_text.specs.between.Blocks.{latchFrom}
@@ -14,8 +13,9 @@ use Rattle.blif_text.specs.declared.Keyword.{Keyword}
 use Rattle.blif_text.specs.declared.Keyword.the-variants as key
 use Rattle.blif_text.proofs.RefusalLaws.{stmts-end}
 use Rattle.blif_declarations.specs.between.Rows.{names, RowIs, LinesAt}
-use Rattle.blif_declarations.specs.between.Declarations.{declaredBy, behindRow, NextIs}
+use Rattle.blif_declarations.specs.between.Declarations.{declAt, PlacesIn, declaredBy, behindRow, NextIs}
 use Rattle.blif_declarations.specs.declared.Declaration.{Declaration}
+use Rattle.blif_declarations.specs.declared.Declaration.the-variants as next
 use Rattle.blif_declarations.proofs.RowStarts.{stmts-behind}
 use Rattle.blif_declarations.proofs.LineWalk.{cube-decls}
 
@@ -42,6 +42,18 @@ module _ {text tokens : List ℕ} {n end k e : ℕ} (l : LinesAt text tokens n e
   -- cube lines "elsewhere .. are not looked at"
   stray : (ds : List Decl) → ds ++ decls (stmtsFrom text tokens n end) ≡ ds ++ decls (stmtsFrom text tokens n e)
   stray ds = ap (λ (x : List Decl). ds ++ x) (sym (l .same))
+
+  -- "`.end` stops naming, building and size counting as `.exdc` does": the walk goes on behind the last row, where nothing is declared
+  stops : {at : ℕ} {keyword : Keyword} → RowIs text tokens n at end keyword → (d : Declaration)
+      → decls (stmtsFrom text tokens n at) ≡ declAt text tokens n d → PlacesIn text tokens n d → NextIs text tokens n at d n
+  stops w d e p =
+      let b = stmts-behind (w .rest) in
+      record {
+        low = omega (arith, w .low, w .rest .rows .high);
+        rest = b;
+        are = e ∙ sym (append-nil (declAt text tokens n d)) ∙ ap (λ (x : List Decl). declAt text tokens n d ++ x) (sym (decls-end b (omega arith)));
+        places = p;
+      }
 
   pub row-declares : {at : ℕ} (keyword : Keyword) → RowIs text tokens n at end keyword
       → NextIs text tokens n at (declaredBy keyword (namesRun at end) k) (behindRow keyword e n)
@@ -86,11 +98,7 @@ module _ {text tokens : List ℕ} {n end k e : ℕ} (l : LinesAt text tokens n e
               short = omega (arith, l .low, l .rest .rows .high);
             };
       }
-  -- "statements after `.end` still count"
-  row-declares {at} key.End w = record { low = moves w; rest = l .rest; are = ap decls (w .starts) ∙ stray (decl.end ∷ []); places = tt }
-  -- "`.exdc` stops naming and building"
-  row-declares {at} key.Exdc w =
-      let b = stmts-behind (w .rest) in
-      record { low = omega (arith, w .low, w .rest .rows .high); rest = b; are = ap decls (w .starts) ∙ sym (decls-end b (omega arith)); places = tt }
+  row-declares {at} key.End w = stops w next.End (ap decls (w .starts)) tt
+  row-declares {at} key.Exdc w = stops w next.None (ap decls (w .starts)) tt
   row-declares {at} key.Unsupported w = absurd (w .starts)
   row-declares {at} key.Cube w = record { low = moves w; rest = l .rest; are = sym (cube-decls w) ∙ stray []; places = tt }

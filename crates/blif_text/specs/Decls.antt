@@ -1,4 +1,4 @@
--- Declarations: the statements before the first `.exdc`, each `.names` with its cube lines (document 01, src/io/blif.rs).
+-- Declarations: the statements up to the first `.end` or `.exdc`, each `.names` with its cube lines (documents 01 and 02, src/io/blif.rs).
 -- Assumes nothing: these are definitions.
 use mathlib.Core.Bool.{Bool}
 use mathlib.Core.List.{List, [], _∷_, flatMap}
@@ -32,11 +32,12 @@ cubes (Stmt.names ns ∷ ss) = []
 cubes (Stmt.latch d ∷ ss) = []
 cubes (Stmt.cube ts ∷ ss) = ts ∷ cubes ss
 
--- "`.exdc` stops naming and building"; cube lines "elsewhere .. are not looked at"; "statements after `.end` still count"
+-- "`.exdc` stops naming and building", and "`.end` stops naming, building and size counting as `.exdc` does"; it is a declaration itself, since
+-- "an `.end` before any `.model` is still 8"; cube lines "elsewhere .. are not looked at"
 unfoldable pub decls : List Stmt → List Decl
 decls [] = []
 decls (Stmt.model ∷ ss) = model ∷ decls ss
-decls (Stmt.end ∷ ss) = end ∷ decls ss
+decls (Stmt.end ∷ ss) = end ∷ []
 decls (Stmt.exdc ∷ ss) = []
 decls (Stmt.inputs ns ∷ ss) = inputs ns ∷ decls ss
 decls (Stmt.outputs ns ∷ ss) = outputs ns ∷ decls ss

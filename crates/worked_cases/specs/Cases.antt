@@ -64,7 +64,7 @@ table =
     -- K9
     ∷ (reads (bytes ".names b a\n1 1\n.names a b\n1 1\n") (number 14) ∷ [])
     -- K10
-    ∷ (reads (bytes ".model m\n.end\n.inputs a\n") (network (netFrom 1 [] [])) ∷ [])
+    ∷ (reads (bytes ".model m\n.end\n.inputs a\n") (network (netFrom 0 [] [])) ∷ [])
     -- K11
     ∷ (reads (bytes ".exdc\n.names\n") (network (netFrom 0 [] [])) ∷ reads (bytes ".exdc\n.names\n.gate\n") (number 5) ∷ [])
     -- K12

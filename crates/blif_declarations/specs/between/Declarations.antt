@@ -70,14 +70,15 @@ declaredBy key.Exdc names lines = next.None
 declaredBy key.Unsupported names lines = next.None
 declaredBy key.Cube names lines = next.None
 
--- where the walk goes on, if the cube lines behind the row end at stop: "`.exdc` stops naming and building"
+-- where the walk goes on, if the cube lines behind the row end at stop and there are n tokens: "`.end` stops naming, building and size counting as
+-- `.exdc` does"
 abbrev pub behindRow : Keyword → ℕ → ℕ → ℕ
 behindRow key.Model stop n = stop
 behindRow key.Inputs stop n = stop
 behindRow key.Outputs stop n = stop
 behindRow key.Latch stop n = stop
 behindRow key.Names stop n = stop
-behindRow key.End stop n = stop
+behindRow key.End stop n = n
 behindRow key.Exdc stop n = n
 behindRow key.Unsupported stop n = stop
 behindRow key.Cube stop n = stop
