@@ -16,4 +16,5 @@ pub mod Accepted
 pub mod ReadNet
 pub mod Refusals
 pub mod WorkingLaws
+pub mod BehindEnd
 pub mod Summary

@@ -2,15 +2,17 @@
 --   built-means      a model that is accepted runs as the gates built for it
 --   read-means       demand 2: a text that is read runs as the network read
 --   reading-refuses  which refusals reading answers
+--   behind-end       what stands behind a model that is ended is not read
 use mathlib.Core.Path.{_≡_}
 use mathlib.Core.Bool.{Bool}
-use mathlib.Core.List.{List}
+use mathlib.Core.List.{List, _++_}
 use mathlib.Core.Logic.{_↔_}
 use Rattle.lists.specs.Lists.{Bytes}
 use Rattle.network.specs.Net.{Net}
 use Rattle.network.specs.Clock.{NetRuns}
 use Rattle.network.specs.Settle.{run}
 use Rattle.blif_meaning.specs.Model.{Model, BlifRuns}
+use Rattle.blif_text.specs.Ended.{Ended, MayFollow}
 use Rattle.network.specs.Clock.{zeroBits}
 use Rattle.network.proofs.Summary.{one-run}
 use Rattle.refusals.specs.Numbers.{InReading}
@@ -24,6 +26,7 @@ use Rattle.blif_reading.proofs.Meaning as meaning
 use Rattle.blif_reading.proofs.Accepted as reading
 use Rattle.blif_reading.proofs.ReadNet.{read-net}
 use Rattle.blif_reading.proofs.Refusals as texts
+use Rattle.blif_reading.proofs.BehindEnd as ended
 
 -- a model that reading accepts, runs as the gates built for it run, and they run as it does: for every list of input
 -- rows the same lists of output rows, by the Berkeley text on one side and by document 01's "A clock" on the other
@@ -44,3 +47,8 @@ read-means text net e rows outs =
 -- "Reading refuses, in order: .. 2 .. 14", and nothing else; 1 is told of the lent cells
 pub reading-refuses : (text : Bytes) (r : Refusal) → readText text ≡ refused r → InReading r
 reading-refuses = texts.reading-refuses
+
+-- "`.end` stops naming, building and size counting as `.exdc` does; later statements must still parse": a text whose model is ended is read,
+-- or refused, as the same text with more lines behind it, if these parse by themselves and both fit
+pub behind-end : (text rest : Bytes) → Ended text → MayFollow text rest → readText (text ++ rest) ≡ readText text
+behind-end = ended.behind-end

@@ -20,3 +20,4 @@ pub mod RowWalk
 pub mod RefusalLaws
 pub mod BlockLaws
 pub mod PlainLatches
+pub mod Appended

@@ -2,4 +2,5 @@ pub mod Lines
 pub mod Keywords
 pub mod Statements
 pub mod Decls
+pub mod Ended
 pub mod between

@@ -1,6 +1,7 @@
 -- K1 to K13, by one computed test over their table, and what the test means. Assumes nothing.
 --   holds-means  a check that holds says that the definitions give what it names
 --   table-holds  each of K1 to K13 does
+--   k10-ended    K10's `.inputs` stands behind a model that is ended
 use mathlib.Core.Path.{_≡_, refl, sym, ap, ap₂, _∙_}
 use mathlib.Core.Bool.{Bool, true, false, _&&_, Bool·beq, false≢true}
 use mathlib.Core.List.{List, [], _∷_, flatMap, headD}
@@ -9,7 +10,7 @@ use native.Mathlib.Omega.{arith}
 use lib.Dec.{eqb, T}
 use lib.ListN.{getD}
 use borrow.Author.Tests.{eqb-true}
-use Rattle.lists.specs.Lists.{same, all, hit}
+use Rattle.lists.specs.Lists.{bytes, same, all, hit}
 use Rattle.lists.proofs.Tests.{and-left, and-right}
 use Rattle.lists.proofs.Same.{same-is}
 use Rattle.refusals.specs.Numbers.{numberOf}
@@ -25,6 +26,7 @@ use Rattle.sort_order.specs.Sorted.{sorted}
 use Rattle.blif_text.specs.Lines.{consFirst, split, dropCR, lines, cut, continues, before, joined, isBlank, nonEmpty, tokens}
 use Rattle.blif_text.specs.Keywords.{keywordOf}
 use Rattle.blif_text.specs.Statements.{modelStmt, latchStmt, stmtOf, parsedLine, parsed, firstBad, stmts}
+use Rattle.blif_text.specs.Ended.{endsLine, lastContinues, stops, Ended, MayFollow}
 use Rattle.blif_text.specs.Decls.{usedNames, cubes, decls, insOf, outsOf, defsOf, ins, outs, defs, coverOut, coverIns, defines, columns, output, isOne, declsOf}
 use Rattle.blif_writing.specs.WrittenModel.{sameNode}
 use Rattle.blif_writing.specs.Text.{spaced, line, textOf}
@@ -176,3 +178,10 @@ computed c = holds c
 pub table-holds : T (all (all holds) table)
 unfolding computed table
 table-holds = tt
+
+-- ---- behind `.end`
+
+-- K10's text is one whose model is ended, and what may stand behind it
+pub k10-ended : Ended (bytes ".model m\n.end\n") × MayFollow (bytes ".model m\n.end\n") (bytes ".inputs a\n")
+unfolding headD same consFirst split dropCR lines cut continues before joined isBlank nonEmpty tokens modelStmt stmtOf keywordOf parsedLine parsed firstBad stmts _orElse_ flatMap endsLine lastContinues stops
+k10-ended = (record { whole = refl; closed = refl; stopped = refl }, record { few = omega arith; plain = refl; parses = refl })

@@ -1,0 +1,53 @@
+-- A text whose model is ended, and what may stand behind it (document 02, CR 3: "Two makers keep a second model and notes after `.end`").
+-- Assumes nothing: these are definitions.
+use mathlib.Core.Path.{_≡_}
+use mathlib.Core.Bool.{Bool, true, false}
+use mathlib.Core.List.{List, [], _∷_, _++_}
+use Prim.Native.Nat.{_≤_}
+use lib.Dec.{eqb, leb}
+use lib.ListN.{length}
+use Rattle.lists.specs.Lists.{Bytes, any}
+use Rattle.refusals.specs.declared.Checked.the-variants.{Fine}
+use Rattle.blif_text.specs.Lines.{maxText, lines, continues}
+use Rattle.blif_text.specs.Statements.{Stmt, parsed, firstBad, stmts}
+
+-- LF ends the last line, if there is one
+unfoldable pub endsLine : Bytes → Bool
+endsLine [] = true
+endsLine (c ∷ []) = eqb 10 c
+endsLine (c ∷ d ∷ s) = endsLine (d ∷ s)
+
+-- the last of these lines continues
+unfoldable pub lastContinues : List Bytes → Bool
+lastContinues [] = false
+lastContinues (l ∷ []) = continues l
+lastContinues (l ∷ m ∷ ls) = lastContinues (m ∷ ls)
+
+-- "`.end` stops naming, building and size counting as `.exdc` does"
+unfoldable pub stops : Stmt → Bool
+stops Stmt.model = false
+stops Stmt.end = true
+stops Stmt.exdc = true
+stops (Stmt.inputs ns) = false
+stops (Stmt.outputs ns) = false
+stops (Stmt.names ns) = false
+stops (Stmt.latch d) = false
+stops (Stmt.cube ts) = false
+
+-- the text is whole lines, and one of their statements stops
+pub record Ended (text : Bytes) : Type 0 where
+  -- its last line is ended
+  pub whole : endsLine text ≡ true
+  -- and does not continue
+  pub closed : lastContinues (lines text) ≡ false
+  -- `.end` or `.exdc` is among its statements
+  pub stopped : any stops (stmts (parsed text)) ≡ true
+
+-- the rest may stand behind the text
+pub record MayFollow (text rest : Bytes) : Type 0 where
+  -- "Text at most 32,768 bytes"
+  pub few : length (text ++ rest) ≤ maxText
+  -- it has no byte of 128 or more
+  pub plain : any (leb 128) rest ≡ false
+  -- "later statements must still parse"
+  pub parses : firstBad (parsed rest) ≡ Fine
