@@ -47,7 +47,7 @@ extern "C" {
 #define VUMNEATH_REFUSED_MISSING_NAME 4        /* .model lacks a name, or .latch has fewer than two */
 #define VUMNEATH_REFUSED_UNSUPPORTED 5         /* a statement that starts with a dot is not supported */
 #define VUMNEATH_REFUSED_SIZE_PASSED 6         /* there are over 256 inputs, 256 outputs, 1,024 gates or 16,384 pins */
-#define VUMNEATH_REFUSED_SECOND_MODEL 7        /* there is a second .model */
+#define VUMNEATH_REFUSED_SECOND_MODEL 7        /* there is a second .model before any .end */
 #define VUMNEATH_REFUSED_END_BEFORE_MODEL 8    /* .end comes before any .model */
 #define VUMNEATH_REFUSED_NAMES_EMPTY 9         /* .names has no names */
 #define VUMNEATH_REFUSED_DEFINED_TWICE 10      /* a name is defined twice */

@@ -267,7 +267,7 @@ class Calls(unittest.TestCase):
             copies += [pickle.loads(pickle.dumps(refusal, protocol)) for protocol in range(pickle.HIGHEST_PROTOCOL + 1)]
             for each in copies:
                 self.assertEqual((type(each), each.args, vars(each), str(each)), (Refusal, refusal.args, vars(refusal), str(refusal)))
-        self.assertEqual(str(Refusal(7)), "refused=7: there is a second .model")
+        self.assertEqual(str(Refusal(7)), "refused=7: there is a second .model before any .end")
         self.assertEqual(repr(Refusal(7)), "Refusal(7)")
 
     def test_refusals_from_other_processes(self):

@@ -26,7 +26,7 @@ import os
 import re
 from typing import Iterable, List, NamedTuple, Optional, Tuple, Union
 
-__version__ = "0.4.0"
+__version__ = "0.5.0"
 
 MAX_TEXT = 32768
 MAX_INPUTS = 256
@@ -45,7 +45,7 @@ _REFUSALS = (
     (4, "MissingName", ".model lacks a name, or .latch has fewer than two"),
     (5, "Unsupported", "a statement that starts with a dot is not supported"),
     (6, "SizePassed", "there are over 256 inputs, 256 outputs, 1,024 gates or 16,384 pins"),
-    (7, "SecondModel", "there is a second .model"),
+    (7, "SecondModel", "there is a second .model before any .end"),
     (8, "EndBeforeModel", ".end comes before any .model"),
     (9, "NamesEmpty", ".names has no names"),
     (10, "DefinedTwice", "a name is defined twice"),

@@ -80,8 +80,11 @@ fn ended() -> Vec<(u32, String)> {
         (6, model() + &gates + ".end\n"),
         (6, model() + &pins + ".end\n"),
         (6, gates + ".end\n"),
-        // 256 before it and one behind it, also of a cover's lines
+        // the most before it and one behind it
         (0, model() + &names(".inputs", "i", 256) + ".end\n.inputs a\n"),
+        (0, model() + ".inputs a\n" + &again(".outputs", "a", 256) + ".end\n.outputs a\n"),
+        (10, model() + &lines(".latch a b", 1024) + ".end\n.latch a b\n"),
+        (0, model() + ".inputs a\n" + &cover(8190, 1) + ".end\n.names z\n"),
         (0, model() + ".names y\n" + &lines("1", 1023) + ".end\n1\n"),
         (6, model() + ".names y\n" + &lines("1", 1024) + ".end\n"),
     ]

@@ -135,9 +135,11 @@ const ENDED: &[(u32, &str)] = &[
     (0, ".model m\n.inputs a\n.outputs a\n.end\n.inputs b\n.outputs b\n.names a b c\n11 1\n.latch b d"),
     (0, ".model m\n.inputs a\n.outputs y\n.names a y\n1 1\n.end\n.model n\n.inputs a b\n.outputs y\n.names a b y\n11 1\n.end"),
     // cube lines behind it join no cover
+    (0, ".model m\n.names y\n.end\n1"),
     (0, ".model m\n.inputs a\n.outputs y\n.names a y\n1 1\n.end\n0 1"),
     (0, ".model m\n.inputs a\n.outputs y\n.names a y\n.end\n1 1"),
     (0, ".model m\n.inputs a\n.names a y\n1 1\n.end\n1 0"),
+    (0, ".model m\n.inputs a\n.names a y\n1 1\n.end\nnotes, in words"),
     (12, ".model m\n.inputs a\n.names a y\n2 1\n.end\n1 1"),
     // it has to parse
     (4, ".model m\n.end\n.model"),
@@ -159,6 +161,7 @@ const ENDED: &[(u32, &str)] = &[
     // the first of `.end` and `.exdc` stops
     (0, ".exdc\n.end"),
     (0, ".model m\n.exdc\n.end\n.inputs a a"),
+    (0, ".model m\n.end\n.names\n.end"),
     (0, ".model m\n.end\n.exdc\n.inputs a a"),
     (0, ".model m\n.inputs a\n.end\n.inputs b\n.end\n.inputs c\n.end"),
     // words behind it and lines that it continues into are no statements

@@ -1,5 +1,5 @@
-// Texts, and what reading must answer for each: Quaigh's `read_blif` of the part up to `.end`, with document 01's numbers and sizes and its
-// And where cover lines with output 0 are joined.
+// Texts, and what reading must answer for each: what Quaigh's `read_blif` answers, for a text with statements behind `.end` to the part up to it,
+// with document 01's numbers and sizes and its And where cover lines with output 0 are joined.
 use crate::{cells, line};
 use crate::compare::{number, Case};
 use crate::generate::{Numbers, Plain};
@@ -61,11 +61,11 @@ fn sourced(text: &[u8]) -> (Wanted, Source) {
     match catch_unwind(|| parses(text)) {
         Err(_) => (Wanted::Refused(4), Source::Panic),
         Ok(false) => (Wanted::Refused(5), Source::Error),
-        Ok(true) => by_model(up_to_end(text)),
+        Ok(true) => by_model(if goes_on_behind_end(text) { up_to_end(text) } else { text }),
     }
 }
 
-// What Quaigh answers for a text that parses, behind 6.
+// What Quaigh answers for a text that parses, after 6.
 fn by_quaigh(text: &[u8]) -> (Answer, bool) {
     if too_large(text) { (Answer::Refused(6), false) } else { built(text) }
 }
@@ -78,7 +78,7 @@ fn in_quaigh(a: Answer) -> String {
     }
 }
 
-// What reading must answer for a text that parses and that ends where it is stopped.
+// What reading must answer for a text that parses, if all of it is the model's.
 fn by_model(text: &[u8]) -> (Wanted, Source) {
     match by_quaigh(text) {
         (Answer::Refused(6), _) => (Wanted::Refused(6), Source::Limit),
@@ -115,8 +115,8 @@ fn with_mistake(text: &[u8], m: EndMistake) -> String {
     }
 }
 
-// Tells the shortest text that tells each mistake at `.end` apart; each must be. Without a mistake, the statements up to `.end` have to give
-// what the text up to it gives.
+// Prints the shortest text that tells each mistake at `.end` apart, where it does not break down; there must be one. Without a mistake, the
+// statements up to `.end` have to give what the text up to it gives.
 fn tell_end_mistakes(texts: &[Text]) {
     let few: Vec<&Vec<u8>> = texts.iter().map(|t| &t.0).filter(|t| t.len() <= MAX_TEXT && t.is_ascii()).collect();
     for t in &few {
@@ -125,7 +125,8 @@ fn tell_end_mistakes(texts: &[Text]) {
         assert!(!parsed || right == in_quaigh(by_quaigh(up_to_end(t)).0), "{:?}: the part up to `.end`", t.escape_ascii().to_string());
     }
     for m in END_MISTAKES {
-        let apart = few.iter().filter(|t| with_mistake(t, m) != with_mistake(t, EndMistake::Nothing)).min_by_key(|t| t.len());
+        let told = |t: &&&Vec<u8>| ![with_mistake(t, EndMistake::Nothing), shown(&Wanted::Refused(0))].contains(&with_mistake(t, m));
+        let apart = few.iter().filter(told).min_by_key(|t| t.len());
         let apart = apart.unwrap_or_else(|| panic!("the list does not tell {m:?} apart"));
         let shown = apart.escape_ascii().to_string();
         eprintln!("{m:?} told apart by {} bytes: {}", apart.len(), &shown[..shown.len().min(60)]);

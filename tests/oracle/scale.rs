@@ -74,7 +74,8 @@ pub fn texts(seed: u64, count: usize) -> impl Iterator<Item = Text> {
     let mut r = Numbers(seed);
     let (first, d) = (by_hand(), depth(count));
     let least = first.len() + short(d).count();
-    first.into_iter().chain(short(d)).chain((0..).map(move |k| if k % 9 == 8 { tricky::ended(&mut r, k / 9) } else { text(&mut r, k - k / 9) })).take(count.max(least)).map(Text)
+    let seeded = (0..).map(move |k| if k % 9 == 8 { tricky::ended(&mut r, k / 9) } else { text(&mut r, k - k / 9) });
+    first.into_iter().chain(short(d)).chain(seeded).take(count.max(least)).map(Text)
 }
 
 // So many networks, or all by hand and the smallest: by hand, every one of a single gate, and the others from the seed.

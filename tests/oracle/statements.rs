@@ -44,7 +44,7 @@ pub fn parses(text: &[u8]) -> bool {
     read_statements(text).is_ok()
 }
 
-// Whether one of the sizes is passed, counted from the statements before the first `.exdc`.
+// Whether one of the sizes is passed by these statements, which end where `.end` stops them, up to the first `.exdc`.
 fn over_sizes(found: &[Statement]) -> bool {
     let (mut inputs, mut outputs, mut gates, mut pins) = (0, 0, 0, 0);
     for (i, s) in found.iter().enumerate() {
@@ -107,11 +107,15 @@ pub fn up_to_end(text: &[u8]) -> &[u8] {
     for line in text.split_inclusive(|b| *b == b'\n') {
         at += line.len();
         let named = line.windows(4).any(|w| w == b".end");
-        if named && matches!(catch_unwind(|| read_statements(&text[..at])), Ok(Ok(found)) if ended(&found)) {
+        let Some(Ok(Ok(found))) = named.then(|| catch_unwind(|| read_statements(&text[..at]))) else { continue };
+        if ended(&found) {
+            return &text[..at];
+        }
+        if found.iter().any(|s| matches!(s, Statement::Exdc)) {
             break;
         }
     }
-    &text[..at]
+    text
 }
 
 // Whether statements stand behind the `.end` that stops a text whose statements are all supported.
@@ -124,10 +128,10 @@ pub fn goes_on_behind_end(text: &[u8]) -> bool {
 #[derive(Clone, Copy, Debug, PartialEq)]
 pub enum EndMistake {
     Nothing,
-    GoesOn,             // nothing stops
+    GoesOn,             // it does not stop
     StopsParsing,       // 4 and 5 are not looked for behind it
     StopsNamesOnly,     // what stands behind it is built, by the names before it
-    StopsBuildingOnly,  // 7 to 10 are looked for behind it
+    StopsBuildingOnly,  // names are defined behind it, and 7 to 10 looked for
     CountsOn,           // sizes are counted on
     CountsOnWhereEight, // sizes are counted on behind an `.end` that is refused
     EightLost,          // it may come before any `.model`

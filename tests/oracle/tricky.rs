@@ -160,7 +160,8 @@ fn whole(r: &mut Numbers, k: usize) -> Vec<u8> {
     all.concat().into_bytes()
 }
 
-// A model with more behind its `.end`: another model, the same one again, cube lines, statements over the sizes, or one that does not parse.
+// A model with more behind its `.end`: the same again, another model, cube lines, names over the sizes, a statement that parses or one that does
+// not, notes; now and then with `.exdc` before it, and a quarter damaged.
 pub fn ended(r: &mut Numbers, k: usize) -> Vec<u8> {
     let s = shape(r, k);
     let names = distinct(r, s.inputs + s.gates + 1);
@@ -170,6 +171,10 @@ pub fn ended(r: &mut Numbers, k: usize) -> Vec<u8> {
     all.insert(before, named.clone());
     let end = if r.below(6) > 0 { all.len() } else { r.below(all.len() + 1) };
     all.insert(end, statement(r, &[".end".to_string()]));
+    if r.below(20) == 0 {
+        let at = r.below(end + 1);
+        all.insert(at, statement(r, &[".exdc".to_string()]));
+    }
     match r.below(7) {
         0 => all.extend(all.clone()),
         1 => {
@@ -185,7 +190,7 @@ pub fn ended(r: &mut Numbers, k: usize) -> Vec<u8> {
         3 => all.push(pick(r, &[".inputs", ".outputs"]).to_string() + &" a".repeat(257) + "\n"),
         4 => all.push(pick(r, &[".names\n", ".inputs q q\n", ".outputs q w\n", ".latch q w\n", ".end\n", ".exdc\n.names\n"]).to_string()),
         5 => all.push(pick(r, &[".model\n", ".latch q\n", ".gate\n", ".endd\n", ". end\n"]).to_string()),
-        _ => all.push("# notes\n".to_string()),
+        _ => all.push(pick(r, &["# notes\n", "notes, in words\n", "see .names\n"]).to_string()),
     }
     let t = all.concat().into_bytes();
     if r.below(4) == 0 { damaged(r, t) } else { t }

@@ -40,7 +40,7 @@ refusals! {
     MissingName = 4, ".model lacks a name, or .latch has fewer than two";
     Unsupported = 5, "a statement that starts with a dot is not supported";
     SizePassed = 6, "there are over 256 inputs, 256 outputs, 1,024 gates or 16,384 pins";
-    SecondModel = 7, "there is a second .model";
+    SecondModel = 7, "there is a second .model before any .end";
     EndBeforeModel = 8, ".end comes before any .model";
     NamesEmpty = 9, ".names has no names";
     DefinedTwice = 10, "a name is defined twice";

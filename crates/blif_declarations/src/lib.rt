@@ -33,7 +33,7 @@ pub enum Declaration {
     None,
 }
 
-// A declaration, and the place behind it.
+// A declaration, and the place where the walk goes on.
 pub struct Next {
     pub declaration: Declaration,
     pub at: usize,
@@ -94,7 +94,8 @@ fn behind_row(keyword: Keyword, stop: usize, n: usize) -> usize
     }
 }
 
-// What the row at a place declares, and the place behind it and the cube lines that follow: a cover's are counted, others passed over.
+// What the row at a place declares, and the place behind it and the cube lines that follow: a cover's are counted, others passed over. Behind
+// `.end` and `.exdc` all is passed over.
 pub fn next_declaration(text: &[u8], tokens: &[u32], at: usize) -> Next
     requires { ⌜ StmtsAt (now text) (now tokens) (length (now tokens)) at × (at < length (now tokens)) ⌝ }
     ensures { λ r. ⌜ NextIs (now (text .entry)) (now (tokens .entry)) (length (now (tokens .entry))) at (r .declaration) (r .at) ⌝ }

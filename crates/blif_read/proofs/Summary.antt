@@ -1,6 +1,7 @@
 -- What `read_blif` answers, as a reviewer would read it. Assumes nothing.
 use mathlib.Core.Path.{_≡_, ap, _∙_}
 use mathlib.Core.Bool.{Bool, true, false}
+use mathlib.Core.List.{_++_}
 use native.Mathlib.Omega.{arith}
 use Rattle.lists.specs.Lists.{if_then_else_, Bytes}
 use Rattle.refusals.specs.Numbers.{InReading}
@@ -8,6 +9,7 @@ use Rattle.refusals.specs.declared.Refusal.{Refusal}
 use Rattle.refusals.specs.declared.Refusal.the-variants as refusal
 use Rattle.network.specs.Net.{Net}
 use Rattle.network.specs.Cells.{countsOf}
+use Rattle.blif_text.specs.Ended.{Ended, MayFollow}
 use Rattle.blif_reading.specs.Read.{Result, read, refused, readText}
 use Rattle.blif_reading.proofs.Summary as texts
 use Rattle.blif_read.specs.Into.{Lengths, enough, ReadOutcome, filled, answered, readInto}
@@ -33,3 +35,8 @@ reading-refuses text n r = go (enough n)
     go : (b : Bool) → (if b then readText text else refused refusal.TooFewCells) ≡ refused r → InReading r
     go true e = texts.reading-refuses text r e
     go false e = let q : r ≡ refusal.TooFewCells = cc in rw q (record { low = omega arith; high = omega arith })
+
+-- what may stand behind `.end` or `.exdc` changes neither the answer nor any cell
+pub behind-end : (text rest : Bytes) (n : Lengths) → Ended text → MayFollow text rest → readInto (text ++ rest) n ≡ readInto text n
+unfolding readInto
+behind-end text rest n e f = ap (λ (x : Result). filled (if enough n then x else refused refusal.TooFewCells) n) (texts.behind-end text rest e f)

@@ -2,21 +2,28 @@
 --   built-means      a model that is accepted runs as the gates built for it
 --   read-means       demand 2: a text that is read runs as the network read
 --   reading-refuses  which refusals reading answers
---   behind-end       what stands behind a model that is ended is not read
+--   behind-end       what stands behind `.end` or `.exdc` is not read
+--   behind-end-refused  but has to parse
 use mathlib.Core.Path.{_≡_}
-use mathlib.Core.Bool.{Bool}
+use mathlib.Core.Bool.{Bool, false}
 use mathlib.Core.List.{List, _++_}
 use mathlib.Core.Logic.{_↔_}
-use Rattle.lists.specs.Lists.{Bytes}
+use Prim.Native.Nat.{_≤_}
+use lib.Dec.{leb}
+use lib.ListN.{length}
+use Rattle.lists.specs.Lists.{Bytes, any}
 use Rattle.network.specs.Net.{Net}
 use Rattle.network.specs.Clock.{NetRuns}
 use Rattle.network.specs.Settle.{run}
 use Rattle.blif_meaning.specs.Model.{Model, BlifRuns}
+use Rattle.blif_text.specs.Lines.{maxText}
+use Rattle.blif_text.specs.Statements.{parsed, firstBad}
 use Rattle.blif_text.specs.Ended.{Ended, MayFollow}
 use Rattle.network.specs.Clock.{zeroBits}
 use Rattle.network.proofs.Summary.{one-run}
 use Rattle.refusals.specs.Numbers.{InReading}
 use Rattle.refusals.specs.declared.Refusal.{Refusal}
+use Rattle.refusals.specs.declared.Checked.the-variants.{Fine, Refused}
 use Rattle.blif_reading.specs.TextModel.{modelOfText}
 use Rattle.blif_reading.specs.Lookup.{lookup}
 use Rattle.blif_reading.specs.Build.{build}
@@ -48,7 +55,13 @@ read-means text net e rows outs =
 pub reading-refuses : (text : Bytes) (r : Refusal) → readText text ≡ refused r → InReading r
 reading-refuses = texts.reading-refuses
 
--- "`.end` stops naming, building and size counting as `.exdc` does; later statements must still parse": a text whose model is ended is read,
--- or refused, as the same text with more lines behind it, if these parse by themselves and both fit
+-- "`.end` stops naming, building and size counting as `.exdc` does": a text that one of them ends is read, or refused, as the same text with
+-- more behind it, if that parses by itself and both fit
 pub behind-end : (text rest : Bytes) → Ended text → MayFollow text rest → readText (text ++ rest) ≡ readText text
 behind-end = ended.behind-end
+
+-- "later statements must still parse": the first that does not refuses the text, whatever comes before it, but for 2, 3 and the refusals of
+-- statements before it
+pub behind-end-refused : (text rest : Bytes) → Ended text → length (text ++ rest) ≤ maxText → any (leb 128) (text ++ rest) ≡ false
+    → firstBad (parsed text) ≡ Fine → {r : Refusal} → firstBad (parsed rest) ≡ Refused r → readText (text ++ rest) ≡ refused r
+behind-end-refused text rest e few plain good bad = ended.behind-end-refused text rest e few plain good bad

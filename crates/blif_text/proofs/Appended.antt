@@ -11,10 +11,8 @@ use Rattle.lists.specs.Lists.{if_then_else_, Bytes, any}
 use Rattle.lists.proofs.Tests.{by-test}
 use Rattle.lists.proofs.Places.{flatMap-append}
 use Rattle.refusals.specs.Order.{_orElse_}
-use Rattle.refusals.specs.declared.Checked.{Checked}
-use Rattle.refusals.specs.declared.Checked.the-variants.{Fine}
 use Rattle.blif_text.specs.Lines.{consFirst, split, dropCR, lines, cut, continues, before, joined, tokens}
-use Rattle.blif_text.specs.Statements.{Stmt, Parsed, ok, bad, refusalOf, parsedLine, parsed, stmts, firstBad}
+use Rattle.blif_text.specs.Statements.{Stmt, Parsed, ok, bad, parsedLine, parsed, stmts, firstBad}
 use Rattle.blif_text.specs.Decls.{latch, cover, Decl, model, inputs, outputs, gate, cubes, decls}
 use Rattle.blif_text.specs.Ended.{endsLine, lastContinues, stops}
 
@@ -104,11 +102,12 @@ stmts-append [] qs = refl
 stmts-append (ok s ∷ ps) qs = ap (λ (x : List Stmt). s ∷ x) (stmts-append ps qs)
 stmts-append (bad r ∷ ps) qs = stmts-append ps qs
 
--- where the others are fine, only the first ones may be bad
-pub bad-append : (ps qs : List Parsed) → firstBad qs ≡ Fine → firstBad (ps ++ qs) ≡ firstBad ps
-unfolding firstBad
-bad-append [] qs e = e
-bad-append (p ∷ ps) qs e = ap (λ (x : Checked). refusalOf p orElse x) (bad-append ps qs e)
+-- the first refusal of both is that of the first ones, else that of the others
+pub bad-append : (ps qs : List Parsed) → firstBad (ps ++ qs) ≡ (firstBad ps orElse firstBad qs)
+unfolding firstBad _orElse_
+bad-append [] qs = refl
+bad-append (ok s ∷ ps) qs = bad-append ps qs
+bad-append (bad r ∷ ps) qs = refl
 
 -- ---- declarations
 

@@ -101,7 +101,9 @@ pub lines-ascii : (ls : List Bytes) → Every Single ls → any (leb 128) (ended
 unfolding flatMap
 lines-ascii [] every-nil = refl
 lines-ascii (l ∷ ls) (every-cons h hs) =
-    any-append (leb 128) (l ++ (10 ∷ [])) (ended ls) (any-append (leb 128) l (10 ∷ []) (every-no (leb 128) (λ c u. lt-leb 128 c (u .1)) (h .0)) refl) (lines-ascii ls hs)
+    any-append (leb 128) (l ++ (10 ∷ [])) (ended ls) (lines-ascii ls hs)
+    ∙ any-append (leb 128) l (10 ∷ []) refl
+    ∙ every-no (leb 128) (λ c u. lt-leb 128 c (u .1)) (h .0)
 
 -- ---- words
 

@@ -32,8 +32,8 @@ cubes (Stmt.names ns ∷ ss) = []
 cubes (Stmt.latch d ∷ ss) = []
 cubes (Stmt.cube ts ∷ ss) = ts ∷ cubes ss
 
--- "`.exdc` stops naming and building", and "`.end` stops naming, building and size counting as `.exdc` does"; it is a declaration itself, since
--- "an `.end` before any `.model` is still 8"; cube lines "elsewhere .. are not looked at"
+-- "`.exdc` stops naming and building", and "`.end` stops naming, building and size counting as `.exdc` does"; `.end` is a declaration
+-- itself, since "an `.end` before any `.model` is still 8"; cube lines "elsewhere .. are not looked at"
 unfoldable pub decls : List Stmt → List Decl
 decls [] = []
 decls (Stmt.model ∷ ss) = model ∷ decls ss

@@ -1,5 +1,5 @@
--- A text whose model is ended, and what may stand behind it (document 02, CR 3: "Two makers keep a second model and notes after `.end`").
--- Assumes nothing: these are definitions.
+-- A text that `.end` or `.exdc` ends, and what may stand behind it (document 02, CR 3: "Two makers keep a second model and notes after
+-- `.end`"). Assumes nothing: these are definitions.
 use mathlib.Core.Path.{_≡_}
 use mathlib.Core.Bool.{Bool, true, false}
 use mathlib.Core.List.{List, [], _∷_, _++_}
@@ -34,13 +34,13 @@ stops (Stmt.names ns) = false
 stops (Stmt.latch d) = false
 stops (Stmt.cube ts) = false
 
--- the text is whole lines, and one of their statements stops
+-- the text is whole lines, and `.end` or `.exdc` is among their statements
 pub record Ended (text : Bytes) : Type 0 where
   -- its last line is ended
   pub whole : endsLine text ≡ true
   -- and does not continue
   pub closed : lastContinues (lines text) ≡ false
-  -- `.end` or `.exdc` is among its statements
+  -- one of its statements stops
   pub stopped : any stops (stmts (parsed text)) ≡ true
 
 -- the rest may stand behind the text

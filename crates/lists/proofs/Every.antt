@@ -1,12 +1,12 @@
 -- A property of every element of a list. Assumes nothing.
-use mathlib.Core.Path.{_≡_, refl, ap₂, subst}
+use mathlib.Core.Path.{_≡_, refl, ap, ap₂, subst}
 use mathlib.Core.Bool.{Bool, true, false, _||_}
 use mathlib.Core.List.{List, [], _∷_, _++_, map}
 use mathlib.Core.Option.{some, Option·none-ne-some}
 use Prim.Native.Nat.{ℕ, zero, suc}
 use lib.ListN.{getElem?}
 use Rattle.lists.specs.Lists.{all, any}
-use Rattle.lists.proofs.Tests.{and-left, and-right, or-left, or-right}
+use Rattle.lists.proofs.Tests.{and-left, and-right}
 
 pub data Every {A : Type 0} (P : A → Type 0) : List A → Type 0 where
   every-nil : Every P []
@@ -41,7 +41,7 @@ module _ {A : Type 0} {P : A → Type 0} where
   every-no p f every-nil = refl
   every-no p f (every-cons {x = x} h hs) = ap₂ (λ (a b : Bool). a || b) (f x h) (every-no p f hs)
 
--- a test that no element of two lists passes, none of their join does
-pub any-append : {A : Type 0} (p : A → Bool) (l k : List A) → any p l ≡ false → any p k ≡ false → any p (l ++ k) ≡ false
-any-append p [] k e f = f
-any-append p (c ∷ l) k e f = ap₂ (λ (a b : Bool). a || b) (or-left (p c) (any p l) e) (any-append p l k (or-right (p c) (any p l) e) f)
+-- where no element of the second list passes the test, those of the first decide
+pub any-append : {A : Type 0} (p : A → Bool) (l k : List A) → any p k ≡ false → any p (l ++ k) ≡ any p l
+any-append p [] k f = f
+any-append p (c ∷ l) k f = ap (λ (b : Bool). p c || b) (any-append p l k f)

@@ -175,7 +175,7 @@ module _ (s : Sheet) (is : IsSheet s) where
   no-lf-lines =
       let letters = and-right (leb 1 (length (s .part)) && leb (length (s .part)) 16) (all isLetterOrDigit (s .part)) (is .part) in
       let number = not-true (any (eqb 10) (decimal (length (s .rows)) [])) (range-all (λ (n : ℕ). not (any (eqb 10) (decimal n []))) 0 129 digits-no-lf (length (s .rows)) (omega arith) (omega (arith, rows-few))) in
-      rw (any-append (eqb 10) (bytes "part=") (s .part) refl (letters-no-lf (s .part) letters), any-append (eqb 10) (bytes "rows=") (decimal (length (s .rows)) []) refl number) (is .rows)
+      rw (any-append (eqb 10) (bytes "part=") (s .part) (letters-no-lf (s .part) letters), any-append (eqb 10) (bytes "rows=") (decimal (length (s .rows)) []) number) (is .rows)
 
   lines-are : split (eqb 10) (sheetText s) ≡ partLine s ∷ rowsLine s ∷ s .rows
   lines-are = ap (split (eqb 10)) (sym (lines-of s)) ∙ ended-again (partLine s ∷ rowsLine s ∷ s .rows) no-lf-lines

@@ -55,3 +55,9 @@ pub orElse-assoc : (a b c : Checked) → ((a orElse b) orElse c) ≡ (a orElse (
 unfolding _orElse_
 orElse-assoc Fine b c = refl
 orElse-assoc (Refused r) b c = refl
+
+-- nothing behind it changes a refusal, nor where there is none
+pub orElse-fine : (a : Checked) → (a orElse Fine) ≡ a
+unfolding _orElse_
+orElse-fine Fine = refl
+orElse-fine (Refused r) = refl

@@ -17,7 +17,7 @@ pub enum Refusal {
     Unsupported,
     // there are over 256 inputs, 256 outputs, 1,024 gates or 16,384 pins
     SizePassed,
-    // there is a second `.model`
+    // there is a second `.model` before any `.end`
     SecondModel,
     // `.end` comes before any `.model`
     EndBeforeModel,

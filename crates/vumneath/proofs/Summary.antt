@@ -2,7 +2,7 @@
 -- cell and byte (`ReadHanded`, `WriteHanded`, `RunHanded`, specs/Handed). Assumes nothing.
 --   refused-reading, refused-writing, refused-running  `refused` is 0 exactly on success, else a number of 1 to 14, of 20 to 22, of 20 and 29 to 31
 --   read-outputs    the network in the cells has exactly the outputs that the text has, by the Berkeley text
---   read-behind-end what stands behind a model that is ended changes nothing that is handed over
+--   read-behind-end what stands behind `.end` or `.exdc` changes nothing that is handed over
 --   text-written    the bytes up to the length are the network's text
 --   rows-written        the rows written are the only ones that document 01's clock allows
 --   read-runs       a network that one call read is never refused by 20, 29 or 30 when the other runs it
@@ -19,11 +19,10 @@ use mathlib.Core.Logic.{_↔_, _⊎_, inl, inr, ⊎-elim}
 use Prim.Native.Nat.{ℕ, _≤_}
 use native.Mathlib.Omega.{arith}
 use lib.ListN.{length, take, length-replicate}
-use Rattle.lists.specs.Lists.{if_then_else_, Bytes, zeros, overwrite}
+use Rattle.lists.specs.Lists.{Bytes, zeros, overwrite}
 use Rattle.lists.proofs.Over.{take-overwrite}
 use Rattle.refusals.specs.Numbers.{numberOf, InReading, InWriting}
 use Rattle.refusals.specs.declared.Refusal.{Refusal}
-use Rattle.refusals.specs.declared.Refusal.the-variants as refusal
 use Rattle.network.specs.Net.{Net}
 use Rattle.network.specs.Cells.{Lent, lent, netOf, isNetwork, Words, countsOf}
 use Rattle.network.specs.Clock.{NetRuns}
@@ -32,11 +31,11 @@ use Rattle.blif_meaning.specs.Model.{BlifRuns}
 use Rattle.blif_reading.specs.TextModel.{modelOfText}
 use Rattle.blif_writing.specs.Text.{textOf}
 use Rattle.blif_text.specs.Ended.{Ended, MayFollow}
-use Rattle.blif_reading.specs.Read.{Result, read, refused, readText}
+use Rattle.blif_reading.specs.Read.{read, refused, readText}
 use Rattle.round_trip.specs.Conditions.{PlainNet, WrittenFrom}
-use Rattle.blif_read.specs.Into.{Lengths, enough, ReadOutcome, filled, answered, readInto}
+use Rattle.blif_read.specs.Into.{Lengths, enough, ReadOutcome, answered, readInto}
 use Rattle.blif_read.specs.declared.ReadAnswer.the-variants as answer-read
-use Rattle.blif_read.proofs.Summary.{read-counts}
+use Rattle.blif_read.proofs.Summary.{read-counts, behind-end}
 use Rattle.blif_read.proofs.CellsRead.{read-layout, read-decodes}
 use Rattle.blif_write.specs.Into.{writeInto, WriteOutcome}
 use Rattle.blif_write.specs.declared.WriteAnswer.the-variants as written
@@ -93,13 +92,12 @@ module _ (text : Bytes) (n : Lengths) {r : VumneathNetwork} {gs ps os wgs wps : 
         subst (λ (x : Net). (BlifRuns (modelOfText text) rows outs ↔ NetRuns x rows outs) × (BlifRuns (modelOfText text) rows outs ↔ (outs ≡ run x rows))) (sym net-is)
         (reading.read-means text (was .0) (was .2) rows outs)
 
--- what may stand behind a text whose model is ended, another model or notes, changes neither the struct nor any cell
+-- what may stand behind `.end` or `.exdc`, another model or notes, changes neither the struct nor any cell that is handed over
 pub read-behind-end : (text rest : Bytes) → Ended text → MayFollow text rest → (n : Lengths) {r : VumneathNetwork} {gs ps os wgs wps : List ℕ}
-    → ReadHanded (readInto (text ++ rest) n) r gs ps os wgs wps → ReadHanded (readInto text n) r gs ps os wgs wps
-unfolding readInto
-read-behind-end text rest e f n {r} {gs} {ps} {os} {wgs} {wps} h =
-    subst (λ (o : ReadOutcome). ReadHanded o r gs ps os wgs wps)
-    (ap (λ (x : Result). filled (if enough n then x else refused refusal.TooFewCells) n) (reading.behind-end text rest e f)) h
+    → ReadHanded (readInto (text ++ rest) n) r gs ps os wgs wps ↔ ReadHanded (readInto text n) r gs ps os wgs wps
+read-behind-end text rest e f n {r} {gs} {ps} {os} {wgs} {wps} =
+    let q = behind-end text rest n e f in
+    (subst (λ (o : ReadOutcome). ReadHanded o r gs ps os wgs wps) q, subst (λ (o : ReadOutcome). ReadHanded o r gs ps os wgs wps) (sym q))
 
 -- ---- writing
 

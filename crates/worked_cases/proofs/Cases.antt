@@ -1,7 +1,7 @@
 -- K1 to K13, by one computed test over their table, and what the test means. Assumes nothing.
 --   holds-means  a check that holds says that the definitions give what it names
 --   table-holds  each of K1 to K13 does
---   k10-ended    K10's `.inputs` stands behind a model that is ended
+--   k10-ended    K10's `.inputs` stands behind a text that is ended
 use mathlib.Core.Path.{_≡_, refl, sym, ap, ap₂, _∙_}
 use mathlib.Core.Bool.{Bool, true, false, _&&_, Bool·beq, false≢true}
 use mathlib.Core.List.{List, [], _∷_, flatMap, headD}
@@ -181,7 +181,7 @@ table-holds = tt
 
 -- ---- behind `.end`
 
--- K10's text is one whose model is ended, and what may stand behind it
+-- K10's text is one that `.end` ends, and what may stand behind it
 pub k10-ended : Ended (bytes ".model m\n.end\n") × MayFollow (bytes ".model m\n.end\n") (bytes ".inputs a\n")
 unfolding headD same consFirst split dropCR lines cut continues before joined isBlank nonEmpty tokens modelStmt stmtOf keywordOf parsedLine parsed firstBad stmts _orElse_ flatMap endsLine lastContinues stops
 k10-ended = (record { whole = refl; closed = refl; stopped = refl }, record { few = omega arith; plain = refl; parses = refl })

@@ -1,5 +1,5 @@
--- Sizes counted declaration by declaration (document 01: "Sizes are counted from the statements before the first `.exdc`"). Assumes nothing:
--- these are definitions.
+-- Sizes counted declaration by declaration, so from the statements up to the first `.end` or `.exdc` (documents 01 and 02). Assumes nothing: these
+-- are definitions.
 use mathlib.Core.Path.{_≡_}
 use mathlib.Core.List.{List}
 use Prim.Native.Nat.{ℕ, _+_, _-_, _*_, _≤_}
