@@ -173,6 +173,12 @@ class Calls(unittest.TestCase):
             self.assertNotEqual(read_guarded(GOOD[:i]), "harmed")
             self.assertEqual(read_guarded(GOOD[:i] + b"\x80" + GOOD[i + 1 :]), "refused=3\n")
 
+    def test_behind_end(self):
+        for rest in b".model n\n.inputs a\n", b"notes, in words\n", b".names\n2 2\n":
+            self.assertEqual(read_guarded(GOOD + rest), read_guarded(GOOD))
+        for rest, refused in (b".gate", 5), (b".model", 4), (b"\x80", 3):
+            self.assertEqual(read_guarded(GOOD + rest), f"refused={refused}\n")
+
     def test_short(self):
         for i in range(5):
             self.assertEqual(read_guarded(GOOD, [n - (kind == i) for kind, n in enumerate(ENOUGH)]), "refused=1\n")

@@ -25,6 +25,15 @@ fn every_beginning_and_every_changed_byte() {
 }
 
 #[test]
+fn behind_end() {
+    let with = |rest: &[u8]| Network::read(&[GOOD, rest].concat());
+    for rest in [&b".model n\n.inputs a\n"[..], b"notes, in words\n", b".names\n2 2\n"] {
+        assert_eq!(with(rest), Network::read(GOOD));
+    }
+    assert_eq!([&b".gate"[..], b".model", b"\x80"].map(|rest| number(with(rest))), [5, 4, 3]);
+}
+
+#[test]
 fn sizes() {
     let many = |before: &str, each: &str, count| number(Network::read((before.to_string() + &each.repeat(count)).as_bytes()));
     assert_eq!((many("", " ", 32768), many("", " ", 32769)), (0, 2));

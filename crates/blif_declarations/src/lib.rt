@@ -56,11 +56,13 @@ fn cube_lines(text: &[u8], tokens: &[u32], at: usize) -> Lines
     Lines { count, end: i }
 }
 
-// What the row with this keyword declares, with its names and so many cube lines behind it.
-fn declared_by(keyword: Keyword, names: Run, lines: usize) -> Declaration
-    ensures { λ r. ⌜ r ≡ declaredBy keyword names lines ⌝ }
+// What the row with this keyword declares, with its names and the cube lines behind it, and the place where the walk goes on: behind them, or behind
+// all n tokens.
+fn declared_by(keyword: Keyword, names: Run, lines: Lines, n: usize) -> Next
+    ensures { λ r. ⌜ (r .declaration ≡ declaredBy keyword names (lines .count)) × (r .at ≡ behindRow keyword (lines .end) n) ⌝ }
 {
-    match keyword {
+    let mut at = lines.end;
+    let declaration = match keyword {
         Keyword::Model => Declaration::Model,
         Keyword::Inputs => Declaration::Inputs(names),
         Keyword::Outputs => Declaration::Outputs(names),
@@ -68,30 +70,20 @@ fn declared_by(keyword: Keyword, names: Run, lines: usize) -> Declaration
         Keyword::Names => Declaration::Cover(Block {
             first: names.first,
             names: names.count,
-            lines,
+            lines: lines.count,
         }),
-        Keyword::End => Declaration::End,
-        Keyword::Exdc => Declaration::None,
+        Keyword::End => {
+            at = n;
+            Declaration::End
+        }
+        Keyword::Exdc => {
+            at = n;
+            Declaration::None
+        }
         Keyword::Unsupported => Declaration::None,
         Keyword::Cube => Declaration::None,
-    }
-}
-
-// Where the walk goes on behind a row with this keyword: where the cube lines that follow it stop, or behind all n tokens.
-fn behind_row(keyword: Keyword, stop: usize, n: usize) -> usize
-    ensures { λ r. ⌜ r ≡ behindRow keyword stop n ⌝ }
-{
-    match keyword {
-        Keyword::Model => stop,
-        Keyword::Inputs => stop,
-        Keyword::Outputs => stop,
-        Keyword::Latch => stop,
-        Keyword::Names => stop,
-        Keyword::End => n,
-        Keyword::Exdc => n,
-        Keyword::Unsupported => stop,
-        Keyword::Cube => stop,
-    }
+    };
+    Next { declaration, at }
 }
 
 // What the row at a place declares, and the place behind it and the cube lines that follow: a cover's are counted, others passed over. Behind
@@ -103,10 +95,5 @@ pub fn next_declaration(text: &[u8], tokens: &[u32], at: usize) -> Next
     let keyword = keyword_of(token(text, tokens[at]));
     let end = row_end(tokens, at);
     let lines = cube_lines(text, tokens, end);
-    let declaration = declared_by(keyword, names_run(at, end), lines.count);
-    let behind = behind_row(keyword, lines.end, tokens.len());
-    Next {
-        declaration,
-        at: behind,
-    }
+    declared_by(keyword, names_run(at, end), lines, tokens.len())
 }

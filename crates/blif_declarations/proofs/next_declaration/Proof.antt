@@ -20,15 +20,14 @@ cube-lines-requires c κs =
 
 returns : tie.Need-returns
 returns c =
-    let s = c .before .before .before .before .before .before .before .before .before .before in
-    let first = c .before .before .before .before .before .keyword-of .ensures ∙ ap keywordOf (c .before .before .before .before .before .before .token .ensures) in
-    let row = row-is (s .pre .0) (s .pre .1) (c .before .before .before .before .row-end .ensures) first in
-    rw (c .before .declared-by .ensures, c .behind-row .ensures, c .before .before .names-run .ensures)
-    (row-declares (c .before .before .before .cube-lines .ensures) _ row)
+    let s = c .before .before .before .before .before .before .before .before .before in
+    let first = c .before .before .before .before .keyword-of .ensures ∙ ap keywordOf (c .before .before .before .before .before .token .ensures) in
+    let row = row-is (s .pre .0) (s .pre .1) (c .before .before .before .row-end .ensures) first in
+    rw (c .declared-by .ensures .0, c .declared-by .ensures .1, c .before .names-run .ensures) (row-declares (c .before .before .cube-lines .ensures) _ row)
 
 pub next-declaration-spec : {M : Type 1} → statement M
 next-declaration-spec =
     tie.close
     (tie.spec
     (λ c. search needs) (λ c. search needs) token-requires (λ c κs. search needs) (λ c κs. search needs)
-    cube-lines-requires (λ c κs. search needs) (λ c κs. search needs) (λ c κs. search needs) returns)
+    cube-lines-requires (λ c κs. search needs) (λ c κs. search needs) returns)
