@@ -3,18 +3,23 @@
 use mathlib.Core.Path.{_≡_, refl, sym, ap, ap₂, _∙_, subst}
 use mathlib.Core.Bool.{Bool, true, false, _&&_, true≢false}
 use mathlib.Core.List.{List, [], _∷_, _++_, map, flatMap, headD, map-append}
-use Prim.Native.Nat.{ℕ, _-_}
+use Prim.Native.Nat.{ℕ, suc, _-_}
+use native.Mathlib.Omega.{arith}
 use lib.Dec.{eqb}
-use lib.ListN.{length, take}
+use lib.ListN.{length, getD, take}
 use borrow.Author.Tests.{eqb-true}
 use Rattle.lists.specs.Lists.{if_then_else_, Bytes, any}
 use Rattle.lists.proofs.Tests.{by-test}
 use Rattle.lists.proofs.Places.{flatMap-append}
 use Rattle.refusals.specs.Order.{_orElse_}
-use Rattle.blif_text.specs.Lines.{consFirst, split, dropCR, lines, cut, continues, before, joined, tokens}
+use Rattle.blif_text.specs.Lines.{consFirst, split, dropCR, lines, endsInLf, cut, continues, before, joined, tokens}
 use Rattle.blif_text.specs.Statements.{Stmt, Parsed, ok, bad, parsedLine, parsed, stmts, firstBad}
 use Rattle.blif_text.specs.Decls.{latch, cover, Decl, model, inputs, outputs, gate, cubes, decls}
-use Rattle.blif_text.specs.Ended.{endsLine, lastContinues, stops}
+use Rattle.blif_text.specs.Ended.{stops}
+
+-- the last of a list is that of its rest, if there is one
+last-next : {A : Type 0} (x y : A) (l : List A) (d : A) → getD (y ∷ l) (length (y ∷ l) - 1) d ≡ getD (x ∷ y ∷ l) (length (x ∷ y ∷ l) - 1) d
+last-next x y l d = let place : suc (length (y ∷ l) - 1) ≡ length (x ∷ y ∷ l) - 1 = omega arith in ap (λ (i : ℕ). getD (x ∷ y ∷ l) i d) place
 
 -- ---- lines
 
@@ -33,10 +38,10 @@ line-append c s l ls ms =
     by-test (eqb 13 c && eqb 10 (headD s 0)) (λ h. rw h refl) (λ h. rw h (by-test (eqb 10 c) (λ k. rw k refl) (λ k. rw k refl)))
 
 -- there is a line
-lines-some : (c : ℕ) (s : Bytes) → endsLine (c ∷ s) ≡ true → (l : Bytes) × (ls : List Bytes) × (lines (c ∷ s) ≡ l ∷ ls)
-unfolding endsLine lines dropCR split byLine consFirst headD
+lines-some : (c : ℕ) (s : Bytes) → endsInLf (c ∷ s) ≡ true → (l : Bytes) × (ls : List Bytes) × (lines (c ∷ s) ≡ l ∷ ls)
+unfolding endsInLf lines dropCR split byLine consFirst headD
 lines-some c [] e = subst (λ (x : ℕ). (l : Bytes) × (ls : List Bytes) × (lines (x ∷ []) ≡ l ∷ ls)) (eqb-true 10 c e) ([], [], refl)
-lines-some c (d ∷ s) e = subst (λ (x : List Bytes). (l : Bytes) × (ls : List Bytes) × (x ≡ l ∷ ls)) (sym (line-first c (d ∷ s))) (some (lines-some d s e))
+lines-some c (d ∷ s) e = subst (λ (x : List Bytes). (l : Bytes) × (ls : List Bytes) × (x ≡ l ∷ ls)) (sym (line-first c (d ∷ s))) (some (lines-some d s (ap (eqb 10) (last-next c d s 0) ∙ e)))
   where
     some : (l : Bytes) × (ls : List Bytes) × (lines (d ∷ s) ≡ l ∷ ls) → (l : Bytes) × (ls : List Bytes) × (byLine c (d ∷ s) (lines (d ∷ s)) ≡ l ∷ ls)
     some (l, ls, q) =
@@ -44,14 +49,15 @@ lines-some c (d ∷ s) e = subst (λ (x : List Bytes). (l : Bytes) × (ls : List
         (λ h. rw (h, q) (by-test (eqb 10 c) (λ k. rw k ([], l ∷ ls, refl)) (λ k. rw k (c ∷ l, ls, refl))))
 
 -- whole lines stay lines
-lines-append : (s t : Bytes) → endsLine s ≡ true → lines (s ++ t) ≡ lines s ++ lines t
-unfolding endsLine lines dropCR split byLine headD
+lines-append : (s t : Bytes) → endsInLf s ≡ true → lines (s ++ t) ≡ lines s ++ lines t
+unfolding endsInLf lines dropCR split byLine headD
 lines-append [] t e = refl
 lines-append (c ∷ []) t e = subst (λ (x : ℕ). lines (x ∷ t) ≡ lines (x ∷ []) ++ lines t) (eqb-true 10 c e) refl
 lines-append (c ∷ d ∷ s) t e =
-    let k = lines-some d s e in
+    let f : endsInLf (d ∷ s) ≡ true = ap (eqb 10) (last-next c d s 0) ∙ e in
+    let k = lines-some d s f in
     line-first c (d ∷ s ++ t)
-    ∙ ap (byLine c (d ∷ s)) (lines-append (d ∷ s) t e ∙ ap (λ (x : List Bytes). x ++ lines t) (k .2))
+    ∙ ap (byLine c (d ∷ s)) (lines-append (d ∷ s) t f ∙ ap (λ (x : List Bytes). x ++ lines t) (k .2))
     ∙ line-append c (d ∷ s) (k .0) (k .1) (lines t)
     ∙ ap (λ (x : List Bytes). x ++ lines t) (ap (byLine c (d ∷ s)) (sym (k .2)) ∙ sym (line-first c (d ∷ s)))
 
@@ -72,13 +78,13 @@ joined-some l ls = by-test (continues l) (λ h. rw h (pending (joined ls))) (λ 
     pending (v ∷ vs) = ((32 ∷ take (length l - 1) l) ++ v, vs, refl)
 
 -- where the last line does not continue, others behind it are joined by themselves
-joined-append : (ls ms : List Bytes) → lastContinues ls ≡ false → joined (ls ++ ms) ≡ joined ls ++ joined ms
-unfolding joined lastContinues
+joined-append : (ls ms : List Bytes) → continues (getD ls (length ls - 1) []) ≡ false → joined (ls ++ ms) ≡ joined ls ++ joined ms
+unfolding joined
 joined-append [] ms e = refl
 joined-append (l ∷ []) ms e = rw e refl
 joined-append (l ∷ m ∷ ls) ms e =
     let k = joined-some m ls in
-    let q : joined (m ∷ ls ++ ms) ≡ joined (m ∷ ls) ++ joined ms = joined-append (m ∷ ls) ms e in
+    let q : joined (m ∷ ls ++ ms) ≡ joined (m ∷ ls) ++ joined ms = joined-append (m ∷ ls) ms (ap continues (last-next l m ls []) ∙ e) in
     by-test (continues l)
     (λ h. rw h (ap (before (32 ∷ take (length l - 1) l)) (q ∙ ap (λ (x : List Bytes). x ++ joined ms) (k .2))
     ∙ before-append (32 ∷ take (length l - 1) l) (k .0) (k .1) (joined ms)
@@ -88,7 +94,7 @@ joined-append (l ∷ m ∷ ls) ms e =
 -- ---- statements
 
 -- whole lines and those behind them have the statements of both
-pub parsed-append : (s t : Bytes) → endsLine s ≡ true → lastContinues (lines s) ≡ false → parsed (s ++ t) ≡ parsed s ++ parsed t
+pub parsed-append : (s t : Bytes) → endsInLf s ≡ true → continues (getD (lines s) (length (lines s) - 1) []) ≡ false → parsed (s ++ t) ≡ parsed s ++ parsed t
 unfolding parsed
 parsed-append s t e f =
     ap (λ (ls : List Bytes). flatMap parsedLine (map tokens (joined ls))) (lines-append s t e)

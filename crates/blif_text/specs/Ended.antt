@@ -3,25 +3,13 @@
 use mathlib.Core.Path.{_≡_}
 use mathlib.Core.Bool.{Bool, true, false}
 use mathlib.Core.List.{List, [], _∷_, _++_}
-use Prim.Native.Nat.{_≤_}
-use lib.Dec.{eqb, leb}
-use lib.ListN.{length}
+use Prim.Native.Nat.{_-_, _≤_}
+use lib.Dec.{leb}
+use lib.ListN.{length, getD}
 use Rattle.lists.specs.Lists.{Bytes, any}
 use Rattle.refusals.specs.declared.Checked.the-variants.{Fine}
-use Rattle.blif_text.specs.Lines.{maxText, lines, continues}
+use Rattle.blif_text.specs.Lines.{maxText, lines, endsInLf, continues}
 use Rattle.blif_text.specs.Statements.{Stmt, parsed, firstBad, stmts}
-
--- LF ends the last line, if there is one
-unfoldable pub endsLine : Bytes → Bool
-endsLine [] = true
-endsLine (c ∷ []) = eqb 10 c
-endsLine (c ∷ d ∷ s) = endsLine (d ∷ s)
-
--- the last of these lines continues
-unfoldable pub lastContinues : List Bytes → Bool
-lastContinues [] = false
-lastContinues (l ∷ []) = continues l
-lastContinues (l ∷ m ∷ ls) = lastContinues (m ∷ ls)
 
 -- "`.end` stops naming, building and size counting as `.exdc` does"
 unfoldable pub stops : Stmt → Bool
@@ -36,10 +24,10 @@ stops (Stmt.cube ts) = false
 
 -- the text is whole lines, and `.end` or `.exdc` is among their statements
 pub record Ended (text : Bytes) : Type 0 where
-  -- its last line is ended
-  pub whole : endsLine text ≡ true
+  -- its last line is ended by LF
+  pub whole : endsInLf text ≡ true
   -- and does not continue
-  pub closed : lastContinues (lines text) ≡ false
+  pub closed : continues (getD (lines text) (length (lines text) - 1) []) ≡ false
   -- one of its statements stops
   pub stopped : any stops (stmts (parsed text)) ≡ true
 

@@ -31,6 +31,10 @@ dropCR (c ∷ s) = if eqb 13 c && eqb 10 (headD s 0) then dropCR s else c ∷ dr
 unfoldable pub lines : Bytes → List Bytes
 lines s = split (eqb 10) (dropCR s)
 
+-- the last byte is an LF
+unfoldable pub endsInLf : Bytes → Bool
+endsInLf t = eqb 10 (getD t (length t - 1) 0)
+
 -- "`#` cuts the line"
 unfoldable pub cut : Bytes → Bytes
 cut [] = []

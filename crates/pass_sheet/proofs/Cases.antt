@@ -3,9 +3,9 @@ use mathlib.Core.Path.{_≡_, refl}
 use mathlib.Core.Bool.{Bool, true, false, not}
 use mathlib.Core.List.{List, [], _∷_, _++_, flatMap}
 use Rattle.lists.specs.Lists.{Bytes, bytes, optional, all, same}
-use Rattle.blif_text.specs.Lines.{consFirst, split}
+use Rattle.blif_text.specs.Lines.{consFirst, split, endsInLf}
 use Rattle.blif_text.proofs.Splitting.{ended}
-use Rattle.pass_sheet.specs.Sheet.{Sheet, isLetterOrDigit, isPart, isPartLine, isRowCount, isRowsLine, inOrder, endsInLf, isWhole, sheetOf}
+use Rattle.pass_sheet.specs.Sheet.{Sheet, isLetterOrDigit, isPart, isPartLine, isRowCount, isRowsLine, inOrder, isWhole, sheetOf}
 
 -- whether a text is a sheet
 isSheetText : Bytes → Bool

@@ -12,9 +12,9 @@ use Rattle.lists.specs.Lists.{Bytes}
 use Rattle.lists.proofs.Tests.{and-right}
 use Rattle.lists.proofs.OverAt.{part-is}
 use Rattle.refusals.specs.declared.Refusal.the-variants as refusal
-use Rattle.blif_text.specs.Lines.{split}
+use Rattle.blif_text.specs.Lines.{split, endsInLf}
 use Rattle.blif_text.specs.between.Scan.{LineAfter}
-use Rattle.pass_sheet.specs.Sheet.{isPartLine, isRowsLine, inOrder, endsInLf, maxSheet, isWhole, sheetOf}
+use Rattle.pass_sheet.specs.Sheet.{isPartLine, isRowsLine, inOrder, maxSheet, isWhole, sheetOf}
 use Rattle.pass_sheet.specs.between.Places.{sheetAnswer}
 use Rattle.pass_sheet.specs.between.HeadLines.{HeadLines}
 use Rattle.pass_sheet.specs.declared.SheetAnswer.the-variants.{Found, Refused}

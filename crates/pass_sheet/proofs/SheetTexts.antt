@@ -16,10 +16,10 @@ use Rattle.lists.proofs.Same.{same-is, same-refl}
 use Rattle.lists.proofs.Every.{any-append}
 use Rattle.lists.proofs.Range.{range-all}
 use Rattle.blif_writing.specs.Names.{decimal}
-use Rattle.blif_text.specs.Lines.{consFirst, split}
+use Rattle.blif_text.specs.Lines.{consFirst, split, endsInLf}
 use Rattle.blif_text.proofs.Parts.{Without, split-end}
 use Rattle.blif_text.proofs.Splitting.{ended}
-use Rattle.pass_sheet.specs.Sheet.{Sheet, isLetterOrDigit, isPart, isPartLine, isRowCount, isRowsLine, inOrder, endsInLf, maxSheet, isWhole, sheetOf, commandText, sheetText, IsSheet}
+use Rattle.pass_sheet.specs.Sheet.{Sheet, isLetterOrDigit, isPart, isPartLine, isRowCount, isRowsLine, inOrder, maxSheet, isWhole, sheetOf, commandText, sheetText, IsSheet}
 use Rattle.pass_sheet.proofs.Lines.{Closed, lines-again}
 
 -- ---- lines without an LF

@@ -8,11 +8,11 @@ use mathlib.Core.Path.{_≡_}
 use mathlib.Core.Bool.{Bool, true, _&&_, _||_, not}
 use mathlib.Core.List.{List, [], _∷_, _++_, flatMap}
 use mathlib.Core.Option.{Option, none, some}
-use Prim.Native.Nat.{ℕ, _-_, _≤_}
+use Prim.Native.Nat.{ℕ, _≤_}
 use lib.Dec.{eqb, leb}
-use lib.ListN.{length, getD, take, drop}
+use lib.ListN.{length, take, drop}
 use Rattle.lists.specs.Lists.{if_then_else_, Bytes, bytes, same, all, any}
-use Rattle.blif_text.specs.Lines.{split}
+use Rattle.blif_text.specs.Lines.{split, endsInLf}
 use Rattle.blif_writing.specs.Names.{decimal}
 use Rattle.printed_lines.specs.Lines.{keyLine, countLine}
 
@@ -54,10 +54,6 @@ inOrder [] = none
 inOrder (first ∷ []) = none
 inOrder (first ∷ second ∷ rows) =
     if isPartLine first && isRowsLine (length rows) second then some (record { part = drop 5 first; rows = rows }) else none
-
--- the last byte is an LF
-unfoldable pub endsInLf : Bytes → Bool
-endsInLf t = eqb 10 (getD t (length t - 1) 0)
 
 -- "the sheet passes 40,960 bytes"
 abbrev pub maxSheet : ℕ

@@ -23,10 +23,10 @@ use Rattle.network.specs.Settle.{run}
 use Rattle.refusals.specs.Order.{_orElse_, refuseIf}
 use Rattle.sort_order.specs.Order.{uses, useCount, recorded, order, sortOrder}
 use Rattle.sort_order.specs.Sorted.{sorted}
-use Rattle.blif_text.specs.Lines.{consFirst, split, dropCR, lines, cut, continues, before, joined, isBlank, nonEmpty, tokens}
+use Rattle.blif_text.specs.Lines.{consFirst, split, dropCR, lines, endsInLf, cut, continues, before, joined, isBlank, nonEmpty, tokens}
 use Rattle.blif_text.specs.Keywords.{keywordOf}
 use Rattle.blif_text.specs.Statements.{modelStmt, latchStmt, stmtOf, parsedLine, parsed, firstBad, stmts}
-use Rattle.blif_text.specs.Ended.{endsLine, lastContinues, stops, Ended, MayFollow}
+use Rattle.blif_text.specs.Ended.{stops, Ended, MayFollow}
 use Rattle.blif_text.specs.Decls.{usedNames, cubes, decls, insOf, outsOf, defsOf, ins, outs, defs, coverOut, coverIns, defines, columns, output, isOne, declsOf}
 use Rattle.blif_writing.specs.WrittenModel.{sameNode}
 use Rattle.blif_writing.specs.Text.{spaced, line, textOf}
@@ -183,5 +183,5 @@ table-holds = tt
 
 -- K10's text is one that `.end` ends, and what may stand behind it
 pub k10-ended : Ended (bytes ".model m\n.end\n") × MayFollow (bytes ".model m\n.end\n") (bytes ".inputs a\n")
-unfolding headD same consFirst split dropCR lines cut continues before joined isBlank nonEmpty tokens modelStmt stmtOf keywordOf parsedLine parsed firstBad stmts _orElse_ flatMap endsLine lastContinues stops
+unfolding headD same consFirst split dropCR lines cut continues before joined isBlank nonEmpty tokens modelStmt stmtOf keywordOf parsedLine parsed firstBad stmts _orElse_ flatMap endsInLf stops
 k10-ended = (record { whole = refl; closed = refl; stopped = refl }, record { few = omega arith; plain = refl; parses = refl })
