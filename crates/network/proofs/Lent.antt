@@ -20,7 +20,7 @@ use Rattle.signal.proofs.Cells.{Small, signal-again, cells-again, signals-again
 use Rattle.gates.specs.Gate.{Gate, pins}
 use Rattle.gates.specs.Forms.{formed}
 use Rattle.network.specs.Net.{Net, GateIs, ValidNode, Valid, Formed}
-use Rattle.network.specs.Cells.{Lent, sizesFit, startAt, recordFits, recordsFit, validNode, allValid, isNetwork, netOf, countsOf, Words}
+use Rattle.network.specs.Cells.{Lent, sizesFit, pinsBelow, recordFits, recordsFit, validNode, allValid, isNetwork, netOf, countsOf, Words}
 use Rattle.network.specs.between.Cells.{Laid, NetCells}
 use Rattle.network.specs.Record.{gateWidth, firstAt, runAt, gateAt, pinCells}
 use Rattle.network.specs.declared.Counts.{Counts}
@@ -54,7 +54,7 @@ valid-small net (Var g) a b h = omega arith
 record Tests (l : Lent) : Type 0 where
   sizes : Sizes (l .counts) (length (l .cells)) (length (l .pinsLent)) (length (l .outsLent))
   fits : (g : ℕ) → g < l .counts .gates → recordFits (l .cells) g ≡ true
-  total : startAt (l .cells) (l .counts .gates) ≡ l .counts .pins
+  total : pinsBelow (l .cells) (l .counts .gates) ≡ l .counts .pins
   pinsGood : (c : ℕ) → List·Memᴰ c (take (l .counts .pins) (l .pinsLent)) → validNode (l .counts .inputs) (l .counts .gates) (nodeOf c) ≡ true
   outsGood : (c : ℕ) → List·Memᴰ c (take (l .counts .outputs) (l .outsLent)) → validNode (l .counts .inputs) (l .counts .gates) (nodeOf c) ≡ true
 
@@ -64,13 +64,13 @@ tests-give l e =
     let good : ℕ → Bool = λ c. validNode (l .counts .inputs) (l .counts .gates) (nodeOf c) in
     let a : sizesFit (l .counts) (length (l .cells)) (length (l .pinsLent)) (length (l .outsLent)) ≡ true = search (and-left, and-right) depth 8 in
     let b : all (recordFits (l .cells)) (range 0 (l .counts .gates)) ≡ true = search (and-left, and-right) depth 8 in
-    let d : eqb (startAt (l .cells) (l .counts .gates)) (l .counts .pins) ≡ true = search (and-left, and-right) depth 8 in
+    let d : eqb (pinsBelow (l .cells) (l .counts .gates)) (l .counts .pins) ≡ true = search (and-left, and-right) depth 8 in
     let p : all good (take (l .counts .pins) (l .pinsLent)) ≡ true = search (and-left, and-right) depth 8 in
     let o : all good (take (l .counts .outputs) (l .outsLent)) ≡ true = search (and-left, and-right) depth 8 in
     record {
       sizes = sizes-give a;
       fits = λ g h. range-all (recordFits (l .cells)) 0 (l .counts .gates) b g (omega arith) (omega arith);
-      total = eqb-true (startAt (l .cells) (l .counts .gates)) (l .counts .pins) d;
+      total = eqb-true (pinsBelow (l .cells) (l .counts .gates)) (l .counts .pins) d;
       pinsGood = all-mem good (take (l .counts .pins) (l .pinsLent)) p;
       outsGood = all-mem good (take (l .counts .outputs) (l .outsLent)) o;
     }
@@ -96,7 +96,7 @@ module _ (l : Lent) (w : Words l) (t : Tests l) where
   pins-are =
       let e : 0 + l .counts .gates ≡ l .counts .gates = omega arith in
       pins-laid fitting (l .counts .gates) 0 (omega arith)
-      ∙ ap (λ (i : ℕ). take i (l .pinsLent)) (ap (startAt (l .cells)) e ∙ t .total)
+      ∙ ap (λ (i : ℕ). take i (l .pinsLent)) (ap (pinsBelow (l .cells)) e ∙ t .total)
 
   pins-counted : length (pinCells (netOf l .gates)) ≡ l .counts .pins
   pins-counted = ap length pins-are ∙ length-take-le (l .counts .pins) (l .pinsLent) (t .sizes .pins-lent)
@@ -174,7 +174,7 @@ network-cells l w e =
       fewGates = t .sizes .few .gates;
       each = λ g h.
           let r = read-at fit g h in
-          let first : firstAt (l .cells) g ≡ startAt (l .cells) g = r .first in
+          let first : firstAt (l .cells) g ≡ pinsBelow (l .cells) g = r .first in
           record {
             gate = r .gate;
             has = record { cells = record-in h (t .sizes .gates-lent); within = omega (arith, run-inside fit g h, t .sizes .pins-lent) };
@@ -241,11 +241,11 @@ module _ (net : Net) (l : Lent) (c : Laid net l) (v : Valid net) (f : Formed net
   records-pass =
       let r : Again (l .cells) (l .pinsLent) 0 (net .gates) = held-again (net .gates) holds in
       let e : length (net .gates) ≡ 0 + length (net .gates) = omega arith in
-      let q : startAt (l .cells) (length (net .gates)) ≡ startAt (l .cells) (0 + length (net .gates)) = ap (startAt (l .cells)) e in
+      let q : pinsBelow (l .cells) (length (net .gates)) ≡ pinsBelow (l .cells) (0 + length (net .gates)) = ap (pinsBelow (l .cells)) e in
       and-both (all (recordFits (l .cells)) (range 0 (length (net .gates))))
-      (eqb (startAt (l .cells) (length (net .gates))) (length (pinCells (net .gates))))
+      (eqb (pinsBelow (l .cells) (length (net .gates))) (length (pinCells (net .gates))))
       (r .fitAgain)
-      (eq-eqb (startAt (l .cells) (length (net .gates))) (length (pinCells (net .gates))) (q ∙ r .ends ∙ omega arith))
+      (eq-eqb (pinsBelow (l .cells) (length (net .gates))) (length (pinCells (net .gates))) (q ∙ r .ends ∙ omega arith))
 
   -- the tests of `isNetwork` over these counts
   abbrev passes : Counts → Bool

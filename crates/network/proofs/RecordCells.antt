@@ -27,7 +27,7 @@ use Rattle.gates.specs.declared.BinaryType.the-variants as B
 use Rattle.signal.specs.Signal.{Signal, remap}
 use Rattle.network.specs.Renumber.{remapGate}
 use Rattle.gates.specs.declared.Decoded.the-variants.{Bad}
-use Rattle.network.specs.Cells.{startAt}
+use Rattle.network.specs.Cells.{pinsBelow}
 use Rattle.network.specs.Record.{gateWidth, recordOf, formAt, firstAt, countAt, runAt, hasRun, gateAt}
 use Rattle.network.specs.between.Record.{recordAt, withFirst, decodedAt, RecordIn, HasRun, handRecord}
 
@@ -129,16 +129,16 @@ records-split cells g k =
     ∙ ap (λ (l : List ℕ). recordAt cells g ++ take (k * gateWidth) l) (drop-drop gateWidth (g * gateWidth) cells ∙ ap (λ (i : ℕ). drop i cells) d)
 
 -- pin counts add up
-start-le : (cells : List ℕ) (g k : ℕ) → startAt cells g ≤ startAt cells (g + k)
-start-le cells g zero = let e : g ≡ g + 0 = omega arith in subst (λ (i : ℕ). startAt cells g ≤ startAt cells i) e (omega arith)
+start-le : (cells : List ℕ) (g k : ℕ) → pinsBelow cells g ≤ pinsBelow cells (g + k)
+start-le cells g zero = let e : g ≡ g + 0 = omega arith in subst (λ (i : ℕ). pinsBelow cells g ≤ pinsBelow cells i) e (omega arith)
 start-le cells g (suc k) =
-    let h : startAt cells g ≤ startAt cells (g + k) = start-le cells g k in
+    let h : pinsBelow cells g ≤ pinsBelow cells (g + k) = start-le cells g k in
     rw (add-suc g k) (omega arith)
 
-pub start-mono : (cells : List ℕ) (g n : ℕ) → g < n → startAt cells g + countAt cells g ≤ startAt cells n
+pub start-mono : (cells : List ℕ) (g n : ℕ) → g < n → pinsBelow cells g + countAt cells g ≤ pinsBelow cells n
 start-mono cells g n h =
     let e : suc g + (n - suc g) ≡ n = omega arith in
-    subst (λ (i : ℕ). startAt cells (suc g) ≤ startAt cells i) e (start-le cells (suc g) (n - suc g))
+    subst (λ (i : ℕ). pinsBelow cells (suc g) ≤ pinsBelow cells i) e (start-le cells (suc g) (n - suc g))
 
 -- where both are there, the gate is the one of its number and its pins; else there is none
 module _ (cells ps : List ℕ) (g : ℕ) where

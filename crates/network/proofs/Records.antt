@@ -21,7 +21,7 @@ use Rattle.gates.specs.between.Decode.{withPins}
 use Rattle.gates.specs.declared.Kind.{Kind}
 use Rattle.gates.specs.declared.Decoded.{Decoded}
 use Rattle.gates.specs.declared.Decoded.the-variants.{Bad}
-use Rattle.network.specs.Cells.{sizesFit, startAt, recordFits, recordsFit, validNode, allValid, lent, isNetwork}
+use Rattle.network.specs.Cells.{sizesFit, pinsBelow, recordFits, recordsFit, validNode, allValid, lent, isNetwork}
 use Rattle.network.specs.between.Sizes.{WithinSizes}
 use Rattle.network.specs.between.Cells.{FewNodes}
 use Rattle.network.specs.Record.{gateWidth, formAt, firstAt, countAt, runAt, hasRun, gateAt}
@@ -92,7 +92,7 @@ module _ (cells : List ℕ) (g : ℕ) where
   pub form-refused : canTake (formAt cells g) (countAt cells g) ≡ false → false ≡ recordFits cells g
   form-refused t = rw t
 
-  pub form-taken : {at first : ℕ} → canTake (formAt cells g) (countAt cells g) ≡ true → CellIs (firstAt cells g) first → at ≡ startAt cells g
+  pub form-taken : {at first : ℕ} → canTake (formAt cells g) (countAt cells g) ≡ true → CellIs (firstAt cells g) first → at ≡ pinsBelow cells g
       → eqb first at ≡ recordFits cells g
   form-taken t r e = rw t (ap₂ eqb (r .cell) e)
 
@@ -100,7 +100,7 @@ module _ (cells : List ℕ) (g : ℕ) where
 pub record Following (cells : List ℕ) (n at g : ℕ) : Type 0 where
   pub few : n ≤ 1024
   pub inside : n * gateWidth ≤ length cells
-  pub start : at ≡ startAt cells g
+  pub start : at ≡ pinsBelow cells g
   pub bound : at ≤ g * 4294967295
   pub fit : TestedTo (recordFits cells) n g
 
@@ -126,7 +126,7 @@ module _ {cells : List ℕ} {n at g : ℕ} (c : Following cells n at g) where
   unfolding recordsFit
   following-ends p h =
       let e : g ≡ n = omega (arith, c .fit .within) in
-      rw (sym (to-done (c .fit) h)) (ap (λ (x : ℕ). eqb x p) (c .start ∙ ap (startAt cells) e))
+      rw (sym (to-done (c .fit) h)) (ap (λ (x : ℕ). eqb x p) (c .start ∙ ap (pinsBelow cells) e))
 
 -- ---- one gate
 

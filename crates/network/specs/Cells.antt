@@ -39,16 +39,16 @@ sizesFit counts gs ps os =
     not (overSizes (counts .inputs) (counts .outputs) (counts .gates) (counts .pins)) && leb (counts .gates * gateWidth) gs && leb (counts .pins) ps && leb (counts .outputs) os
 
 -- where gate g's pins start: the pin counts before it, added up
-abbrev pub startAt : List ℕ → ℕ → ℕ
-startAt cells g = sumTo g (countAt cells)
+abbrev pub pinsBelow : List ℕ → ℕ → ℕ
+pinsBelow cells g = sumTo g (countAt cells)
 
 -- "an unknown form, a pin count its form cannot have" is refused, and so is a run that does not start where the one before it ends
 abbrev pub recordFits : List ℕ → ℕ → Bool
-recordFits cells g = canTake (formAt cells g) (countAt cells g) && eqb (firstAt cells g) (startAt cells g)
+recordFits cells g = canTake (formAt cells g) (countAt cells g) && eqb (firstAt cells g) (pinsBelow cells g)
 
 -- "runs of pins that do not follow each other in gate order and fill the pins in use" are refused
 unfoldable pub recordsFit : List ℕ → ℕ → ℕ → Bool
-recordsFit cells n p = all (recordFits cells) (range 0 n) && eqb (startAt cells n) p
+recordsFit cells n p = all (recordFits cells) (range 0 n) && eqb (pinsBelow cells n) p
 
 -- the test of `is_valid`, with the input count and the gate count
 abbrev pub validNode : ℕ → ℕ → Node → Bool

@@ -11,7 +11,7 @@ ghost use lib.ListN.{length};
 ghost use Rattle.lists.specs.between.Lists.{overwriteAt};
 ghost use Rattle.signal.specs.Cell.{nodeOf};
 ghost use Rattle.network.specs.Net.{inputsLower, sortedFrom};
-ghost use Rattle.network.specs.Cells.{lent, sizesFit, startAt, recordFits, recordsFit, validNode, allValid, isNetwork, orBuf, cellGates};
+ghost use Rattle.network.specs.Cells.{lent, sizesFit, pinsBelow, recordFits, recordsFit, validNode, allValid, isNetwork, orBuf, cellGates};
 ghost use Rattle.network.specs.between.Cells.{FewNodes, GateCells, NetCells};
 ghost use Rattle.network.specs.Sizes.{maxGates, maxPins};
 ghost use Rattle.gates.specs.between.Decode.{pinCount, pinsIn};
@@ -188,7 +188,7 @@ pub fn copy_record(gates: &[u32], g: usize, to: &mut [u32], i: usize, first: usi
 
 // Whether gate g has a known form, a pin count that it can have, and its pins from cell at on.
 fn record_fits(gates: &[u32], g: usize, at: usize) -> bool
-    requires { ⌜ RecordIn (now gates) g × (at ≡ startAt (now gates) g) ⌝ }
+    requires { ⌜ RecordIn (now gates) g × (at ≡ pinsBelow (now gates) g) ⌝ }
     ensures { λ r. ⌜ r ≡ recordFits (now (gates .entry)) g ⌝ }
 {
     let kind = gates::kind_of(form_at(gates, g));
