@@ -17,11 +17,35 @@ impl Numbers {
     }
 }
 
-// A network before it is a `Network`: form numbers 1 to 14 and pins.
+// A gate of a plain network: its form number 1 to 14, its pins, and its start value: 0 or 1 for a flip-flop, 0 for every other form.
+#[derive(Clone)]
+pub struct Node {
+    pub form: u32,
+    pub pins: Vec<Signal>,
+    pub start: u32,
+}
+
+impl Node {
+    // A gate that starts at zero.
+    pub fn new(form: u32, pins: Vec<Signal>) -> Node {
+        Node { form, pins, start: 0 }
+    }
+
+    pub fn is_flop(&self) -> bool {
+        self.form == 14
+    }
+
+    // The gate with each of its signals by a function.
+    pub fn with_pins(&self, f: impl Fn(&Signal) -> Signal) -> Node {
+        Node { pins: self.pins.iter().map(f).collect(), ..*self }
+    }
+}
+
+// A network before it is a `Network`, which has no start values.
 #[derive(Clone)]
 pub struct Plain {
     pub inputs: usize,
-    pub gates: Vec<(u32, Vec<Signal>)>,
+    pub gates: Vec<Node>,
     pub outputs: Vec<Signal>,
 }
 
@@ -46,7 +70,7 @@ pub fn gate_of(form: u32, p: &[Signal]) -> Gate {
     }
 }
 
-pub fn plain_of(g: &Gate) -> (u32, Vec<Signal>) {
+pub fn plain_of(g: &Gate) -> Node {
     let form = match g {
         Gate::Binary(_, BinaryType::And) => 1,
         Gate::Binary(_, BinaryType::Xor) => 2,
@@ -64,15 +88,15 @@ pub fn plain_of(g: &Gate) -> (u32, Vec<Signal>) {
         Gate::Dff(_) => 14,
         Gate::Lut(_) => panic!("a table gate"),
     };
-    (form, g.dependencies().to_vec())
+    Node::new(form, g.dependencies().to_vec())
 }
 
 impl Plain {
     pub fn network(&self) -> Network {
         let mut n = Network::new();
         n.add_inputs(self.inputs);
-        for (form, p) in &self.gates {
-            n.add(gate_of(*form, p));
+        for g in &self.gates {
+            n.add(gate_of(g.form, &g.pins));
         }
         for s in &self.outputs {
             n.add_output(*s);
@@ -87,7 +111,15 @@ impl Plain {
         }
     }
     pub fn pins(&self) -> usize {
-        self.gates.iter().map(|(_, p)| p.len()).sum()
+        self.gates.iter().map(|g| g.pins.len()).sum()
+    }
+    pub fn flops(&self) -> Vec<usize> {
+        (0..self.gates.len()).filter(|g| self.gates[*g].is_flop()).collect()
+    }
+    // The same with one as the start value of these gates.
+    pub fn starting(mut self, gates: &[usize]) -> Plain {
+        gates.iter().for_each(|g| self.gates[*g].start = 1);
+        self
     }
 }
 
@@ -151,7 +183,7 @@ pub fn make(r: &mut Numbers, s: &Shape) -> Plain {
         if n >= 2 && r.below(3) == 0 {
             p[1] = p[0] ^ (r.below(2) == 0);
         }
-        gates.push((form, p));
+        gates.push(Node { form, pins: p, start: if flop[g] { r.below(2) as u32 } else { 0 } });
     }
     let outputs = (0..s.outputs).map(|_| signal(r, s, &rank, &flop, None)).collect();
     Plain {
@@ -165,8 +197,8 @@ pub fn make(r: &mut Numbers, s: &Shape) -> Plain {
 pub fn filled(mut p: Plain, pins: usize) -> Plain {
     let missing = pins - p.pins();
     let inputs = p.inputs;
-    let gate = p.gates.iter_mut().find(|(form, _)| (7..=12).contains(form)).unwrap();
-    gate.1.extend((0..missing).map(|k| Signal::from_input((k % inputs) as u32) ^ (k % 3 == 0)));
+    let gate = p.gates.iter_mut().find(|g| (7..=12).contains(&g.form)).unwrap();
+    gate.pins.extend((0..missing).map(|k| Signal::from_input((k % inputs) as u32) ^ (k % 3 == 0)));
     p
 }
 
@@ -175,20 +207,21 @@ pub fn smallest() -> Vec<Plain> {
     let i = Signal::from_input;
     let g = Signal::from_var;
     let (one, zero) = (Signal::one(), Signal::zero());
-    let net = |gates: Vec<(u32, Vec<Signal>)>| {
+    let net = |gates: Vec<Node>| {
         let outputs = (0..gates.len()).map(|k| g(k as u32)).collect();
         Plain { inputs: 2, gates, outputs }
     };
-    let and = |a, b| (1, vec![a, b]);
-    let flop = |d| (14, vec![d, one, zero]);
+    let and = |a, b| Node::new(1, vec![a, b]);
+    let and3 = |a, b, c| Node::new(3, vec![a, b, c]);
+    let flop = |d| Node::new(14, vec![d, one, zero]);
     vec![
         // in order already, and moved all the same
         net(vec![and(i(0), i(1)), and(i(0), !i(1)), and(g(1), g(0))]),
         // a repeat counts twice, also x with !x
-        net(vec![and(i(0), i(1)), and(i(0), !i(1)), (3, vec![g(0), g(1), g(0)])]),
-        net(vec![and(i(0), i(1)), and(i(0), !i(1)), (3, vec![g(0), g(1), !g(0)])]),
+        net(vec![and(i(0), i(1)), and(i(0), !i(1)), and3(g(0), g(1), g(0))]),
+        net(vec![and(i(0), i(1)), and(i(0), !i(1)), and3(g(0), g(1), !g(0))]),
         // a popped flip-flop lowers nothing
-        net(vec![flop(g(1)), and(i(0), i(1)), and(g(1), i(0)), (3, vec![g(2), g(0), g(1)])]),
+        net(vec![flop(g(1)), and(i(0), i(1)), and(g(1), i(0)), and3(g(2), g(0), g(1))]),
         // a flip-flop's data is no use of it
         net(vec![and(i(0), i(1)), flop(g(0))]),
         net(vec![and(i(0), i(1)), flop(g(0)), and(i(1), i(0))]),
@@ -202,18 +235,34 @@ pub fn smallest() -> Vec<Plain> {
         net(vec![and(g(1), i(0)), flop(g(0))]),
         // no gates, and a gate of no pins
         net(vec![]),
-        net(vec![(7, vec![])]),
+        net(vec![Node::new(7, vec![])]),
+        // start values go with their flip-flops: alone, behind a gate, scattered among gates that move, in old order
+        net(vec![flop(i(0))]).starting(&[0]),
+        net(vec![and(i(0), i(1)), flop(i(0))]).starting(&[1]),
+        net(vec![and(i(0), i(1)), flop(i(0)), flop(i(1))]).starting(&[1]),
+        net(vec![and(i(0), i(1)), flop(i(0)), flop(i(1))]).starting(&[2]),
+        net(vec![flop(g(2)), and(g(3), i(0)), flop(g(0)), and(i(0), i(1)), flop(g(1))]).starting(&[0, 4]),
+        net(vec![flop(g(2)), and(g(3), i(0)), flop(g(0)), and(i(0), i(1)), flop(g(1))]).starting(&[2]),
+        net(vec![flop(i(0)), flop(g(0)), flop(g(1)), flop(g(2))]).starting(&[0, 1, 3]),
+        net(vec![and(g(1), i(0)), flop(g(0)), flop(i(1))]).starting(&[1]),
     ]
 }
 
-// Networks with one input, gate, pin or output more than the part takes.
-pub fn over_sizes() -> Vec<Plain> {
+// Networks that the part refuses: with one input, gate, pin or output more than it takes, or another start value.
+pub fn refused() -> Vec<Plain> {
     let i = Signal::from_input(0);
     let net = |inputs, gates, outputs| Plain { inputs, gates, outputs: vec![i; outputs] };
+    let flop = |start| Node { start, ..Node::new(14, vec![i, Signal::one(), Signal::zero()]) };
+    let buf = |start| Node { start, ..Node::new(13, vec![i]) };
     vec![
         net(257, vec![], 1),
-        net(1, vec![(13, vec![i]); 1025], 1),
-        net(1, vec![(7, vec![i; 16385])], 1),
+        net(1, vec![buf(0); 1025], 1),
+        net(1, vec![Node::new(7, vec![i; 16385])], 1),
         net(1, vec![], 257),
+        net(1, vec![flop(2)], 1),
+        net(1, vec![flop(1), flop(u32::MAX)], 1),
+        net(1, vec![buf(1)], 1),
+        net(1, vec![flop(1), buf(0), buf(1), flop(0)], 1),
+        net(1, vec![Node { start: 1, ..Node::new(7, vec![]) }], 1),
     ]
 }

@@ -1,6 +1,6 @@
 // Cells that are no network, or only just one, by hand and from a seed.
 use crate::generate::{Numbers, Plain};
-use crate::lent::{lent, Lent};
+use crate::lent::{lent, Lent, RECORD};
 use crate::nets::{i, net, x, Gates};
 use crate::Signal;
 
@@ -83,7 +83,7 @@ fn forms() -> Vec<(bool, Lent)> {
 fn runs() -> Vec<(bool, Lent)> {
     let base = |records: &[u32], pins: usize| Lent {
         counts: [2, records.len() as u64 / 2, pins as u64, 0],
-        gates: records.chunks(2).flat_map(|r| [7, r[0], r[1]]).collect(),
+        gates: records.chunks(2).flat_map(|r| [7, r[0], r[1], 0]).collect(),
         pins: (0..pins).map(|k| i(k as u32 % 2).raw()).collect(),
         outputs: vec![],
         room: 32800,
@@ -117,6 +117,44 @@ fn runs() -> Vec<(bool, Lent)> {
     ]
 }
 
+// Start values: of each form, alone and in the record of one gate among others; cells beyond the gates in use that hold anything.
+fn starts() -> Vec<(bool, Lent)> {
+    let base = lent(&each_form());
+    let values = [1, 2, 3, 255, 256, 257, 1 << 16, 1 << 31, (1 << 31) + 1, u32::MAX - 1, u32::MAX];
+    let mut all = Vec::new();
+    for g in 0..14 {
+        let with = |start: u32| {
+            let mut l = base.clone();
+            l.gates[RECORD * g + 3] = start;
+            (g == 13 && start == 1, l)
+        };
+        all.extend(values.into_iter().take(if g < 12 { 2 } else { values.len() }).map(with));
+    }
+    let flop = |start: u32| {
+        let mut l = lent(&net(1, vec![(14, vec![i(0), Signal::one(), Signal::zero()])], vec![x(0)]));
+        l.gates[3] = start;
+        l
+    };
+    all.extend([(true, flop(0)), (true, flop(1)), (false, flop(2)), (false, flop(u32::MAX))]);
+    // of an enable and a reset that are not plain, of a gate without pins, and with a record's cell too few
+    let other = net(2, vec![(14, vec![i(0), i(1), x(0)]), (10, vec![])], vec![]).starting(&[0]);
+    all.push((true, lent(&other)));
+    all.push((false, lent(&other.clone().starting(&[1]))));
+    let mut short = flop(1);
+    short.gates.pop();
+    all.push((false, short));
+    // cells beyond the gates in use
+    for beyond in [vec![14, 3, 3, 2], vec![13, 3, 1, 1], vec![0, 0, 0, u32::MAX], vec![0; 3]] {
+        let mut l = flop(1);
+        l.gates.extend(beyond);
+        all.push((true, l));
+    }
+    // 20 before 21
+    let wide = net(1, vec![(11, vec![i(0); 13]), (13, vec![i(0)])], vec![]);
+    all.push((false, lent(&wide.starting(&[1]))));
+    all
+}
+
 // An invalid signal in each place, one that is just valid, and constants.
 fn signals() -> Vec<(bool, Lent)> {
     let base = lent(&each_form());
@@ -142,7 +180,7 @@ fn signals() -> Vec<(bool, Lent)> {
 
 // The cells, and whether they are a network.
 pub fn by_hand() -> Vec<(bool, Lent)> {
-    [sizes(), forms(), runs(), signals()].concat()
+    [sizes(), forms(), runs(), signals(), starts()].concat()
 }
 
 // Another number in a cell's place: near it, a signal near the counts, or anything.
@@ -157,10 +195,10 @@ fn other(r: &mut Numbers, cell: u32, l: &Lent) -> u32 {
     }
 }
 
-// The cells with one thing changed: a count, a cell, a slice's length, two records.
+// The cells with one thing changed: a count, a cell, a slice's length, two records, a start value.
 pub fn changed(r: &mut Numbers, mut l: Lent) -> Lent {
     let sizes = [l.gates.len(), l.pins.len(), l.outputs.len()];
-    match r.below(8) {
+    match r.below(9) {
         0 => {
             let n = &mut l.counts[r.below(4)];
             *n = if r.below(2) == 0 { n.wrapping_sub(1) } else { *n + 1 };
@@ -182,11 +220,15 @@ pub fn changed(r: &mut Numbers, mut l: Lent) -> Lent {
             let cells = [&mut l.gates, &mut l.pins, &mut l.outputs];
             cells[r.below(3)].pop();
         }
-        7 if sizes[0] >= 6 => {
-            let k = 3 * r.below(sizes[0] / 3 - 1);
-            for c in k..k + 3 {
-                l.gates.swap(c, c + 3);
+        7 if sizes[0] >= 2 * RECORD => {
+            let k = RECORD * r.below(sizes[0] / RECORD - 1);
+            for c in k..k + RECORD {
+                l.gates.swap(c, c + RECORD);
             }
+        }
+        8 if sizes[0] >= RECORD => {
+            let start = &mut l.gates[RECORD * r.below(sizes[0] / RECORD) + 3];
+            *start = [*start ^ 1, 1, 2, 3, 256, u32::MAX][r.below(6)];
         }
         _ => (),
     }

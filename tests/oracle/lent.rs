@@ -1,14 +1,17 @@
 // Networks in lent cells, and what writing must answer for each: Quaigh's `write_blif`, with document 01's refusals and its `.flop`
-// lines.
-use crate::generate::Plain;
+// lines, and with document 02's start values, which Quaigh does not have.
+use crate::generate::{Node, Plain};
 use crate::io::blif::write_blif;
 use crate::io::utils::sig_to_string;
 use crate::{cells, words, Signal};
 
 pub const MAX_TEXT: usize = 32768;
 
+// The cells of a gate's record: form number, first pin, pin count, start value.
+pub const RECORD: usize = 4;
+
 // What the program has room for: bytes of the output slice, gate cells, pin cells, output cells.
-pub const MOST: [usize; 4] = [32800, 3076, 16386, 258];
+pub const MOST: [usize; 4] = [32800, 4101, 16386, 258];
 
 #[derive(Clone)]
 pub struct Lent {
@@ -45,36 +48,97 @@ fn takes(form: u32, count: usize) -> bool {
     }
 }
 
-// The network of the cells, if it has the layout and the signals that refusal 20 asks for.
+// How a look at start values for 20 may go wrong.
+#[derive(Clone, Copy, PartialEq, Debug)]
+pub enum Lax {
+    Nothing,
+    AllFree,     // no start value is looked at
+    OthersFree,  // only those of flip-flops
+    BufFree,     // that of a Buf is not
+    FlopsFree,   // those of flip-flops are not
+    FlopsTwo,    // a flip-flop's may be 2
+    FlopsThree,  // a flip-flop's may be up to 3
+    OthersOne,   // every gate's may be 1
+    LowByte,     // only the lowest byte of the cell is looked at
+    FirstOnly,   // only the first gate's is looked at
+    FlopsZero,   // a flip-flop's has to be 0
+    Beyond,      // cells beyond the gates in use are looked at
+}
+
+pub const LAX: [Lax; 11] = [
+    Lax::AllFree,
+    Lax::OthersFree,
+    Lax::BufFree,
+    Lax::FlopsFree,
+    Lax::FlopsTwo,
+    Lax::FlopsThree,
+    Lax::OthersOne,
+    Lax::LowByte,
+    Lax::FirstOnly,
+    Lax::FlopsZero,
+    Lax::Beyond,
+];
+
+// Whether gate g of this form can have this start value: a flip-flop 0 or 1, any other gate 0.
+fn starts(g: usize, form: u32, start: u32, m: Lax) -> bool {
+    let most = match (form, m) {
+        (_, Lax::AllFree) => u32::MAX,
+        (14, Lax::FlopsFree) => u32::MAX,
+        (14, Lax::FlopsTwo) => 2,
+        (14, Lax::FlopsThree) => 3,
+        (14, Lax::FlopsZero) => 0,
+        (14, _) => 1,
+        (_, Lax::OthersFree) => u32::MAX,
+        (13, Lax::BufFree) => u32::MAX,
+        (_, Lax::OthersOne) => 1,
+        _ => 0,
+    };
+    let seen = if m == Lax::LowByte { start & 255 } else { start };
+    seen <= most || (m == Lax::FirstOnly && g > 0)
+}
+
+// The network of the cells, if it has the layout, the start values and the signals that refusal 20 asks for.
 pub fn decoded(l: &Lent) -> Option<Plain> {
+    decoded_with(l, Lax::Nothing)
+}
+
+pub fn decoded_with(l: &Lent, m: Lax) -> Option<Plain> {
     if l.counts.iter().zip([256, 1024, 16384, 256]).any(|(n, most)| *n > most) {
         return None;
     }
     let [inputs, gates, pins, outputs] = l.counts.map(|n| n as usize);
-    let records = l.gates.get(..3 * gates)?;
+    let records = l.gates.get(..RECORD * gates)?;
     let pins = l.pins.get(..pins)?;
     let outputs: Vec<Signal> = l.outputs.get(..outputs)?.iter().map(signal).collect();
     let mut p = Plain { inputs, gates: Vec::new(), outputs };
     let mut at = 0;
-    for r in records.chunks(3) {
-        if !takes(r[0], r[2] as usize) || r[1] as usize != at {
+    for (g, r) in records.chunks(RECORD).enumerate() {
+        if !takes(r[0], r[2] as usize) || r[1] as usize != at || !starts(g, r[0], r[3], m) {
             return None;
         }
-        p.gates.push((r[0], pins.get(at..at + r[2] as usize)?.iter().map(signal).collect()));
+        let pins = pins.get(at..at + r[2] as usize)?.iter().map(signal).collect();
+        p.gates.push(Node { form: r[0], pins, start: r[3] });
         at += r[2] as usize;
     }
     let n = p.network();
     let valid = pins.iter().all(|c| n.is_valid(signal(c))) && p.outputs.iter().all(|s| n.is_valid(*s));
-    if at == pins.len() && valid { Some(p) } else { None }
+    let beyond = m == Lax::Beyond && l.gates[RECORD * gates..].chunks(RECORD).any(|r| r.get(3).is_some_and(|start| *start > 1));
+    if at == pins.len() && valid && !beyond { Some(p) } else { None }
 }
 
-// A `.flop` line as document 01 has it: Quaigh's up to the start value, then the enable and the reset by their names.
+// A `.latch` line as document 02 has it: Quaigh's up to the start value, then that of its flip-flop.
+fn latch(p: &Plain, rust: &str) -> String {
+    let before = rust.strip_suffix(" 0\n").unwrap();
+    let number: usize = before[before.rfind(" x").unwrap() + 2..].parse().unwrap();
+    format!("{before} {}\n", p.gates[number].start)
+}
+
+// A `.flop` line as documents 01 and 02 have it: Quaigh's up to `init=`, then the start value, the enable and the reset by their names.
 fn flop(p: &Plain, rust: &str) -> String {
-    let init = " init=0";
-    let (before, _) = rust.split_at(rust.find(init).unwrap() + init.len());
-    let number: usize = before[before.find(" Q=x").unwrap() + 4..before.len() - init.len()].parse().unwrap();
-    let (_, pins) = &p.gates[number];
-    let mut line = before.to_string();
+    let before = &rust[..rust.find(" init=0").unwrap()];
+    let number: usize = before[before.find(" Q=x").unwrap() + 4..].parse().unwrap();
+    let Node { pins, start, .. } = &p.gates[number];
+    let mut line = format!("{before} init={start}");
     if pins[1] != Signal::one() {
         line += &format!(" E={}", sig_to_string(&pins[1]));
     }
@@ -91,16 +155,21 @@ pub fn quaigh(p: &Plain) -> String {
     String::from_utf8(out).unwrap()
 }
 
-// The same with document 01's `.flop` lines.
+// The same with the start values of document 02 and document 01's `.flop` lines.
 pub fn text(p: &Plain) -> String {
-    quaigh(p).split_inclusive('\n').map(|l| if l.starts_with(".flop") { flop(p, l) } else { l.to_string() }).collect()
+    let line = |l: &str| match l.split(' ').next() {
+        Some(".latch") => latch(p, l),
+        Some(".flop") => flop(p, l),
+        _ => l.to_string(),
+    };
+    quaigh(p).split_inclusive('\n').map(line).collect()
 }
 
 pub fn wanted(l: &Lent) -> Wanted {
     let Some(p) = decoded(l) else {
         return Wanted::Refused(20);
     };
-    if p.gates.iter().any(|(form, ps)| (*form == 11 || *form == 12) && ps.len() > 12) {
+    if p.gates.iter().any(|g| (g.form == 11 || g.form == 12) && g.pins.len() > 12) {
         return Wanted::Refused(21);
     }
     let t = text(&p);

@@ -90,6 +90,28 @@ fn ended() -> Vec<(u32, String)> {
     ]
 }
 
+// Start values: before 6, of as many latches as there may be, and of one more.
+fn starts() -> Vec<(u32, String)> {
+    let ring = |n: usize, start: &dyn Fn(usize) -> &'static str| {
+        (0..n).map(|k| format!(".latch {} {k} {}\n", (k + 1) % n, start(k))).collect::<String>()
+    };
+    let wrong = ".latch a a x\n";
+    vec![
+        (0, ring(1024, &|k| ["0", "1", "2", "1", "3"][k % 5]) + ".outputs 0 1 1023\n"),
+        (0, ring(1024, &|_| "re c 1")),
+        (0, ring(300, &|k| if k == 299 { "re c 1 x y z" } else { "re c" }) + ".names y\n" + &lines("1", 723)),
+        (6, ring(1025, &|_| "1")),
+        (34, ring(1025, &|k| if k == 1024 { "x" } else { "1" })),
+        (34, ring(1024, &|k| if k == 1023 { "4" } else { "1" })),
+        (34, wrong.to_string() + &again(".inputs", "b", 257)),
+        (34, again(".outputs", "b", 257) + wrong),
+        (34, lines(".names", 1025) + wrong),
+        (34, wrong.to_string() + &cover(8191, 1)),
+        (34, ".model m\n".to_string() + &lines(".names", 1025) + ".end\n" + wrong),
+        (4, ".latch a\n".to_string() + wrong + &again(".inputs", "b", 257)),
+    ]
+}
+
 fn pins() -> Vec<(u32, String)> {
     let wide = |n: usize| ".inputs a\n.outputs y\n".to_string() + &cover(n, 1);
     vec![
@@ -119,6 +141,10 @@ fn bytes() -> Vec<(u32, Vec<u8>)> {
     let mut last = filled(".foo", b' ', 32768);
     last[32767] = 128;
     vec![
+        (34, filled(".latch a a ", b'1', 32768)),
+        (2, filled(".latch a a x\n", b' ', 32769)),
+        (34, filled(".latch a a x\n", b' ', 32768)),
+        (0, filled(".latch a a 1\n", b'\n', 32768)),
         (0, filled(".inputs ", b'x', 32768)),
         (2, over),
         (3, last),
@@ -131,7 +157,7 @@ fn bytes() -> Vec<(u32, Vec<u8>)> {
 }
 
 pub fn sizes() -> Vec<(u32, Vec<u8>)> {
-    let texts = [ports(), gates(), pins(), ended()].concat();
+    let texts = [ports(), gates(), pins(), ended(), starts()].concat();
     let mut all: Vec<(u32, Vec<u8>)> = texts.into_iter().map(|(k, t)| (k, t.into_bytes())).collect();
     all.extend(bytes());
     all

@@ -1,9 +1,10 @@
-// The oracle: Quaigh's answers, as lists that programs of this repository replay.
+// The oracle: Quaigh's answers, as lists that programs of this repository replay. What Quaigh has no answer for, start values of flip-flops,
+// runs and reports, is answered from document 02 by the oracle's own files.
 // usage: oracle checks SEED COUNT                  texts and networks with what is read and written, as the file specs/Stored of worked_cases
 //        oracle sort SEED COUNT GIVEN WANTED       files of networks and of what `topo_sort` makes of them
 //        oracle texts SEED COUNT GIVEN WANTED      files of texts and of the statements that `read_statements` finds
-//        oracle reads SEED COUNT GIVEN WANTED      files of texts and of what `read_blif` answers, as document 01 has it
-//        oracle writes SEED COUNT GIVEN WANTED     files of lent networks and of what `write_blif` writes, as document 01 has it
+//        oracle reads SEED COUNT GIVEN WANTED      files of texts and of what `read_blif` answers, as documents 01 and 02 have it
+//        oracle writes SEED COUNT GIVEN WANTED     files of lent networks and of what `write_blif` writes, as documents 01 and 02 have it
 //        oracle trips SEED COUNT GIVEN WANTED      files of lent networks with rows, and of what is answered when they are written and read
 //        oracle compare_trips SEED COUNT PROGRAM   such networks, written and read back by a program
 //        oracle runs SEED COUNT GIVEN WANTED       files of lent networks with rows, and of the output rows, as document 02 has it
@@ -35,6 +36,7 @@ mod sheets;
 mod simulate;
 mod smaller_nets;
 mod smaller_texts;
+mod starts;
 mod texts;
 mod tricky;
 mod trips;
@@ -42,9 +44,9 @@ mod variants;
 mod writes;
 pub use network::{BinaryType, Gate, NaryType, Network, Signal, TernaryType};
 
-use generate::{filled, make, over_sizes, smallest, Numbers, Plain, Shape};
+use generate::{filled, make, refused, smallest, Numbers, Plain, Shape};
 use std::panic::{catch_unwind, AssertUnwindSafe};
-use variants::{order, Mistake, MISTAKES};
+use variants::{order, starts, Mistake, MISTAKES, START_MISTAKES};
 
 // Each number as eight hexadecimal digits and a blank, the last of a line with LF.
 fn words(ws: &[u32]) -> String {
@@ -59,9 +61,9 @@ fn words(ws: &[u32]) -> String {
 pub fn cells(p: &Plain) -> (Vec<u32>, Vec<u32>, Vec<u32>) {
     let mut gates = Vec::new();
     let mut pins = Vec::new();
-    for (form, ps) in &p.gates {
-        gates.extend([*form, pins.len() as u32, ps.len() as u32]);
-        pins.extend(ps.iter().map(|s| s.raw()));
+    for g in &p.gates {
+        gates.extend([g.form, pins.len() as u32, g.pins.len() as u32, g.start]);
+        pins.extend(g.pins.iter().map(|s| s.raw()));
     }
     let outs: Vec<u32> = p.outputs.iter().map(|s| s.raw()).collect();
     (gates, pins, outs)
@@ -72,13 +74,15 @@ pub fn line(word: &str, cells: &[u32]) -> String {
     word.to_string() + &cells.iter().map(|c| format!(" {c:x}")).collect::<String>() + "\n"
 }
 
-// What `topo_sort` makes of it; nothing where it panics.
+// What `topo_sort` makes of it; nothing where it panics. Each start value goes where it says that its gate goes.
 fn sorted(p: &Plain) -> Option<Plain> {
     let mut n = p.network();
-    let done = catch_unwind(AssertUnwindSafe(|| {
-        n.topo_sort();
-    }));
-    if done.is_ok() { Some(Plain::of(&n)) } else { None }
+    let moved = catch_unwind(AssertUnwindSafe(|| n.topo_sort())).ok()?;
+    let mut s = Plain::of(&n);
+    for (g, to) in p.gates.iter().zip(moved.iter()) {
+        s.gates[to.var() as usize].start = g.start;
+    }
+    Some(s)
 }
 
 // The network in an order of old numbers.
@@ -92,7 +96,7 @@ fn permuted(p: &Plain, o: &[usize]) -> Plain {
     };
     Plain {
         inputs: p.inputs,
-        gates: o.iter().map(|g| (p.gates[*g].0, p.gates[*g].1.iter().map(moved).collect())).collect(),
+        gates: o.iter().map(|g| p.gates[*g].with_pins(moved)).collect(),
         outputs: p.outputs.iter().map(moved).collect(),
     }
 }
@@ -138,42 +142,55 @@ fn sort_shown(p: &Plain, answer: Result<&Plain, &str>) -> String {
     }
 }
 
+// Stops unless the plain sort agrees with Quaigh's, and each mistake is told apart; prints the gate count of the smallest network that does.
+fn tell_sort_mistakes(nets: &[Plain]) {
+    let all_cells = |p: Option<Plain>| p.map(|p| cells(&p));
+    let mut caught = vec![usize::MAX; MISTAKES.len()];
+    let mut caught_starts = vec![usize::MAX; START_MISTAKES.len()];
+    for p in nets {
+        let least = |old: usize, apart: bool| if apart { old.min(p.gates.len()) } else { old };
+        let by = |m: Mistake| all_cells(order(p, m).map(|o| permuted(p, &o)));
+        let right = all_cells(sorted(p));
+        assert!(by(Mistake::Nothing) == right, "the plain sort and the Rust differ");
+        for (m, n) in MISTAKES.iter().zip(&mut caught) {
+            *n = least(*n, by(*m) != right);
+        }
+        let (Some(o), Some(s)) = (order(p, Mistake::Nothing), sorted(p)) else { continue };
+        for (m, n) in START_MISTAKES.iter().zip(&mut caught_starts) {
+            *n = least(*n, starts(p, &o, *m).into_iter().ne(s.gates.iter().map(|g| g.start)));
+        }
+    }
+    let names = MISTAKES.iter().map(|m| format!("{m:?}")).chain(START_MISTAKES.iter().map(|m| format!("{m:?} of start values")));
+    for (m, n) in names.zip(caught.into_iter().chain(caught_starts)) {
+        assert!(n != usize::MAX, "the list does not tell {m} apart");
+        eprintln!("{m} told apart by a network of {n} gates");
+    }
+}
+
 // The networks, and what the program prints for them.
 fn sort_list(seed: u64, count: usize) -> (Vec<u8>, Vec<u8>) {
     let mut r = Numbers(seed);
-    let mut caught = vec![usize::MAX; MISTAKES.len()];
     let mut nets = smallest();
     for k in 0..count {
         nets.push(random(&mut r, k, count));
     }
-    let over = over_sizes();
-    let mut given = words(&[(nets.len() + over.len()) as u32]);
+    let refused = refused();
+    let mut given = words(&[(nets.len() + refused.len()) as u32]);
     let mut wanted = SORT_TOLD.to_string();
     let mut seen = [0; 3];
     for (n, p) in nets.iter().enumerate() {
         let s = sorted(p);
-        let mine = order(p, Mistake::Nothing).map(|o| permuted(p, &o));
-        assert!(s.as_ref().map(|x| cells(x)) == mine.as_ref().map(|x| cells(x)), "the plain sort and the Rust differ");
-        for (i, m) in MISTAKES.iter().enumerate() {
-            let other = order(p, *m).map(|o| permuted(p, &o));
-            if other.map(|x| cells(&x)) != s.as_ref().map(|x| cells(x)) {
-                caught[i] = caught[i].min(p.gates.len());
-            }
-        }
         seen[s.is_none() as usize] += 1;
         given += &sort_given(p);
         wanted += &format!("network {n}\n{}", sort_shown(p, s.as_ref().ok_or("loop")));
     }
-    for (n, p) in over.iter().enumerate() {
+    for (n, p) in refused.iter().enumerate() {
         seen[2] += 1;
         given += &sort_given(p);
         wanted += &format!("network {}\n{}", nets.len() + n, sort_shown(p, Err("refused")));
     }
-    eprintln!("networks sorted, with a loop, over the sizes: {seen:?}");
-    for (m, n) in MISTAKES.iter().zip(&caught) {
-        assert!(*n != usize::MAX, "the list does not tell {m:?} apart");
-        eprintln!("{m:?} told apart by a network of {n} gates");
-    }
+    eprintln!("networks sorted, with a loop, refused: {seen:?}");
+    tell_sort_mistakes(&nets);
     (given.into_bytes(), wanted.into_bytes())
 }
 

@@ -1,6 +1,7 @@
-// BLIF texts made from a seed, what Quaigh's `read_blif` makes of them, and what its `write_blif` writes.
-use crate::generate::{make, Numbers, Plain, Shape};
-use crate::io::blif::{read_blif, write_blif};
+// BLIF texts made from a seed, what Quaigh's `read_blif` makes of them, and the checks of crate worked_cases.
+use crate::generate::{make, Node, Numbers, Plain, Shape};
+use crate::io::blif::read_blif;
+use crate::lent::text as written;
 use crate::reads::{wanted, Wanted};
 use crate::{Network, Signal};
 use std::panic::{catch_unwind, AssertUnwindSafe};
@@ -68,6 +69,9 @@ fn cubes(r: &mut Numbers, inputs: usize) -> String {
     s
 }
 
+// What stands behind a latch's names; the last ones are refused.
+const STARTS: [&str; 10] = ["", " 0", " 1", " 3", " re clk", " re clk 2", " re clk 1", " x", " re", " re clk 10 1"];
+
 // A text: distinct names defined by inputs, latches and covers, used anywhere, with a fault now and then.
 pub fn text(r: &mut Numbers) -> String {
     let inputs = r.below(4);
@@ -87,7 +91,9 @@ pub fn text(r: &mut Numbers) -> String {
         }
         let out = names[inputs + g].clone();
         if r.below(3) == 0 {
-            s += &format!(".latch {} {out} re clk 2\r\n", name(r, &names));
+            let any = r.below(4) == 0;
+            let start = STARTS[r.below(if any { STARTS.len() } else { 7 })];
+            s += &format!(".latch {} {out}{start}\r\n", name(r, &names));
         } else {
             let n = r.below(4);
             let used: Vec<String> = (0..n).map(|_| name(r, &names)).collect();
@@ -140,15 +146,16 @@ fn listed(parts: Vec<String>) -> String {
 
 const FORMS: [&str; 14] = ["", "And2", "Xor2", "And3", "Xor3", "Maj3", "Mux3", "AndN", "OrN", "NandN", "NorN", "XorN", "XnorN", "Buf"];
 
-fn gate(form: u32, p: &[Signal]) -> String {
-    if form == 14 {
-        return format!("Dff (record {{ dataIn = {}; enable = {}; reset = {} }})", signal(&p[0]), signal(&p[1]), signal(&p[2]));
+fn gate(g: &Node) -> String {
+    if g.is_flop() {
+        let [d, e, r] = [0, 1, 2].map(|k| signal(&g.pins[k]));
+        return format!("Dff (record {{ dataIn = {d}; enable = {e}; reset = {r}; start = {} }})", g.start == 1);
     }
-    format!("Comb {} ({})", FORMS[form as usize], listed(p.iter().map(signal).collect()))
+    format!("Comb {} ({})", FORMS[g.form as usize], listed(g.pins.iter().map(signal).collect()))
 }
 
 fn net(p: &Plain) -> String {
-    let gates = listed(p.gates.iter().map(|(f, ps)| gate(*f, ps)).collect());
+    let gates = listed(p.gates.iter().map(gate).collect());
     format!("netFrom {} ({gates}) ({})", p.inputs, listed(p.outputs.iter().map(signal).collect()))
 }
 
@@ -158,17 +165,17 @@ fn quoted(text: &str) -> String {
 
 // Plain flip-flops, since Quaigh writes others in a notation of its own.
 pub fn plain_flops(mut p: Plain) -> Plain {
-    for (form, ps) in &mut p.gates {
-        if *form == 14 {
-            ps[1] = Signal::one();
-            ps[2] = Signal::zero();
-        }
+    for g in p.gates.iter_mut().filter(|g| g.is_flop()) {
+        g.pins[1] = Signal::one();
+        g.pins[2] = Signal::zero();
     }
     p
 }
 
 // The file specs/Stored.antt of that crate.
-const HEAD: &str = "-- Texts and networks made from a seed, with Quaigh's answers (tests/oracle/checks). Assumes nothing: these are definitions.
+const HEAD: &str = "-- Texts and networks made from a seed, with Quaigh's answers and document 02's start values (tests/oracle/checks). Assumes nothing: these
+-- are definitions.
+use mathlib.Core.Bool.{true, false}
 use mathlib.Core.List.{List, [], _∷_}
 use Rattle.lists.specs.Lists.{bytes}
 use Rattle.signal.specs.Signal.{Input, Var, plain, zeroS, oneS, invert}
@@ -199,10 +206,8 @@ pub fn checks(seed: u64, count: usize) -> String {
     for k in 0..count / 4 {
         let shape = Shape { inputs: k % 4, gates: k % 5, outputs: k % 3, wide: 3, loops: k % 2 == 0, flops: 1 + k % 4 };
         let p = plain_flops(make(&mut r, &shape));
-        let n = p.network();
-        let mut out = Vec::new();
-        if catch_unwind(AssertUnwindSafe(|| write_blif(&mut out, &n))).is_ok() {
-            parts.push(format!("writes ({}) (bytes \"{}\")", net(&p), quoted(std::str::from_utf8(&out).unwrap())));
+        if let Ok(t) = catch_unwind(|| written(&p)) {
+            parts.push(format!("writes ({}) (bytes \"{}\")", net(&p), quoted(&t)));
         }
     }
     eprintln!("{texts} texts, {} networks; answers (0 for read): {seen:?}", parts.len() - texts);

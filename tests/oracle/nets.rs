@@ -1,5 +1,5 @@
 // Networks by hand, with what document 01 says of each.
-use crate::generate::Plain;
+use crate::generate::{Node, Plain};
 use crate::lent::{lent, text, Lent, MAX_TEXT};
 use crate::Signal;
 
@@ -23,7 +23,7 @@ const ZERO: fn() -> Signal = Signal::zero;
 const ONE: fn() -> Signal = Signal::one;
 
 pub fn net(inputs: usize, gates: Gates, outputs: Vec<Signal>) -> Plain {
-    Plain { inputs, gates, outputs }
+    Plain { inputs, gates: gates.into_iter().map(|(form, pins)| Node::new(form, pins)).collect(), outputs }
 }
 
 // A text of names behind a blank each, latch lines, and the lines from the gates to the inverters.
@@ -145,10 +145,42 @@ fn flops() -> Vec<(Plain, Hand)> {
     for (k, e) in signals.iter().enumerate() {
         for (j, r) in signals.iter().enumerate() {
             let gates = vec![(14, vec![signals[(k + j) % 10], *e, *r]), (7, vec![x(0)])];
-            all.push((net(2, gates, vec![x(1)]), Hand::Compared));
+            let ones: &[usize] = if (k + j) % 3 == 0 { &[0] } else { &[] };
+            all.push((net(2, gates, vec![x(1)]).starting(ones), Hand::Compared));
         }
     }
     all
+}
+
+// Start values: in both lines, of several flip-flops among gates, and of more than nine.
+fn starts() -> Vec<(Plain, Hand)> {
+    let one = |d, e, r, line: &str, rest: &str| {
+        (net(3, vec![(14, vec![d, e, r])], vec![]).starting(&[0]), full(" i0 i1 i2", "", &format!("{line}\n"), rest))
+    };
+    let latch = |d| (14, vec![d, ONE(), ZERO()]);
+    let mixed = |ones: &[usize], latches: &str| {
+        let gates = vec![latch(x(2)), (13, vec![i(0)]), (14, vec![i(0), x(1), ZERO()]), latch(i(0)), (14, vec![ONE(), ONE(), x(1)])];
+        (net(1, gates, vec![]).starting(ones), full(" i0", "", latches, ".names i0 x1\n1 1\n"))
+    };
+    let row = |n: u32| net(1, (0..n).map(|k| latch(if k == 0 { i(0) } else { x(k - 1) })).collect(), vec![]);
+    let line = |k: u32, v: u32| if k == 0 { format!(".latch i0 x0 {v}\n") } else { format!(".latch x{} x{k} {v}\n", k - 1) };
+    let third: Vec<usize> = (0..12).step_by(3).collect();
+    vec![
+        one(i(0), ONE(), ZERO(), ".latch i0 x0 1", ""),
+        one(ONE(), ONE(), ZERO(), ".latch vdd x0 1", ""),
+        one(!x(0), ONE(), ZERO(), ".latch x0_n x0 1", ".names x0 x0_n\n0 1\n"),
+        one(i(0), i(1), i(2), ".flop D=i0 Q=x0 init=1 E=i1 R=i2", ""),
+        one(i(0), i(1), ZERO(), ".flop D=i0 Q=x0 init=1 E=i1", ""),
+        one(i(0), ONE(), i(2), ".flop D=i0 Q=x0 init=1 R=i2", ""),
+        one(i(0), ZERO(), ONE(), ".flop D=i0 Q=x0 init=1 E=gnd R=vdd", ""),
+        mixed(&[], ".latch x2 x0 0\n.flop D=i0 Q=x2 init=0 E=x1\n.latch i0 x3 0\n.flop D=vdd Q=x4 init=0 R=x1\n"),
+        mixed(&[0], ".latch x2 x0 1\n.flop D=i0 Q=x2 init=0 E=x1\n.latch i0 x3 0\n.flop D=vdd Q=x4 init=0 R=x1\n"),
+        mixed(&[2], ".latch x2 x0 0\n.flop D=i0 Q=x2 init=1 E=x1\n.latch i0 x3 0\n.flop D=vdd Q=x4 init=0 R=x1\n"),
+        mixed(&[3], ".latch x2 x0 0\n.flop D=i0 Q=x2 init=0 E=x1\n.latch i0 x3 1\n.flop D=vdd Q=x4 init=0 R=x1\n"),
+        mixed(&[0, 4], ".latch x2 x0 1\n.flop D=i0 Q=x2 init=0 E=x1\n.latch i0 x3 0\n.flop D=vdd Q=x4 init=1 R=x1\n"),
+        mixed(&[0, 2, 3, 4], ".latch x2 x0 1\n.flop D=i0 Q=x2 init=1 E=x1\n.latch i0 x3 1\n.flop D=vdd Q=x4 init=1 R=x1\n"),
+        (row(12).starting(&third), full(" i0", "", &(0..12).map(|k| line(k, (k % 3 == 0) as u32)).collect::<String>(), "")),
+    ]
 }
 
 // Inverters: which signals get one, once, and in which order.
@@ -199,9 +231,9 @@ fn wide() -> Vec<(Plain, Hand)> {
 
 // The network with an And of one input again and again, and outputs, until its text has so many bytes.
 fn filled(mut p: Plain, bytes: usize) -> Plain {
-    p.gates.push((7, vec![i(0)]));
+    p.gates.push(Node::new(7, vec![i(0)]));
     let missing = (bytes - text(&p).len()) / 4 - 150;
-    p.gates.last_mut().unwrap().1.extend(vec![i(0); missing]);
+    p.gates.last_mut().unwrap().pins.extend(vec![i(0); missing]);
     let left = bytes - text(&p).len();
     p.outputs.extend(vec![ZERO(); left % 3]);
     p.outputs.extend(vec![i(0); left / 3 - left % 3]);
@@ -218,7 +250,7 @@ fn sizes() -> Vec<(Plain, Hand)> {
     let many = || net(1, vec![(13, vec![!i(0)]); 1023], vec![]);
     vec![
         (net(256, each(7, vec![]), all_inputs), Hand::Compared),
-        (net(256, each(14, vec![i(255), ONE(), ZERO()]), all_gates), Hand::Compared),
+        (net(256, each(14, vec![i(255), ONE(), ZERO()]), all_gates).starting(&(0..1024).step_by(5).collect::<Vec<_>>()), Hand::Compared),
         (net(1, (0..1024).map(|k| (13, vec![!x(1023 - k)])).collect(), vec![!x(1023)]), Hand::Compared),
         (net(1, vec![(8, vec![i(0); 8100])], vec![]), Hand::Compared),
         (net(1, vec![(9, vec![i(0); 16384])], vec![]), Hand::Refused(22)),
@@ -249,13 +281,14 @@ fn rooms() -> Vec<(Lent, Hand)> {
 }
 
 pub fn by_hand() -> Vec<(Lent, Hand)> {
-    let plain = [worked(), covers(), flops(), inverters(), wide(), sizes()];
+    let plain = [worked(), covers(), flops(), starts(), inverters(), wide(), sizes()];
     let mut all: Vec<(Lent, Hand)> = plain.into_iter().flatten().map(|(p, h)| (lent(&p), h)).collect();
     all.extend(rooms());
     all
 }
 
-// Every network of one gate over one input, with each pin a constant, the input or the gate, inverted or not; Nary of up to two pins.
+// Every network of one gate over one input, with each pin a constant, the input or the gate, inverted or not; Nary of up to two pins; a
+// flip-flop with both start values.
 pub fn singles() -> Vec<Lent> {
     let signals = [ZERO(), ONE(), i(0), !i(0), x(0), !x(0)];
     let mut runs: Vec<Vec<Vec<Signal>>> = vec![vec![vec![]]];
@@ -271,7 +304,9 @@ pub fn singles() -> Vec<Lent> {
             _ => 3..4,
         };
         for run in counts.flat_map(|n| runs[n].clone()) {
-            all.push(lent(&net(1, vec![(form, run)], vec![x(0)])));
+            let p = net(1, vec![(form, run)], vec![x(0)]);
+            all.push(lent(&p));
+            all.extend((form == 14).then(|| lent(&p.starting(&[0]))));
         }
     }
     all

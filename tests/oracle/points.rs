@@ -176,6 +176,210 @@ const ENDED: &[(u32, &str)] = &[
     (10, ".model m\n.inputs .end\n.inputs .end"),
 ];
 
+// Start values of latches (document 02, CR 4): which token is one, by how many there are, and what it may be.
+const STARTS: &[(u32, &str)] = &[
+    // two tokens, and three
+    (0, ".latch q q"),
+    (0, ".latch q q 0"),
+    (0, ".latch q q 1"),
+    (0, ".latch q q 2"),
+    (0, ".latch q q 3"),
+    (34, ".latch q q 4"),
+    (34, ".latch q q 9"),
+    (34, ".latch q q /"),
+    (34, ".latch q q re"),
+    (34, ".latch q q fe"),
+    (34, ".latch q q as"),
+    (34, ".latch q q NIL"),
+    (34, ".latch q q q"),
+    (34, ".latch q q -"),
+    (34, ".latch q q x"),
+    (34, ".latch q q 00"),
+    (34, ".latch q q 01"),
+    (34, ".latch q q 10"),
+    (34, ".latch q q 11"),
+    (34, ".latch q q 21"),
+    (34, ".latch q q 12"),
+    (34, ".latch q q +1"),
+    (34, ".latch q q -1"),
+    (34, ".latch q q 1.0"),
+    (34, ".latch q q 0x1"),
+    (34, ".latch q q \x00"),
+    (34, ".latch q q 1\x00"),
+    (34, ".latch q q \x01"),
+    (34, ".latch q q \x1f"),
+    (34, ".latch q q ."),
+    (34, ".latch q q .end"),
+    (34, ".latch q q \""),
+    (34, ".latch q q =1"),
+    (34, ".latch q q init=1"),
+    // four: none is looked at
+    (0, ".latch q q re c"),
+    (0, ".latch q q re 0"),
+    (0, ".latch q q re 1"),
+    (0, ".latch q q 1 1"),
+    (0, ".latch q q 4 4"),
+    (0, ".latch q q x x"),
+    (0, ".latch q q 1 0"),
+    (0, ".latch q q 0 1"),
+    // five: the fifth
+    (0, ".latch q q re c 0"),
+    (0, ".latch q q re c 1"),
+    (0, ".latch q q re c 2"),
+    (0, ".latch q q re c 3"),
+    (34, ".latch q q re c 4"),
+    (34, ".latch q q re c x"),
+    (34, ".latch q q re c -"),
+    (34, ".latch q q re c 01"),
+    (34, ".latch q q re c 10"),
+    (34, ".latch q q re c re"),
+    (34, ".latch q q re c NIL"),
+    (0, ".latch q q re NIL 1"),
+    (0, ".latch q q x c 1"),
+    (0, ".latch q q 4 4 1"),
+    (0, ".latch q q 1 0 0"),
+    (0, ".latch q q 0 1 0"),
+    (0, ".latch q q 0 0 1"),
+    (34, ".latch q q 1 1 4"),
+    (34, ".latch q q 0 0 x"),
+    // six and more: the fifth
+    (0, ".latch q q re c 0 1"),
+    (0, ".latch q q re c 1 0"),
+    (0, ".latch q q re c 1 x"),
+    (0, ".latch q q 4 4 1 4"),
+    (0, ".latch q q 1 1 0 1"),
+    (34, ".latch q q re c x 1"),
+    (34, ".latch q q 1 1 4 1"),
+    (0, ".latch q q re c 1 x x"),
+    (0, ".latch q q re c 3 1 1 1"),
+    (0, ".latch q q 1 1 2 1 1 1 1 1 1 1"),
+    (34, ".latch q q re c 01 1 1"),
+    (34, ".latch q q 0 0 00 0 0 0 0 0"),
+    // ends of lines, comments, backslashes and blanks around it
+    (0, ".latch q q 1\n"),
+    (0, ".latch q q 1\r\n"),
+    (0, ".latch q q 1\r"),
+    (0, ".latch q q 1 "),
+    (0, ".latch q q 1 \t\r\x0b\x0c"),
+    (0, ".latch q q 1#"),
+    (0, ".latch q q 1# x"),
+    (0, ".latch q q 1 # re c 0"),
+    (0, ".latch q q #1"),
+    (0, ".latch q q # x"),
+    (34, ".latch q q re # c 1"),
+    (0, ".latch q q re c#1"),
+    (0, ".latch q q 1\\"),
+    (0, ".latch q q 1\\\n"),
+    (0, ".latch q q 1 \\\n"),
+    (0, ".latch q q \\\n1"),
+    (0, ".latch q q\\\n1"),
+    (0, ".latch q q \\\r\n1\r\n"),
+    (0, ".latch\\\nq\\\nq\\\nre\\\nc\\\n1"),
+    (0, ".latch q q re \\\nc \\\n1 \\\n0"),
+    (0, ".latch q q 1 \\\n1"),
+    (34, ".latch q q 1 \\\n1 \\\n4"),
+    (34, ".latch q q \\\nx"),
+    (34, ".latch q \\\nq\\\n 01"),
+    (34, ".latch q q 0\\ "),
+    (34, ".latch q q 0\\\\"),
+    (34, ".latch q q 1\\#"),
+    (34, ".latch q q 0\\\r"),
+    (34, ".latch q q \\ "),
+    (0, ".latch q q \\ 1"),
+    (0, ".latch q q \\ 1 1"),
+    (0, ".latch q q\n1"),
+    (0, ".latch q q\n\n4"),
+    (0, ".latch q q 1\n4"),
+];
+
+// Where 34 stands in the order of refusals.
+const STARTS_ORDER: &[(u32, &str)] = &[
+    // a latch with fewer than two names is 4
+    (4, ".latch 4"),
+    (4, ".latch x # q 4"),
+    (4, ".latch"),
+    // the first bad statement of 4, 5 and 34
+    (34, ".latch q q x\n.latch d"),
+    (4, ".latch d\n.latch q q x"),
+    (34, ".latch q q x\n.model"),
+    (4, ".model\n.latch q q x"),
+    (34, ".latch q q x\n.gate"),
+    (5, ".gate\n.latch q q x"),
+    (34, ".latch q q x\n.gate\n.model"),
+    (5, ".gate\n.latch q q x\n.model"),
+    (4, ".model\n.latch q q x\n.gate"),
+    (34, ".latch q q re c x\n.flop D=q Q=r init=4"),
+    (5, ".flop D=q Q=r init=4\n.latch q q re c x"),
+    (34, ".latch q q 1\n.latch r r x\n.latch d\n.gate"),
+    (34, ".latch q q\n.latch r r re c 1\n.latch s s 5"),
+    // before 7 to 14
+    (34, ".model m\n.model n\n.latch q q x"),
+    (34, ".end\n.latch q q x"),
+    (34, ".names\n.latch q q x"),
+    (34, ".inputs q\n.latch q q x"),
+    (34, ".latch q q x\n.latch q q 0"),
+    (34, ".latch d q x"),
+    (34, ".outputs y\n.latch q q x"),
+    (34, ".names y\n2\n.latch q q x"),
+    (34, ".names y\n1\n0\n.latch q q x"),
+    (34, ".names y y\n1 1\n.latch q q x"),
+    // a good value beside them
+    (7, ".model m\n.model n\n.latch q q 1"),
+    (8, ".end\n.latch q q 1"),
+    (9, ".names\n.latch q q 1"),
+    (10, ".inputs q\n.latch q q 1"),
+    (11, ".latch d q 1"),
+    (11, ".latch d q re c 1"),
+    (12, ".names y\n2\n.latch q q 1"),
+    (14, ".names y y\n1 1\n.latch q q 1"),
+    // behind `.exdc` and `.end`
+    (34, ".exdc\n.latch q q x"),
+    (34, ".exdc\n.latch q q re c 4"),
+    (34, ".model m\n.end\n.latch q q x"),
+    (34, ".model m\n.end\n.latch q q re c 4"),
+    (34, ".model m\n.end\n.exdc\n.latch q q x"),
+    (34, ".exdc\n.end\n.latch q q x"),
+    (34, ".model m\n.end\n.latch q q x\n.gate"),
+    (5, ".model m\n.end\n.gate\n.latch q q x"),
+    (34, ".exdc\n.latch q q x\n.latch d"),
+    (4, ".exdc\n.latch d\n.latch q q x"),
+    (34, ".model m\n.latch q q 1\n.end\n.latch r r x"),
+    (34, ".latch q q 1\n.exdc\n.latch r r x"),
+    (0, ".model m\n.end\n.latch q q 1"),
+    (0, ".exdc\n.latch d q re c 3"),
+    (0, ".model m\n.latch q q\n.end\n.latch r r 1"),
+    (0, ".latch q q\n.exdc\n.latch r r 1"),
+    // not a latch
+    (0, ".inputs q x\n.outputs q x"),
+    (0, ".inputs a\n.names a y\n1 1\n.latch y q 1\n2 2 2 2"),
+    (0, ".model m .latch q q x\n.end .latch q q x"),
+    (0, "# .latch q q x"),
+    (5, ".latches q q x"),
+];
+
+// Several latches: which flip-flop starts at one.
+const STARTED: &[(u32, &str)] = &[
+    (0, ".latch q q 1\n.latch r r 0"),
+    (0, ".latch q q 0\n.latch r r 1"),
+    (0, ".latch q r 1\n.latch r q 2"),
+    (0, ".latch q r 3\n.latch r q 1"),
+    (0, ".latch a a 0\n.latch b b 1\n.latch c c 2\n.latch d d 3\n.latch e e\n.latch f f re k\n.latch g g re k 1\n.latch h h re k 0 1"),
+    (0, ".latch a a 1\n.latch b b 1\n.latch c c 1\n.latch d d 0"),
+    (0, ".latch a b 1\n.latch b c\n.latch c a re k 1\n.outputs c b a"),
+    // among covers, whose gates the sort puts behind the flip-flops
+    (0, ".inputs a\n.names a x\n1 1\n.latch x q 1\n.outputs q"),
+    (0, ".inputs a\n.names a x\n1 1\n.latch x q 1\n.names q y\n0 1\n.latch y r 0\n.outputs q r"),
+    (0, ".inputs a\n.names a x\n1 1\n.latch x q 0\n.names q y\n0 1\n.latch y r 1\n.outputs q r"),
+    (0, ".inputs a\n.names y x\n1 1\n.names a y\n0 1\n.latch x q\n.latch y r 1\n.names q r w\n11 1\n.latch w s re k 1\n.outputs s r q"),
+    (0, ".names q r y\n11 1\n00 1\n.latch y q 1\n.names q z\n0 0\n.latch z r 3\n.latch r s 1\n.outputs y"),
+    (0, ".inputs a b\n.names a b x\n11 0\n00 0\n.latch x q re k 1\n.names q b y\n10 0\n01 0\n.latch y r re k 2\n.outputs q r"),
+    (0, ".outputs r q\n.latch d r 1\n.names q d\n0 1\n.latch r q\n.names d e\n1 1\n.latch e p re k 1\n.inputs i"),
+    // before `.end` and before `.exdc`
+    (0, ".model m\n.latch q q 1\n.end\n.latch q q 0\n.latch r r 1"),
+    (0, ".model m\n.names y\n.latch y q 1\n.end\n.names q\n.latch q y 0"),
+    (0, ".latch q q 1\n.names y\n.latch y r 0\n.exdc\n.latch s s 1"),
+];
+
 const COVERS: &[(u32, &str)] = &[
     // directly after: empty and comment lines do not interrupt, statements do
     (0, ".inputs a\n.outputs y\n.names a y\n\n# c\n1 1\n \n0 1"),
@@ -226,10 +430,11 @@ const COVERS: &[(u32, &str)] = &[
     (0, ".names q d\n1 1\n.latch d q"),
     (0, ".latch q q\n.outputs q"),
     (0, ".latch p q\n.latch q p\n.outputs p q"),
-    // a latch's second name is its output; what follows is not looked at
+    // a latch's second name is its output; type and control are not looked at
     (0, ".inputs a\n.outputs q\n.latch a q re c 1"),
     (0, ".inputs a\n.outputs q\n.latch a q"),
-    (11, ".inputs q\n.latch a b q"),
+    (11, ".inputs q\n.latch a b q q"),
+    (11, ".inputs c\n.latch a b re c 1"),
     // names of one tree of the index, names of one hash, and names that begin alike
     (0, ".inputs aa xh a aab aaa\n.outputs xh aa aaa a aab"),
     (11, ".inputs aa\n.outputs xh"),
@@ -261,20 +466,24 @@ const HIGH: &[(u32, &[u8])] = &[
     (3, b".foo\x80"),
     (3, b".model\n\xc3\xa9"),
     (3, b".exdc\n# \xe2\x80\x83"),
+    (3, b".latch q q \xb1"),
+    (3, b".latch q q x\n\x80"),
+    (3, b"\xff\n.latch q q x"),
     (0, b"\x7f"),
 ];
 
 pub fn by_hand() -> Vec<(u32, Vec<u8>)> {
-    let parts = [CASES, LINES, ORDER, COVERS, SORT, ENDED].concat();
+    let parts = [CASES, LINES, ORDER, STARTS, STARTS_ORDER, STARTED, COVERS, SORT, ENDED].concat();
     let mut all: Vec<(u32, Vec<u8>)> = parts.iter().map(|(k, t)| (*k, t.as_bytes().to_vec())).collect();
     all.extend(HIGH.iter().map(|(k, t)| (*k, t.to_vec())));
     all.extend(sizes());
     all
 }
 
-// What short sequences are made of: statements; ends of lines behind names; lines of a cover of two names.
-const STATEMENTS: &[&str] = &[".names a\n", ".inputs a\n", ".outputs a\n", "1\n", "1 1\n", ".end\n", ".model m\n", ".latch a b\n"];
+// What short sequences are made of: statements; ends of lines behind names; what stands behind a latch's names; lines of a cover of two names.
+const STATEMENTS: &[&str] = &[".names a\n", ".inputs a\n", ".outputs a\n", "1\n", "1 1\n", ".end\n", ".model m\n", ".latch a b 1\n"];
 const ENDS: &[&str] = &["\\", "\n", "\r", " ", "#", "b", ".end"];
+const BEHIND: &[&str] = &[" 0", " 1", " 3", " x", "\\\n", "\n1"];
 const ROWS: &[&str] = &["11 1\n", "0- 1\n", "-- 0\n", "10 0\n", "1 1\n", "2- 1\n", ".names a b\n"];
 
 // Every sequence of up to so many fragments behind a text, the shorter ones first.
@@ -290,5 +499,6 @@ pub fn every(before: &'static str, fragments: &'static [&'static str], depth: u3
 pub fn sequences(depth: u32) -> impl Iterator<Item = Vec<u8>> {
     every("", STATEMENTS, depth)
         .chain(every(".model m\n.outputs a b\n.inputs a", ENDS, depth))
+        .chain(every(".latch a a", BEHIND, depth))
         .chain(every(".inputs a c\n.outputs y\n.names a c y\n", ROWS, depth))
 }

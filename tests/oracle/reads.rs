@@ -1,11 +1,13 @@
 // Texts, and what reading must answer for each: what Quaigh's `read_blif` answers, for a text with statements behind `.end` to the part up to it,
-// with document 01's numbers and sizes and its And where cover lines with output 0 are joined.
+// with document 01's numbers and sizes and its And where cover lines with output 0 are joined; 34 and the start values, which Quaigh ignores,
+// by starts.rs.
 use crate::{cells, line};
 use crate::compare::{number, Case};
-use crate::generate::{Numbers, Plain};
+use crate::generate::{Node, Numbers, Plain};
 use crate::io::statements::{
-    goes_on_behind_end, network_with, parsed_with, parses, too_large, too_large_with, up_to_end, with_ones, EndMistake, END_MISTAKES,
+    goes_on_behind_end, latches, network_with, parsed_with, parses, too_large, too_large_with, up_to_end, with_ones, EndMistake, END_MISTAKES,
 };
+use crate::starts::{self, first_of_quaigh, first_refusal, has_34, started};
 use crate::models::{built, outcome, Answer};
 use crate::points;
 use crate::smaller_texts;
@@ -28,6 +30,7 @@ enum Source {
     Error,  // Quaigh's message
     Panic,  // Quaigh's panic
     Limit,  // a size or a byte that Quaigh takes
+    Start,  // a start value, which Quaigh ignores
 }
 
 // A network as read, with And in place of the Nand that joins a cover's lines: those gates are an Or when the outputs are 1.
@@ -36,10 +39,10 @@ fn joined_by_and(text: &[u8], mut p: Plain) -> (Plain, bool) {
     assert!(p.outputs == ones.outputs && p.gates.len() == ones.gates.len(), "a gate moved");
     let mut any = false;
     for (gate, other) in p.gates.iter_mut().zip(&ones.gates) {
-        let bare = |g: &(u32, Vec<crate::Signal>)| g.1.iter().filter(|s| s.is_var()).map(|s| s.var()).collect::<Vec<_>>();
+        let bare = |g: &Node| g.pins.iter().filter(|s| s.is_var()).map(|s| s.var()).collect::<Vec<_>>();
         assert!(bare(gate) == bare(other), "a gate moved");
-        if gate.0 == 9 && other.0 == 8 {
-            gate.0 = 7;
+        if gate.form == 9 && other.form == 8 {
+            gate.form = 7;
             any = true;
         }
     }
@@ -52,17 +55,42 @@ pub fn wanted(text: &[u8]) -> Wanted {
 }
 
 fn sourced(text: &[u8]) -> (Wanted, Source) {
+    with_starts(text, starts::Mistake::Nothing)
+}
+
+// The same with a mistake about start values.
+fn with_starts(text: &[u8], m: starts::Mistake) -> (Wanted, Source) {
+    let wrong_start = (Wanted::Refused(34), Source::Start);
+    let before = |limit: starts::Mistake| m == limit && has_34(text);
     if text.len() > MAX_TEXT {
-        return (Wanted::Refused(2), Source::Limit);
+        return if before(starts::Mistake::BeforeLength) { wrong_start } else { (Wanted::Refused(2), Source::Limit) };
     }
     if text.iter().any(|b| *b >= 128) {
-        return (Wanted::Refused(3), Source::Limit);
+        return if before(starts::Mistake::BeforeBytes) { wrong_start } else { (Wanted::Refused(3), Source::Limit) };
     }
-    match catch_unwind(|| parses(text)) {
-        Err(_) => (Wanted::Refused(4), Source::Panic),
-        Ok(false) => (Wanted::Refused(5), Source::Error),
-        Ok(true) => by_model(if goes_on_behind_end(text) { up_to_end(text) } else { text }),
+    match (first_refusal(text, m), by_statement(text), m) {
+        (Some(34), None, starts::Mistake::Behind(k)) if matches!(in_model(text, m).0, Wanted::Refused(n) if n == k) => in_model(text, m),
+        (Some(34), _, _) => wrong_start,
+        (_, Some(4), _) => (Wanted::Refused(4), Source::Panic),
+        (_, Some(k), _) => (Wanted::Refused(k), Source::Error),
+        (_, None, _) => in_model(text, m),
     }
+}
+
+// What reading must answer for a text that parses: what it answers for the part up to `.end`.
+fn in_model(text: &[u8], m: starts::Mistake) -> (Wanted, Source) {
+    by_model(if goes_on_behind_end(text) { up_to_end(text) } else { text }, m)
+}
+
+// Which of 4 and 5 comes first in a text, by Quaigh; the plain look at it must find the same.
+fn by_statement(text: &[u8]) -> Option<u32> {
+    let found = match catch_unwind(|| parses(text)) {
+        Err(_) => Some(4),
+        Ok(false) => Some(5),
+        Ok(true) => None,
+    };
+    assert!(found == first_of_quaigh(text), "{:?}: {found:?} by Quaigh, not by the plain look", text.escape_ascii().to_string());
+    found
 }
 
 // What Quaigh answers for a text that parses, after 6.
@@ -78,24 +106,24 @@ fn in_quaigh(a: Answer) -> String {
     }
 }
 
-// What reading must answer for a text that parses, if all of it is the model's.
-fn by_model(text: &[u8]) -> (Wanted, Source) {
+// What reading must answer for a text that parses, if all of it is the model's; with a mistake about start values.
+fn by_model(text: &[u8], m: starts::Mistake) -> (Wanted, Source) {
     match by_quaigh(text) {
         (Answer::Refused(6), _) => (Wanted::Refused(6), Source::Limit),
         (Answer::Refused(k), panicked) => (Wanted::Refused(k), if panicked { Source::Panic } else { Source::Error }),
         (Answer::Read(n), _) => {
             let p = Plain::of(&n);
-            let nand = p.gates.iter().any(|(form, _)| *form == 9);
+            let nand = p.gates.iter().any(|g| g.form == 9);
             let (p, any) = if nand { joined_by_and(text, p) } else { (p, false) };
-            (Wanted::Read(p), if any { Source::Joined } else { Source::Same })
+            (Wanted::Read(started(text, p, &latches(text), m)), if any { Source::Joined } else { Source::Same })
         }
     }
 }
 
 // Whether statements stand behind the `.end` that stops a text, and whether Quaigh answers otherwise for the whole of it.
 fn behind_end(text: &[u8], w: &Wanted) -> [bool; 2] {
-    let some = !matches!(w, Wanted::Refused(2..=5)) && goes_on_behind_end(text);
-    [some, some && shown(&by_model(text).0) != shown(w)]
+    let some = !matches!(w, Wanted::Refused(2..=5 | 34)) && goes_on_behind_end(text);
+    [some, some && in_quaigh(by_quaigh(text).0) != in_quaigh(by_quaigh(up_to_end(text)).0)]
 }
 
 // What a reader answers that goes wrong at `.end`, in Quaigh's networks; 0 where it breaks down.
@@ -115,10 +143,29 @@ fn with_mistake(text: &[u8], m: EndMistake) -> String {
     }
 }
 
-// Prints the shortest text that tells each mistake at `.end` apart, where it does not break down; there must be one. Without a mistake, the
+// Prints the shortest text that tells a mistake apart; there must be one.
+fn print_apart<'a>(m: &str, apart: impl Iterator<Item = &'a Vec<u8>>) {
+    let apart = apart.min_by_key(|t| t.len()).unwrap_or_else(|| panic!("the list does not tell {m} apart"));
+    let shown = apart.escape_ascii().to_string();
+    eprintln!("{m} told apart by {} bytes: {}", apart.len(), &shown[..shown.len().min(60)]);
+}
+
+// The same of each mistake about start values.
+fn tell_start_mistakes(texts: &[Text]) {
+    let latched: Vec<&Vec<u8>> = texts.iter().map(|t| &t.0).filter(|t| t.windows(6).any(|w| w == b".latch")).collect();
+    let right: Vec<String> = latched.iter().map(|t| shown(&wanted(t))).collect();
+    for m in starts::mistakes() {
+        let apart = latched.iter().zip(&right).filter(|(t, right)| shown(&with_starts(t, m).0) != **right);
+        print_apart(&format!("{m:?} of start values"), apart.map(|(t, _)| *t));
+    }
+    eprintln!("{} mistakes of start values told apart", starts::mistakes().len());
+}
+
+// The same of each mistake at `.end`, by texts at which it does not break down; those refused by 34 are left out. Without a mistake, the
 // statements up to `.end` have to give what the text up to it gives.
 fn tell_end_mistakes(texts: &[Text]) {
-    let few: Vec<&Vec<u8>> = texts.iter().map(|t| &t.0).filter(|t| t.len() <= MAX_TEXT && t.is_ascii()).collect();
+    let fits = |t: &&Vec<u8>| t.len() <= MAX_TEXT && t.is_ascii() && !has_34(t);
+    let few: Vec<&Vec<u8>> = texts.iter().map(|t| &t.0).filter(fits).collect();
     for t in &few {
         let right = with_mistake(t, EndMistake::Nothing);
         let parsed = catch_unwind(|| parses(t)).unwrap_or(false);
@@ -126,10 +173,7 @@ fn tell_end_mistakes(texts: &[Text]) {
     }
     for m in END_MISTAKES {
         let told = |t: &&&Vec<u8>| ![with_mistake(t, EndMistake::Nothing), shown(&Wanted::Refused(0))].contains(&with_mistake(t, m));
-        let apart = few.iter().filter(told).min_by_key(|t| t.len());
-        let apart = apart.unwrap_or_else(|| panic!("the list does not tell {m:?} apart"));
-        let shown = apart.escape_ascii().to_string();
-        eprintln!("{m:?} told apart by {} bytes: {}", apart.len(), &shown[..shown.len().min(60)]);
+        print_apart(&format!("{m:?}"), few.iter().filter(told).copied());
     }
 }
 
@@ -197,6 +241,8 @@ impl Case for Text {
         "refused where Quaigh gives a message",
         "refused where Quaigh panics",
         "refused for a size or a byte that Quaigh takes",
+        "refused for a start value, which Quaigh ignores",
+        "read, with a start value of one",
         "with statements behind `.end`, as Quaigh answers for the part up to it",
         "of these, where Quaigh answers otherwise for the whole",
     ];
@@ -212,8 +258,9 @@ impl Case for Text {
 
     fn answer(&self) -> (Vec<u8>, Vec<bool>) {
         let (w, source) = sourced(&self.0);
-        let sources = [Source::Same, Source::Joined, Source::Error, Source::Panic, Source::Limit];
-        let notes = [&sources.map(|s| s == source)[..], &behind_end(&self.0, &w)].concat();
+        let sources = [Source::Same, Source::Joined, Source::Error, Source::Panic, Source::Limit, Source::Start];
+        let one = matches!(&w, Wanted::Read(p) if p.gates.iter().any(|g| g.start == 1));
+        let notes = [&sources.map(|s| s == source)[..], &[one], &behind_end(&self.0, &w)].concat();
         (shown(&w).into_bytes(), notes)
     }
 
@@ -241,7 +288,8 @@ pub fn lists(seed: u64, count: usize) -> (Vec<u8>, Vec<u8>) {
     }
     wanted.extend(SHORT.bytes());
     eprintln!("{} texts; answers (0 for read): {seen:?}", texts.len());
-    assert!((2..15).all(|k| seen.contains_key(&k)), "a refusal does not occur");
+    assert!((2..15).chain([34]).all(|k| seen.contains_key(&k)), "a refusal does not occur");
     tell_end_mistakes(&texts);
+    tell_start_mistakes(&texts);
     (given, wanted)
 }

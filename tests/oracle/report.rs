@@ -8,7 +8,7 @@ pub const MOST_SHEET: usize = 40960;
 pub const MOST_NETLIST: usize = 32768;
 
 // The cells that refusal 1 asks for: gates, pins, outputs, working gates and working pins.
-pub const CELLS: [usize; 5] = [3072, 16384, 256, 3072, 16384];
+pub const CELLS: [usize; 5] = [4096, 16384, 256, 4096, 16384];
 
 // What a report is asked for: both files, the output slice's length and how many cells of each kind are lent.
 #[derive(Clone)]
@@ -55,6 +55,7 @@ pub enum Mistake {
     EmptyLines,         // 32: empty lines are left out
     WidthRefused,       // 32, not 31, for a row of another length than the first
     EmptyRefused,       // 32, not 31, for an empty row
+    OldCells,           // 1: 3,072 cells for gates are enough
     NetlistFirst,       // the reader's refusals before 32
     CellsFirst,         // 1 before 32
     OutputsFirst,       // 33 before 32
@@ -79,7 +80,7 @@ pub enum Mistake {
     AnyOutput,          // one output of one is enough
     EveryOutput,        // all outputs must be one
     Swapped,            // accepted and rejected the other way round
-    HeldCleared,        // held bits are cleared between rows
+    HeldCleared,        // every row begins at the start values
     StopsAtReject,      // rows behind a rejected one are rejected
     LastRowDropped,     // the last row is not counted
     OneDigit,           // counts by their last digit
@@ -95,7 +96,7 @@ pub enum Mistake {
 }
 
 // The mistakes without a parameter.
-const MISTAKES: [Mistake; 53] = [
+const MISTAKES: [Mistake; 54] = [
     Mistake::NoRows,
     Mistake::NoLetters,
     Mistake::LeadingZeros,
@@ -117,6 +118,7 @@ const MISTAKES: [Mistake; 53] = [
     Mistake::EmptyLines,
     Mistake::WidthRefused,
     Mistake::EmptyRefused,
+    Mistake::OldCells,
     Mistake::NetlistFirst,
     Mistake::CellsFirst,
     Mistake::OutputsFirst,
@@ -175,7 +177,7 @@ pub fn mistakes() -> Vec<Mistake> {
 fn never_read(m: &Mistake) -> bool {
     use simulate::Mistake::*;
     let Mistake::Simulated(s) = m else { return false };
-    matches!(s, MuxOtherWay | MajOfThree | OrForXor | NandForNor | NothingIsZero | OutputNotInverted)
+    matches!(s, MuxOtherWay | MajOfThree | OrForXor | NandForNor | NothingIsZero | OutputNotInverted | StartsByNumber)
 }
 
 // ---- the sheet
@@ -334,7 +336,7 @@ fn refusal(a: &Asked, s: Option<&Sheet>, w: &Wanted, m: Mistake) -> Option<u32> 
     };
     let holds = |k: u32| match (k, w) {
         (32, _) => s.is_none().then_some(32),
-        (1, _) => short(a).then_some(1),
+        (1, _) => (short(a) && !(m == Mistake::OldCells && old_cells(a))).then_some(1),
         (0, Wanted::Refused(n)) => Some(*n),
         (33, Wanted::Read(p)) => without_output(p, m).then_some(33),
         (31, _) => s.is_some_and(|s| wrong_rows(w, s, m)).then_some(31),
@@ -346,6 +348,11 @@ fn refusal(a: &Asked, s: Option<&Sheet>, w: &Wanted, m: Mistake) -> Option<u32> 
 // Whether fewer cells are lent than refusal 1 asks for.
 pub fn short(a: &Asked) -> bool {
     a.cells.iter().zip(CELLS).any(|(n, least)| *n < least)
+}
+
+// Whether those are enough that a record of three cells asks for.
+fn old_cells(a: &Asked) -> bool {
+    a.cells.iter().zip([3072, 16384, 256, 3072, 16384]).all(|(n, least)| *n >= least)
 }
 
 fn without_output(p: &Plain, m: Mistake) -> bool {

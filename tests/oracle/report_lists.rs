@@ -1,7 +1,7 @@
 // The netlists and sheets to report on, by hand and from a seed, and their answers.
 use crate::compare::{number, Case};
 use crate::generate::{make, Numbers, Shape};
-use crate::lent::quaigh;
+use crate::lent::text;
 use crate::models::plain_flops;
 use crate::reads::{by_hand as netlists_by_hand, wanted as read, Wanted};
 use crate::report::{answered, mistakes, sheet, short, shown, Asked, Mistake, BESIDE, CELLS, ENDS, MOST_NETLIST, MOST_SHEET};
@@ -11,7 +11,7 @@ use crate::{scale, tricky, words};
 
 // ---- netlists from a seed
 
-// A network as Quaigh writes it: it is read again, mostly with an output.
+// A network as it is written: it is read again, mostly with an output.
 fn written(r: &mut Numbers, k: usize) -> Vec<u8> {
     let flops = r.below(5);
     let s = match k % 400 {
@@ -19,7 +19,7 @@ fn written(r: &mut Numbers, k: usize) -> Vec<u8> {
         n if n % 20 == 7 => Shape { inputs: r.below(30), gates: r.below(40), outputs: 1 + r.below(30), wide: 5, loops: false, flops },
         _ => Shape { inputs: r.below(5), gates: r.below(9), outputs: 1 + r.below(3), wide: 4, loops: false, flops },
     };
-    quaigh(&plain_flops(make(r, &s))).into_bytes()
+    text(&plain_flops(make(r, &s))).into_bytes()
 }
 
 // Half as written; the others of the kinds that reading is compared on, and those by hand.
@@ -309,8 +309,8 @@ pub fn reports(seed: u64, count: usize) -> impl Iterator<Item = Asked> {
 
 // ---- which refusals apply
 
-// The refusals, in their order, and those beside which each is counted.
-const ORDER: [u32; 17] = [32, 1, 2, 3, 4, 5, 6, 7, 8, 9, 10, 11, 12, 13, 14, 33, 31];
+// The refusals, in their order but for 4, 5 and 34, of which the first statement decides, and those beside which each is counted.
+const ORDER: [u32; 18] = [32, 1, 2, 3, 4, 5, 34, 6, 7, 8, 9, 10, 11, 12, 13, 14, 33, 31];
 const BESIDES: [u32; 4] = [32, 1, 33, 31];
 
 // The refusals that would come if those before them did not, as far as that is sure: 33 of a netlist that is not read where it speaks of
@@ -341,14 +341,16 @@ fn noted(a: &Asked, w: &Wanted, text: &[u8]) -> Vec<bool> {
     let mut notes: Vec<bool> = ORDER.iter().flat_map(|k| [vec![alone(*k)], BESIDES.map(|j| both(*k, j)).to_vec()].concat()).collect();
     let whole = all.is_empty() && !text.ends_with(b"\ncut\n");
     let line = |l: &[u8]| text.split(|b| *b == b'\n').any(|t| t == l);
-    let flop = if let Wanted::Read(p) = w { p.gates.iter().any(|g| g.0 == 14) } else { false };
-    notes.extend([whole && flop, whole && line(b"accepted=0"), whole && line(b"rejected=0"), whole && line(b"commands=128")]);
+    let flop = if let Wanted::Read(p) = w { !p.flops().is_empty() } else { false };
+    let one = if let Wanted::Read(p) = w { p.gates.iter().any(|g| g.start == 1) } else { false };
+    notes.extend([whole && flop, whole && one, whole && line(b"accepted=0"), whole && line(b"rejected=0"), whole && line(b"commands=128")]);
     notes.push(text.ends_with(b"\ncut\n"));
     notes
 }
 
-const OTHERS: [&str; 5] = [
+const OTHERS: [&str; 6] = [
     "reported, with a flip-flop",
+    "reported, with a flip-flop that starts at one",
     "reported, none accepted",
     "reported, none rejected",
     "reported, 128 commands",

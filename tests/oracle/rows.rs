@@ -1,6 +1,6 @@
 // Networks with rows by hand, with what document 02 says of each.
 use crate::generate::{filled, make, Numbers, Plain, Shape};
-use crate::lent::{lent, Lent, MAX_TEXT, MOST};
+use crate::lent::{lent, Lent, MAX_TEXT, MOST, RECORD};
 use crate::models::plain_flops;
 use crate::nets::{i, net, x, Gates};
 use crate::runs::{Run, WIDE};
@@ -62,7 +62,7 @@ pub fn text(rows: &[Vec<bool>]) -> Vec<u8> {
 // ---- refusals
 
 // Wrong cells, a wrong order, a wrong flip-flop and wrong rows, so many ways of each; way 0 is right.
-const WAYS: [usize; 4] = [5, 5, 5, 5];
+const WAYS: [usize; 4] = [7, 5, 5, 5];
 const NUMBERS: [u32; 4] = [20, 29, 30, 31];
 
 // A flip-flop, three gates and a flip-flop, wrong in these ways.
@@ -81,9 +81,11 @@ fn wrong_in(ways: [usize; 4]) -> Run {
     let mut r = within(&p, given.as_bytes(), if ways[3] == 4 { 8 } else { 10 });
     match ways[0] {
         1 => r.lent.outputs[1] = x(5).raw(),
-        2 => r.lent.gates[9] = 15,
+        2 => r.lent.gates[3 * RECORD] = 15,
         3 => r.lent.outputs.truncate(1),
         4 => r.lent.counts[1] += 1 << 32,
+        5 => r.lent.gates[3 * RECORD + 3] = 1,
+        6 => r.lent.gates[4 * RECORD + 3] = 2,
         _ => (),
     }
     r
@@ -258,6 +260,42 @@ fn flops() -> Vec<Case> {
     ]
 }
 
+// Flip-flops that start at one: that hold, turn over, shift both ways, and start otherwise than others; before, behind and among gates.
+fn starts() -> Vec<Case> {
+    let all = |n: u32| (0..n).map(x).collect::<Vec<_>>();
+    let buf = |s| (13, vec![s]);
+    let held = net(0, vec![flop(x(0))], vec![x(0), !x(0)]);
+    let turned = net(0, vec![flop(!x(0))], vec![x(0)]);
+    let taken = net(1, vec![flop(i(0))], vec![x(0)]);
+    let up = net(1, vec![flop(i(0)), flop(x(0)), flop(x(1))], all(3));
+    let down = net(1, vec![flop(x(1)), flop(x(2)), flop(i(0))], all(3));
+    let ring = net(0, vec![flop(x(3)), flop(x(0)), flop(x(1)), flop(x(2))], all(4));
+    let among = net(1, vec![buf(i(0)), flop(x(2)), buf(!x(1)), flop(x(0)), flop(x(3))], vec![x(1), x(3), x(4), x(2)]);
+    let exact = |p: &Plain, given: &str, wanted: &str| (within(p, given.as_bytes(), wanted.len()), Hand::Rows(wanted.to_string()));
+    vec![
+        rows(&held, "\n\n\n", "01\n01\n01\n"),
+        rows(&held.clone().starting(&[0]), "\n\n\n", "10\n10\n10\n"),
+        rows(&turned.clone().starting(&[0]), "\n\n\n\n", "1\n0\n1\n0\n"),
+        rows(&taken.clone().starting(&[0]), "0\n", "1\n"),
+        rows(&taken.clone().starting(&[0]), "0\n1\n0\n", "1\n0\n1\n"),
+        rows(&taken.starting(&[0]), "", ""),
+        rows(&up.clone().starting(&[0]), "0\n0\n0\n0\n", "100\n010\n001\n000\n"),
+        rows(&up.clone().starting(&[2]), "0\n0\n1\n", "001\n000\n000\n"),
+        rows(&up.starting(&[0, 1, 2]), "0\n0\n0\n0\n", "111\n011\n001\n000\n"),
+        rows(&down.clone().starting(&[2]), "0\n0\n0\n0\n", "001\n010\n100\n000\n"),
+        rows(&down.starting(&[0, 2]), "1\n0\n0\n", "101\n011\n110\n"),
+        rows(&ring.clone().starting(&[0]), &"\n".repeat(5), "1000\n0100\n0010\n0001\n1000\n"),
+        rows(&ring.starting(&[1, 2]), &"\n".repeat(5), "0110\n0011\n1001\n1100\n0110\n"),
+        rows(&among.clone().starting(&[1]), "1\n0\n0\n", "1000\n0101\n1010\n"),
+        rows(&among.clone().starting(&[3]), "1\n0\n0\n", "0101\n1110\n0011\n"),
+        rows(&among.clone().starting(&[4]), "1\n0\n0\n", "0011\n1100\n0011\n"),
+        exact(&among.starting(&[1, 3, 4]), "0\n", "1110\n"),
+        // other enables and resets are 30 from any start value
+        refused(&net(1, vec![(14, vec![i(0), i(0), zero()])], vec![x(0)]).starting(&[0]), b"0\n", 30),
+        refused(&net(1, vec![(14, vec![i(0), one(), one()])], vec![x(0)]).starting(&[0]), b"0\n", 30),
+    ]
+}
+
 // An interlock: a gate that opens and closes by turns; after a wrong command it takes none.
 fn interlock() -> Vec<Case> {
     let (open, close, is_open, locked, accepted) = (i(0), i(1), x(0), x(1), x(4));
@@ -277,6 +315,9 @@ fn interlock() -> Vec<Case> {
         rows(&p, "01\n10\n01\n", "00\n01\n01\n"),
         rows(&p, "10\n11\n01\n00\n", "10\n00\n01\n01\n"),
         rows(&p, "00\n10\n", "00\n01\n"),
+        // open at first, and locked at first
+        rows(&p.clone().starting(&[0]), "01\n10\n01\n01\n", "10\n10\n10\n00\n"),
+        rows(&p.starting(&[1]), "10\n01\n", "01\n01\n"),
     ]
 }
 
@@ -287,6 +328,7 @@ fn outputs() -> Vec<Case> {
     let each = net(1, vec![flop(i(0)), (1, vec![i(0), x(0)])], vec![zero(), one(), i(0), !i(0), x(0), !x(0), x(1), !x(1), i(0), one()]);
     vec![
         rows(&counter, &"\n".repeat(9), "000\n001\n010\n011\n100\n101\n110\n111\n000\n"),
+        rows(&counter.starting(&[1, 2]), "\n\n\n", "110\n111\n000\n"),
         rows(&each, "1\n1\n0\n", "0110010111\n0110101011\n0101100101\n"),
     ]
 }
@@ -328,7 +370,7 @@ fn long() -> Case {
         _ => (13, vec![!x(k - 1)]),
     };
     let p = net(1, (0..1024).map(gate).collect(), vec![x(0), x(2), !x(255), x(511), x(509), x(256), x(512), x(1022), !x(1023)]);
-    compared(&p, b"1\n0\n1\n1\n0\n")
+    compared(&p.starting(&[0, 253, 256, 511]), b"1\n0\n1\n1\n0\n")
 }
 
 // The largest sizes, all at once: sorted gates from a seed, with inputs added until the pins are used up.
@@ -358,8 +400,8 @@ fn cells() -> Vec<Case> {
 
 // The network with a lower gate, or zero, in the place of each gate input of a combinational gate that is not lower.
 pub fn lowered(mut p: Plain) -> Plain {
-    for (g, (_, ps)) in p.gates.iter_mut().enumerate().filter(|(_, (form, _))| *form != 14) {
-        for s in ps.iter_mut().filter(|s| s.is_var() && s.var() as usize >= g) {
+    for (g, node) in p.gates.iter_mut().enumerate().filter(|(_, node)| !node.is_flop()) {
+        for s in node.pins.iter_mut().filter(|s| s.is_var() && s.var() as usize >= g) {
             let lower = if g > 0 { x(s.var() % g as u32) } else { zero() };
             *s = lower ^ s.is_inverted();
         }
@@ -369,6 +411,6 @@ pub fn lowered(mut p: Plain) -> Plain {
 
 pub fn by_hand() -> Vec<Case> {
     let refused = [refusals(), large_counts(), orders(), controls(), characters(), rooms()];
-    let run = [flops(), interlock(), outputs(), forms(), wide(), vec![long(), largest()], many_rows()];
+    let run = [flops(), starts(), interlock(), outputs(), forms(), wide(), vec![long(), largest()], many_rows()];
     refused.into_iter().chain(run).flatten().chain(cells()).collect()
 }

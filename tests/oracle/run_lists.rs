@@ -1,6 +1,6 @@
 // The networks to run, by hand and from a seed, and their answers.
 use crate::compare::{number, Case};
-use crate::generate::{make, Numbers, Plain, Shape};
+use crate::generate::{make, Node, Numbers, Plain, Shape};
 use crate::lent::{decoded, given as cells_given, lent, Lent, MOST};
 use crate::models::plain_flops;
 use crate::nets::x;
@@ -29,12 +29,12 @@ fn damaged_gate(r: &mut Numbers, mut p: Plain) -> Plain {
     }
     let (n, g) = (p.gates.len(), r.below(p.gates.len()));
     let other = [Signal::zero(), Signal::one(), x(r.below(n) as u32), !x(g as u32)][r.below(4)];
-    let (form, ps) = &mut p.gates[g];
-    if *form == 14 {
-        ps[1 + r.below(2)] = other;
-    } else if !ps.is_empty() {
-        let k = r.below(ps.len());
-        ps[k] = x((g + r.below(n - g)) as u32) ^ (r.below(2) == 0);
+    let node = &mut p.gates[g];
+    if node.is_flop() {
+        node.pins[1 + r.below(2)] = other;
+    } else if !node.pins.is_empty() {
+        let k = r.below(node.pins.len());
+        node.pins[k] = x((g + r.below(n - g)) as u32) ^ (r.below(2) == 0);
     }
     p
 }
@@ -143,8 +143,13 @@ impl Case for Run {
     const BEHIND: &'static str = "";
     const TWICE: bool = false;
     const ANSWERED: &'static str = "run";
-    const NOTES: &'static [&'static str] =
-        &["run, with a flip-flop", "run, with a gate of over six inputs", "run, without rows", "run, without a byte left over"];
+    const NOTES: &'static [&'static str] = &[
+        "run, with a flip-flop",
+        "run, with a flip-flop that starts at one",
+        "run, with a gate of over six inputs",
+        "run, without rows",
+        "run, without a byte left over",
+    ];
 
     fn bytes(&self) -> usize {
         self.lent.bytes() + self.rows.len() + 9
@@ -158,11 +163,12 @@ impl Case for Run {
     fn answer(&self) -> (Vec<u8>, Vec<bool>) {
         let a = ran(self, Mistake::Nothing);
         let Ok(n) = a.result else {
-            return (shown(&a), vec![false; 4]);
+            return (shown(&a), vec![false; Run::NOTES.len()]);
         };
         let p = decoded(&self.lent).unwrap();
-        let some = |f: &dyn Fn(&(u32, Vec<Signal>)) -> bool| p.gates.iter().any(f);
-        (shown(&a), vec![some(&|g| g.0 == 14), some(&|g| g.1.len() > 6), n == 0, n > 0 && n == self.lent.room])
+        let some = |f: &dyn Fn(&Node) -> bool| p.gates.iter().any(f);
+        let full = n > 0 && n == self.lent.room;
+        (shown(&a), vec![some(&|g| g.is_flop()), some(&|g| g.start == 1), some(&|g| g.pins.len() > 6), n == 0, full])
     }
 
     fn smaller(&self) -> Box<dyn Iterator<Item = Run> + '_> {
@@ -201,7 +207,7 @@ pub fn lists(seed: u64, count: usize) -> (Vec<u8>, Vec<u8>) {
     let mut given = words(&[all.len() as u32]).into_bytes();
     let mut wanted = TOLD.as_bytes().to_vec();
     let mut seen: BTreeMap<u32, usize> = BTreeMap::new();
-    let mut notes = [0; 4];
+    let mut notes = [0; Run::NOTES.len()];
     for (n, run) in all.iter().enumerate() {
         let (w, held) = run.answer();
         *seen.entry(number(&w)).or_insert(0) += 1;

@@ -1,7 +1,7 @@
 // Runs of lent networks for rows: what request 1 of document 02 answers, right or with one of the mistakes that its rules leave room for.
 // The stored list must hold, for each mistake, a run that it changes.
-use crate::generate::Plain;
-use crate::lent::{decoded, Lent};
+use crate::generate::{Node, Plain};
+use crate::lent::{decoded, decoded_with, Lax, Lent, LAX, RECORD};
 use crate::{simulate, writes, Signal};
 
 type Rows = Vec<Vec<bool>>;
@@ -67,10 +67,11 @@ pub enum Mistake {
     LengthWithoutLf,            // a length of rows × outputs
     LfLeftOut,                  // no LF behind an output row
     LastRowDropped,             // the last row not run
-    HeldCleared,                // held bits cleared between rows
+    HeldCleared,                // every row begins at the start values
     OneOutputIsZero,            // the constant one as an output shown as a zero
     PinLost(u32, usize, usize), // this pin of a gate of this form and pin count
     FormFor(u32, u32),          // the second form for the first
+    Start(Lax),                 // 20: start values looked at in another way
     Simulated(simulate::Mistake),
 }
 
@@ -131,6 +132,7 @@ pub const WIDE: [usize; 7] = [6, 7, 8, 9, 16, 17, 100];
 pub fn mistakes() -> Vec<Mistake> {
     let mut all = MISTAKES.to_vec();
     all.extend([20, 29, 30, 31].map(Mistake::OutLeft));
+    all.extend(LAX.map(Mistake::Start));
     all.extend(simulate::MISTAKES.map(Mistake::Simulated));
     for forms in [1..3, 3..7, 7..13] {
         for (a, b) in forms.clone().flat_map(|a| forms.clone().map(move |b| (a, b))).filter(|(a, b)| a != b) {
@@ -152,14 +154,14 @@ fn network(l: &Lent, m: Mistake) -> Option<Plain> {
         Mistake::CountsCut => l.counts = l.counts.map(|n| n & 0xffff_ffff),
         Mistake::FirstPinsFree => {
             let mut at = 0u32;
-            for record in l.gates.chunks_exact_mut(3) {
+            for record in l.gates.chunks_exact_mut(RECORD) {
                 record[1] = at;
                 at = at.wrapping_add(record[2]);
             }
         }
         _ => (),
     }
-    let p = decoded(&l)?;
+    let p = decoded_with(&l, if let Mistake::Start(lax) = m { lax } else { Lax::Nothing })?;
     let valid = |c: &u32| p.network().is_valid(Signal::from_ind(c >> 1));
     let beyond = [&l.pins[l.counts[2] as usize..], &l.outputs[l.counts[3] as usize..]].concat();
     if m == Mistake::CellsBeyond && !beyond.iter().all(valid) {
@@ -170,7 +172,7 @@ fn network(l: &Lent, m: Mistake) -> Option<Plain> {
 }
 
 fn is_flop(p: &Plain, g: usize) -> bool {
-    p.gates[g].0 == 14
+    p.gates[g].is_flop()
 }
 
 // Whether gate g is combinational and has a gate input whose number is not lower than its own.
@@ -186,7 +188,7 @@ fn wrong_input(p: &Plain, g: usize, m: Mistake) -> bool {
         _ => usize::MAX,
     };
     let comb = !is_flop(p, g) || m == Mistake::FlopsSortedToo;
-    comb && p.gates[g].1.iter().take(looked).any(|s| s.is_var() && wrong(s))
+    comb && p.gates[g].pins.iter().take(looked).any(|s| s.is_var() && wrong(s))
 }
 
 // Whether gate g is a flip-flop whose enable is not the signal one, or whose reset is not the signal zero.
@@ -194,7 +196,7 @@ fn other_control(p: &Plain, g: usize, m: Mistake) -> bool {
     let enable = |s: Signal| s == Signal::one() || m == Mistake::EnableFree || (m == Mistake::EnableConstant && s.is_constant());
     let reset = |s: Signal| s == Signal::zero() || m == Mistake::ResetFree || (m == Mistake::ResetConstant && s.is_constant());
     let looked = m != Mistake::FirstFlopOnly || !(0..g).any(|f| is_flop(p, f));
-    let ps = &p.gates[g].1;
+    let ps = &p.gates[g].pins;
     is_flop(p, g) && looked && !(enable(ps[1]) && reset(ps[2]))
 }
 
@@ -322,7 +324,8 @@ fn refusal(r: &Run, p: Option<&Plain>, m: Mistake) -> Option<u32> {
 // The network as a mistake has it; one that is not sorted, and should have been refused, with zero for each wrong input.
 fn altered(mut p: Plain, m: Mistake) -> Plain {
     let unsorted = writes::unsorted(&p);
-    for (g, (form, ps)) in p.gates.iter_mut().enumerate() {
+    for (g, node) in p.gates.iter_mut().enumerate() {
+        let Node { form, pins: ps, .. } = node;
         if unsorted && *form != 14 {
             ps.iter_mut().filter(|s| s.is_var() && s.var() as usize >= g).for_each(|s| *s = Signal::zero());
         }

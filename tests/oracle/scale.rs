@@ -1,6 +1,6 @@
 // The texts and networks of a comparison at scale: the kinds that the stored lists have, and further ones.
 use crate::generate::{make, Numbers, Shape};
-use crate::lent::{quaigh, Lent};
+use crate::lent::{text as written, Lent};
 use crate::points::{every, sequences};
 use crate::reads::{by_hand, Text};
 use crate::{nets, tricky, writes};
@@ -27,12 +27,12 @@ fn depth(count: usize) -> u32 {
     (3..6).rev().find(|d| short(*d).count() <= count / 4).unwrap_or(3)
 }
 
-// A text as Quaigh writes it, with its blocks in another order, other ends of lines, or damaged.
+// A text as it is written, with its blocks in another order, other ends of lines, or damaged.
 fn as_written(r: &mut Numbers, k: usize) -> Vec<u8> {
     let s = Shape { inputs: r.below(5), gates: r.below(9), outputs: r.below(5), wide: 5, loops: k % 7 == 6, flops: r.below(5) };
     let made = make(r, &s);
     let p = if k % 5 > 0 { crate::models::plain_flops(made) } else { made };
-    let mut t = quaigh(&p);
+    let mut t = written(&p);
     if r.below(2) == 0 {
         let mut blocks: Vec<&str> = t.split("\n.").collect();
         for i in (2..blocks.len()).rev() {

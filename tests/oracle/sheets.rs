@@ -58,11 +58,12 @@ fn refused(netlist: &str, sheet: &[u8], k: u32) -> Case {
 
 // A netlist for each of the reader's refusals, none with an output.
 fn netlists() -> Vec<(u32, Vec<u8>)> {
-    let small: [(u32, &[u8]); 13] = [
+    let small: [(u32, &[u8]); 14] = [
         (0, b".inputs b\n"),
         (3, b"# \x80\n"),
         (4, b".latch a\n"),
         (5, b".gate and2\n"),
+        (34, b".latch a q x\n"),
         (7, b".model m\n.model m\n"),
         (8, b".end\n"),
         (9, b".names\n"),
@@ -261,6 +262,15 @@ fn runs() -> Vec<Case> {
     let down = ".inputs a\n.outputs r\n.latch q r\n.latch p q\n.latch a p\n";
     let apart = ".inputs a b\n.outputs y\n.names a b y\n00 0\n11 0\n";
     let started = ".inputs a\n.outputs q\n.latch a q re clock 1\n";
+    let third = started.replace("re clock 1", "1");
+    let unknown = started.replace("re clock 1", "re clock 3");
+    let either = started.replace("re clock 1", "2");
+    let none = started.replace("re clock 1", "re 1");
+    let turned_over = TURNS.replace("d q", "d q 1");
+    let shift_from = |a: &str, b: &str, c: &str| shift.replace(" p\n", &format!(" p {a}\n")).replace(" q\n", &format!(" q {b}\n")) + c;
+    let two = ".inputs a\n.outputs p q\n.names a x\n1 1\n.latch x p 1\n.latch p q 0\n";
+    let locked = LOCK.replace("locked re clock 0", "locked re clock 1");
+    let open = LOCK.replace("is_open re clock 0", "is_open re clock 1");
     let held = ".inputs a\n.outputs q a\n.latch d q\n.names a q d\n1- 1\n-1 1\n";
     vec![
         counts(WIRE, &["1"], 1),
@@ -278,7 +288,22 @@ fn runs() -> Vec<Case> {
         counts(down, &["1", "1", "0", "1", "1", "1", "1"], 3),
         counts(apart, &["01", "10", "00"], 2),
         counts(apart, &["11", "00", "11", "01"], 1),
-        counts(started, &["0", "1", "0"], 1),
+        counts(started, &["0", "1", "0"], 2),
+        counts(started, &["0"], 1),
+        counts(started, &["0", "0", "0"], 1),
+        counts(&third, &["0", "1", "0"], 2),
+        counts(&unknown, &["0", "1", "0"], 1),
+        counts(&either, &["0", "1", "0"], 1),
+        counts(&none, &["0", "1", "0"], 1),
+        counts(&turned_over, &["", "", "", "", ""], 3),
+        counts(&shift_from("1", "0", ""), &["0", "0", "0"], 1),
+        counts(&shift_from("1", "1", ""), &["0", "0", "0"], 2),
+        counts(&shift_from("0", "0", ".latch a s 1\n"), &["0", "0", "0"], 0),
+        counts(two, &["0", "0"], 1),
+        counts(&two.replace("p q\n", "q p\n"), &["0", "0"], 1),
+        counts(&two.replace("x p 1", "x p 0").replace("p q 0", "p q 1"), &["0", "0"], 0),
+        counts(&locked, &["10", "01"], 0),
+        counts(&open, &["01", "10", "10"], 2),
         counts(held, &["0", "1", "0", "0"], 2),
         counts(LOCK, &["10", "01", "10", "01"], 4),
         counts(LOCK, &["10", "01", "10", "10", "01", "10"], 3),

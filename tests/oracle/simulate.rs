@@ -1,6 +1,6 @@
-// A network run for rows from zero, worked out backwards from its outputs, with mistakes that a trip, or a simulation of one, could make.
+// A network run for rows from its start values, worked out backwards from its outputs, with mistakes that a trip, or a simulation of one, could make.
 // The stored list must hold, for each mistake, a network that is read back and whose outputs it changes.
-use crate::generate::Plain;
+use crate::generate::{Node, Plain};
 use crate::Signal;
 
 #[derive(Clone, Copy, PartialEq, Debug)]
@@ -12,7 +12,12 @@ pub enum Mistake {
     OutputsReversed,
     RowReversed,
     OneForZero,
+    StartsAtZero,
     StartsAtOne,
+    StartsTurned,
+    StartsReversed,     // those of the flip-flops in reversed order
+    FirstStartForAll,   // every flip-flop starts as the first does
+    StartsByNumber,     // the k-th flip-flop starts as gate k does
     EnableIsZero,
     ResetIsOne,
     LastFlopNeverSteps,
@@ -28,14 +33,19 @@ pub enum Mistake {
     LastPinLost,
 }
 
-pub const MISTAKES: [Mistake; 20] = [
+pub const MISTAKES: [Mistake; 25] = [
     Mistake::PinNotInverted,
     Mistake::BufNotInverted,
     Mistake::OutputNotInverted,
     Mistake::OutputsReversed,
     Mistake::RowReversed,
     Mistake::OneForZero,
+    Mistake::StartsAtZero,
     Mistake::StartsAtOne,
+    Mistake::StartsTurned,
+    Mistake::StartsReversed,
+    Mistake::FirstStartForAll,
+    Mistake::StartsByNumber,
     Mistake::EnableIsZero,
     Mistake::ResetIsOne,
     Mistake::LastFlopNeverSteps,
@@ -83,7 +93,7 @@ impl Clock<'_> {
     }
 
     fn gate(&mut self, g: usize) -> bool {
-        let (form, pins) = &self.p.gates[g];
+        let Node { form, pins, .. } = &self.p.gates[g];
         if *form == 14 {
             return self.held[g];
         }
@@ -100,7 +110,7 @@ impl Clock<'_> {
     }
 
     fn step(&mut self, g: usize) -> bool {
-        let pins = &self.p.gates[g].1;
+        let pins = &self.p.gates[g].pins;
         let [data, enable, reset] = [0, 1, 2].map(|k| self.pin(14, &pins[k]));
         if reset || self.m == Mistake::ResetIsOne {
             return false;
@@ -144,7 +154,7 @@ fn made(form: u32, bits: &[bool], m: Mistake) -> bool {
 
 // What the flip-flops hold next.
 fn stepped(p: &Plain, m: Mistake, row: &[bool], held: &[bool]) -> Vec<bool> {
-    let mut flops: Vec<usize> = (0..p.gates.len()).filter(|g| p.gates[*g].0 == 14).collect();
+    let mut flops = p.flops();
     if m == Mistake::StepsOneByOneDown {
         flops.reverse();
     }
@@ -159,9 +169,28 @@ fn stepped(p: &Plain, m: Mistake, row: &[bool], held: &[bool]) -> Vec<bool> {
     next
 }
 
+// What the flip-flops hold at first.
+fn starts(p: &Plain, m: Mistake) -> Vec<bool> {
+    let flops = p.flops();
+    let mut held = vec![false; p.gates.len()];
+    for (k, g) in flops.iter().enumerate() {
+        let start = |gate: usize| p.gates[gate].start == 1;
+        held[*g] = match m {
+            Mistake::StartsAtZero => false,
+            Mistake::StartsAtOne => true,
+            Mistake::StartsTurned => !start(*g),
+            Mistake::StartsReversed => start(flops[flops.len() - 1 - k]),
+            Mistake::FirstStartForAll => start(flops[0]),
+            Mistake::StartsByNumber => start(k),
+            _ => start(*g),
+        };
+    }
+    held
+}
+
 // The outputs' bits at each clock.
 pub fn run(p: &Plain, rows: &[Vec<bool>], m: Mistake) -> Vec<Vec<bool>> {
-    let mut held = vec![m == Mistake::StartsAtOne; p.gates.len()];
+    let mut held = starts(p, m);
     let mut all = Vec::new();
     for (k, given) in rows.iter().enumerate() {
         let mut row = if m == Mistake::FirstRowTwice { rows[k.saturating_sub(1)].clone() } else { given.clone() };

@@ -1,7 +1,7 @@
 // Lent networks that are a little simpler than one: with gates, pins, outputs, inputs or cells left out, or a plainer form, signal or
 // number in the place of another.
-use crate::generate::Plain;
-use crate::lent::{decoded, lent, text, Lent, MOST};
+use crate::generate::{Node, Plain};
+use crate::lent::{decoded, decoded_with, lent, text, Lax, Lent, MOST, RECORD};
 use crate::smaller_texts::runs;
 use crate::Signal;
 
@@ -33,7 +33,7 @@ fn without_gates(p: &Plain, a: usize, e: usize) -> Plain {
     let kept = p.gates[..a].iter().chain(&p.gates[e..]);
     Plain {
         inputs: p.inputs,
-        gates: kept.map(|(f, ps)| (*f, ps.iter().map(moved).collect())).collect(),
+        gates: kept.map(|g| g.with_pins(moved)).collect(),
         outputs: p.outputs.iter().map(moved).collect(),
     }
 }
@@ -42,7 +42,7 @@ fn without_gates(p: &Plain, a: usize, e: usize) -> Plain {
 fn with_signals(p: &Plain, inputs: usize, f: impl Fn(Signal) -> Signal) -> Plain {
     Plain {
         inputs,
-        gates: p.gates.iter().map(|(form, ps)| (*form, ps.iter().map(|s| f(*s)).collect())).collect(),
+        gates: p.gates.iter().map(|g| g.with_pins(|s| f(*s))).collect(),
         outputs: p.outputs.iter().map(|s| f(*s)).collect(),
     }
 }
@@ -61,8 +61,12 @@ fn with_fewer_inputs(p: &Plain) -> impl Iterator<Item = Plain> + '_ {
     least.into_iter().map(cut).chain(least.into_iter().filter(|n| *n > 0).map(folded))
 }
 
-// Forms and pins that may stand in the place of a gate's: pins left out, another form of the same pins, a form with fewer pins.
-fn plainer_gates(form: u32, ps: &[Signal]) -> impl Iterator<Item = (u32, Vec<Signal>)> + '_ {
+// Gates that may stand in the place of one: with pins left out, of another form with the same pins or fewer, with a smaller start value. A start
+// value that 20 refuses stays where the form changes.
+fn plainer_gates(gate: &Node) -> impl Iterator<Item = Node> + '_ {
+    let (form, ps) = (gate.form, &gate.pins[..]);
+    let start = if gate.is_flop() { 0 } else { gate.start };
+    let of = move |form: u32, ps: &[Signal]| Node { form, pins: ps.to_vec(), start };
     let fewer = runs(if (7..=12).contains(&form) { ps.len() } else { 0 });
     let fitting: &[u32] = match ps.len() {
         1 => &[7, 8, 9, 10, 11, 12],
@@ -70,24 +74,25 @@ fn plainer_gates(form: u32, ps: &[Signal]) -> impl Iterator<Item = (u32, Vec<Sig
         3 => &[3, 4, 5, 6, 7, 8, 9, 10, 11, 12],
         _ => &[7, 8, 9, 10, 11],
     };
-    let mut all: Vec<(u32, Vec<Signal>)> = fitting.iter().filter(|f| **f < form).map(|f| (*f, ps.to_vec())).collect();
+    let mut all: Vec<Node> = fitting.iter().filter(|f| **f < form).map(|f| of(*f, ps)).collect();
+    all.extend((0..3).filter(|start| *start < gate.start).map(|start| Node { start, ..of(form, ps) }));
     if ps.len() > 1 {
-        all.push((13, ps[..1].to_vec()));
+        all.push(of(13, &ps[..1]));
     }
     if ps.len() > 2 {
-        all.push((1, ps[..2].to_vec()));
+        all.push(of(1, &ps[..2]));
     }
-    fewer.map(move |(a, e)| (form, [&ps[..a], &ps[e..]].concat())).chain(all)
+    fewer.map(move |(a, e)| of(form, &[&ps[..a], &ps[e..]].concat())).chain(all)
 }
 
 fn with_plainer_gates(p: &Plain) -> impl Iterator<Item = Plain> + '_ {
-    let put = move |g: usize, gate: (u32, Vec<Signal>)| {
+    let put = move |g: usize, gate: Node| {
         let mut q = p.clone();
         q.gates[g] = gate;
         q
     };
     let each = p.gates.iter().enumerate();
-    each.flat_map(move |(g, (form, ps))| plainer_gates(*form, ps).map(move |gate| put(g, gate)))
+    each.flat_map(move |(g, gate)| plainer_gates(gate).map(move |gate| put(g, gate)))
 }
 
 // A network of whole gates, with gates, outputs, inputs or pins left out or plainer.
@@ -99,7 +104,7 @@ fn plainer(p: &Plain) -> impl Iterator<Item = Plain> + '_ {
 
 // The length of the text, none where it is too wide to be written.
 fn length(p: &Plain) -> usize {
-    let narrow = p.gates.iter().all(|(form, ps)| !(*form == 11 || *form == 12) || ps.len() < 13);
+    let narrow = p.gates.iter().all(|g| !(g.form == 11 || g.form == 12) || g.pins.len() < 13);
     if narrow { text(p).len() } else { 0 }
 }
 
@@ -126,7 +131,7 @@ fn cells_of(l: &mut Lent, place: usize) -> &mut Vec<u32> {
 
 // Cells left out with their count or without; those beyond the counts first.
 fn with_fewer_cells(l: &Lent, place: usize) -> impl Iterator<Item = Lent> + '_ {
-    let step = if place == 1 { 3 } else { 1 };
+    let step = if place == 1 { RECORD } else { 1 };
     let n = [l.gates.len(), l.pins.len(), l.outputs.len()][place - 1];
     let used = (l.counts[place].min(n as u64) as usize * step).min(n);
     let cut = move |a: usize, e: usize, fewer: usize| {
@@ -163,12 +168,12 @@ fn with_plainer_cells(l: &Lent, place: usize) -> impl Iterator<Item = Lent> + '_
     (0..cells.len()).flat_map(move |k| others(cells[k]).map(|n| put(k, n)))
 }
 
-// Of a network only what leaves it one is of use: the answer for cells that are none is 20.
+// Of a network, or of one but for its start values, only what leaves it such is of use: the answer for cells that are none is 20.
 pub fn smaller(l: &Lent) -> Box<dyn Iterator<Item = Lent> + '_> {
     let now = weight(l);
     let lower = move |m: &Lent| weight(m) < now;
     let signals = (2..4).flat_map(move |place| with_plainer_cells(l, place));
-    if let Some(p) = decoded(l) {
+    if let Some(p) = decoded_with(l, Lax::AllFree) {
         return Box::new(as_networks(l, &p).into_iter().chain(with_smaller_counts(l)).chain(signals).filter(lower));
     }
     let cells = (1..4).flat_map(move |place| with_fewer_cells(l, place));
@@ -190,6 +195,8 @@ pub fn shown(l: &Lent) -> String {
         return format!("no network: counts {i} {g} {n} {o}; {cells}; {room}");
     };
     let list = |s: &[Signal]| s.iter().map(|s| s.to_string()).collect::<Vec<_>>().join(", ");
-    let gates: String = p.gates.iter().enumerate().map(|(g, (f, ps))| format!("x{g} = {}({}); ", FORMS[*f as usize], list(ps))).collect();
+    let start = |n: &Node| if n.is_flop() { format!(" from {}", n.start) } else { String::new() };
+    let gate = |(g, n): (usize, &Node)| format!("x{g} = {}({}){}; ", FORMS[n.form as usize], list(&n.pins), start(n));
+    let gates: String = p.gates.iter().enumerate().map(gate).collect();
     format!("{} inputs; {gates}outputs {}; {room}\n{cells}", p.inputs, list(&p.outputs))
 }

@@ -92,6 +92,26 @@ pub fn with_ones(text: &[u8]) -> Network {
     build_network(&found, &names).unwrap()
 }
 
+// ---- which gate is which latch's
+
+// Of each latch of a text that is read, its gate, and the number that its gate had before the sort. To find the gate, the outputs of the latches
+// are outputs of the network as well, by which no gate moves.
+pub fn latches(text: &[u8]) -> Vec<(usize, usize)> {
+    let mut found = read_statements(text).unwrap();
+    found.truncate(found.iter().position(|s| matches!(s, Statement::End | Statement::Exdc)).unwrap_or(found.len()));
+    let gates = found.iter().filter(|s| matches!(s, Statement::Latch { .. } | Statement::Name(_)));
+    let before: Vec<usize> = gates.enumerate().filter(|(_, s)| matches!(s, Statement::Latch { .. })).map(|(g, _)| g).collect();
+    if before.is_empty() {
+        return Vec::new();
+    }
+    let name = |s: &Statement| if let Statement::Latch { output, .. } = s { Some(output.clone()) } else { None };
+    found.push(Statement::Outputs(found.iter().filter_map(name).collect()));
+    let names = build_name_to_sig(&found).unwrap();
+    let n = build_network(&found, &names).unwrap();
+    let first = n.nb_outputs() - before.len();
+    before.iter().enumerate().map(|(k, g)| (n.output(first + k).var() as usize, *g)).collect()
+}
+
 // ---- `.end` ends the model (document 02, CR 3)
 
 // Whether `.end` stops these statements: it comes before any `.exdc`.

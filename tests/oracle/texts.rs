@@ -1,6 +1,8 @@
-// Texts, and the statements that Quaigh's own `read_statements` finds in them, each on a line in one notation.
+// Texts, and the statements that Quaigh's own `read_statements` finds in them, each on a line in one notation; the tokens behind a latch's two
+// names, which it drops, and 34 by starts.rs.
 use crate::generate::Numbers;
 use crate::io::statements::{list, Found};
+use crate::starts::{first_of_quaigh, first_refusal, statements, Mistake};
 use std::panic::catch_unwind;
 
 // Texts that ports get wrong: ends of lines, continuations, comments, blanks, keywords, and cube lines directly after their cover.
@@ -53,6 +55,23 @@ const POINTS: &[&[u8]] = &[
     b".latch d q",
     b".latch d q re clk 2",
     b".latch d # q",
+    // start values, and tokens that are none
+    b".latch d q 0\n.latch d q 1\n.latch d q 2\n.latch d q 3",
+    b".latch d q re clk\n.latch d q 4 x\n.latch d q re clk 1 x y",
+    b".latch d q \\\n1\n.latch d q re \\\nclk \\\n3",
+    b".latch d q 1 # re clk x",
+    b".latch d q 4",
+    b".latch d q 01",
+    b".latch d q re",
+    b".latch d q 0\\ ",
+    b".latch d q re clk x",
+    b".latch d q 1 1 4 1",
+    b".latch d q x\n.foo",
+    b".foo\n.latch d q x",
+    b".latch d\n.latch d q x",
+    b".latch d q x\n.latch d",
+    b".exdc\n.latch d q x",
+    b".model m\n.end\n.latch d q re clk 5",
     b".foo\n.model",
     b".model\n.foo",
     // cube lines directly after their cover, and those that are not
@@ -68,8 +87,9 @@ const POINTS: &[&[u8]] = &[
 ];
 
 const PIECES: &[&[u8]] = &[
-    b".model m ", b".inputs", b".outputs", b".names", b".names", b".latch a b ", b".end", b".exdc", b"a", b"b", b"y", b"\\", b"#", b"\n", b"\n", b"\n",
-    b"\r\n", b"\r", b" ", b" ", b" ", b" ", b"\t", b"\x0b", b"\x0c", b"1 1", b"- 0", b"\\\n", b"\\\r\n", b"\x1c", b"\x7f", b"\x00",
+    b".model m ", b".inputs", b".outputs", b".names", b".names", b".latch a b ", b".latch a b 1 ", b".latch a b re c ", b".end", b".exdc", b"a", b"b",
+    b"y", b"\\", b"#", b"\n", b"\n", b"\n", b"\r\n", b"\r", b" ", b" ", b" ", b" ", b"\t", b"\x0b", b"\x0c", b"1 1", b"- 0", b"\\\n", b"\\\r\n",
+    b"\x1c", b"\x7f", b"\x00", b"0 ", b"3\n",
 ];
 
 pub fn random(r: &mut Numbers) -> Vec<u8> {
@@ -88,12 +108,28 @@ fn largest() -> Vec<u8> {
     t
 }
 
+// A statement's line with the tokens behind a latch's two names, which Quaigh drops.
+fn whole(line: Vec<u8>, tokens: &[&[u8]]) -> Vec<u8> {
+    let behind = if tokens[0] == b".latch" { &tokens[3..] } else { &[] };
+    let all = std::iter::once(&line[..]).chain(behind.iter().copied()).collect::<Vec<_>>();
+    all.join(&b' ')
+}
+
+// Quaigh's statements, and 34 by the plain look at them; which must find as many statements, and the same of 4 and 5.
 fn answer(text: &[u8]) -> Vec<u8> {
-    match catch_unwind(|| list(text)) {
-        Ok(Found::Statements(lines)) => lines.into_iter().flat_map(|l| [l, b"\n".to_vec()].concat()).collect(),
-        Ok(Found::Unsupported) => b"refused 5\n".to_vec(),
-        Err(_) => b"refused 4\n".to_vec(),
-    }
+    let found = statements(text);
+    let (first, other) = (first_refusal(text, Mistake::Nothing), first_of_quaigh(text));
+    let refused = match catch_unwind(|| list(text)) {
+        Ok(Found::Statements(lines)) if first.is_none() => {
+            assert!(lines.len() == found.len(), "the plain look finds other statements");
+            return lines.into_iter().zip(&found).flat_map(|(l, s)| [whole(l, s), b"\n".to_vec()].concat()).collect();
+        }
+        Ok(Found::Statements(_)) => None,
+        Ok(Found::Unsupported) => Some(5),
+        Err(_) => Some(4),
+    };
+    assert!(refused == other, "the plain look finds another refusal");
+    format!("refused {}\n", first.unwrap()).into_bytes()
 }
 
 // The texts, each with its length before it, and the answers, each with a line of its number before it.

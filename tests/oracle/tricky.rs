@@ -67,6 +67,27 @@ fn shape(r: &mut Numbers, k: usize) -> Shape {
     }
 }
 
+const GOOD_STARTS: &[&str] = &["0", "1", "1", "1", "2", "3"];
+const BAD_STARTS: &[&str] = &["4", "01", "10", "00", "-", "x", "re", "NIL", "1\\", "+1", ".end", "\x00"];
+const TYPES: &[&str] = &["re", "fe", "ah", "al", "as", "0", "1", "x"];
+
+// What stands behind a latch's two names: nothing, a start value, a type and a control, or all of them and more. A start value is good unless a
+// fault is wanted; a token that is none may be anything.
+fn behind_latch(r: &mut Numbers, fault: bool) -> Vec<String> {
+    let start = if fault { pick(r, BAD_STARTS) } else { pick(r, GOOD_STARTS) };
+    let typed = [pick(r, TYPES), pick(r, &["clk", "NIL", "c", "1", "4"])];
+    let more: Vec<&str> = (0..r.below(4)).map(|_| if r.below(2) == 0 { pick(r, BAD_STARTS) } else { pick(r, GOOD_STARTS) }).collect();
+    let tokens = match r.below(if fault { 3 } else { 6 }) {
+        0 => vec![start],
+        1 => [&typed[..], &[start]].concat(),
+        2 => [&typed[..], &[start], &more].concat(),
+        3 => typed.to_vec(),
+        4 => vec![start],
+        _ => Vec::new(),
+    };
+    tokens.iter().map(|t| t.to_string()).collect()
+}
+
 // The lines of a cover, of one output unless a fault is wanted.
 fn lines(r: &mut Numbers, s: &Shape, columns: usize) -> String {
     let n = r.below(s.lines + 1);
@@ -113,7 +134,8 @@ fn model(r: &mut Numbers, s: &Shape, names: &[String]) -> Vec<String> {
         let out = if s.faults > 0 && r.below(s.faults * 2) == 0 { used(r) } else { gates[g].clone() };
         if flop[g] {
             let mut t = vec![used(r), out];
-            t.extend(["re", "clk", "2"][..r.below(4)].iter().map(|x| x.to_string()));
+            let fault = s.faults > 0 && r.below(s.faults) < 2;
+            t.extend(behind_latch(r, fault));
             all.push(statement(r, &tokens(".latch", &t)));
         } else {
             let n = if usable.is_empty() { 0 } else { r.below(s.wide + 1) };
@@ -155,7 +177,8 @@ fn whole(r: &mut Numbers, k: usize) -> Vec<u8> {
     if r.below(12) == 0 {
         let at = if r.below(2) == 0 { r.below(all.len() + 1) } else { all.len() };
         all.insert(at, statement(r, &[".exdc".to_string()]));
-        all.push(pick(r, &["", ".names\n", "1 1\n", ".inputs q q\n", ".model z\n", ".end\n", ".names q w\n2 2\n"]).to_string());
+        let behind = &["", ".names\n", "1 1\n", ".inputs q q\n", ".model z\n", ".end\n", ".names q w\n2 2\n", ".latch q w 1\n", ".latch q w x\n"];
+        all.push(pick(r, behind).to_string());
     }
     all.concat().into_bytes()
 }
@@ -188,8 +211,8 @@ pub fn ended(r: &mut Numbers, k: usize) -> Vec<u8> {
             all.push(lines(r, &s, columns));
         }
         3 => all.push(pick(r, &[".inputs", ".outputs"]).to_string() + &" a".repeat(257) + "\n"),
-        4 => all.push(pick(r, &[".names\n", ".inputs q q\n", ".outputs q w\n", ".latch q w\n", ".end\n", ".exdc\n.names\n"]).to_string()),
-        5 => all.push(pick(r, &[".model\n", ".latch q\n", ".gate\n", ".endd\n", ". end\n"]).to_string()),
+        4 => all.push(pick(r, &[".names\n", ".inputs q q\n", ".outputs q w\n", ".latch q w 1\n", ".end\n", ".exdc\n.names\n"]).to_string()),
+        5 => all.push(pick(r, &[".model\n", ".latch q\n", ".latch q w x\n", ".latch q w re c 4\n", ".gate\n", ".endd\n", ". end\n"]).to_string()),
         _ => all.push(pick(r, &["# notes\n", "notes, in words\n", "see .names\n"]).to_string()),
     }
     let t = all.concat().into_bytes();
@@ -269,7 +292,8 @@ fn short(k: usize) -> String {
 fn definition(r: &mut Numbers, inputs: usize, k: usize, wide: usize, most: usize) -> (String, usize, usize) {
     let out = short(inputs + k);
     if r.below(5) == 0 {
-        return (format!(".latch {} {out}\n", short(r.below(inputs + k + 1))), 1, 3);
+        let start = pick(r, &["", " 0", " 1", " 2", " re c 1"]);
+        return (format!(".latch {} {out}{start}\n", short(r.below(inputs + k + 1))), 1, 3);
     }
     let (n, rows) = (r.below(wide), r.below(most));
     let used: String = (0..n).map(|_| short(r.below(inputs + k)) + " ").collect();

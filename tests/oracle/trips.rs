@@ -1,8 +1,9 @@
 // Networks to write and to read back, each with rows, and what must be answered: Quaigh's `write_blif` and its `read_blif` with document
-// 01's numbers, and the output rows that the network written gives for the rows from zero.
+// 01's numbers and document 02's start values, and the output rows that the network written gives for the rows from its start values.
 use crate::compare::Case;
 use crate::generate::{make, Numbers, Plain, Shape};
-use crate::lent::{decoded, given as cells_given, lent, wanted as written, Lent, Wanted as Written};
+use crate::lent::{decoded, given as cells_given, lent, wanted as written, Lent, Wanted as Written, RECORD};
+use crate::models::plain_flops;
 use crate::nets::{i, net, x};
 use crate::reads::{wanted as read, Wanted as Read};
 use crate::rows::{flop, text};
@@ -88,6 +89,47 @@ fn flops() -> Vec<(Plain, Rows)> {
     ]
 }
 
+// Flip-flops that start at one, whose values go through the text: alone, among others, behind gates that the sort moves.
+fn starts() -> Vec<(Plain, Rows)> {
+    let bits = |s: &str| s.bytes().map(|b| vec![b == b'1']).collect::<Rows>();
+    let clocks = |n: usize| vec![vec![]; n];
+    let all = |n: u32| (0..n).map(x).collect::<Vec<_>>();
+    let shift = net(1, vec![flop(i(0)), flop(x(0)), flop(x(1))], all(3));
+    let ring = net(0, vec![flop(x(3)), flop(x(0)), flop(x(1)), flop(x(2))], all(4));
+    let among = vec![(1, vec![x(4), i(0)]), flop(x(0)), (13, vec![!x(1)]), flop(x(2)), (8, vec![x(3), i(0)]), flop(!x(5))];
+    let among = net(1, among, vec![x(1), x(3), x(5), x(4), x(0)]);
+    let many: Vec<usize> = (0..40).filter(|k| k % 7 < 3).collect();
+    let long = net(1, (0..40).map(|k| flop(if k == 0 { i(0) } else { !x(k - 1) })).collect(), all(40));
+    let mut nets = vec![
+        (net(0, vec![flop(x(0))], vec![x(0)]).starting(&[0]), clocks(3)),
+        (net(0, vec![flop(!x(0))], vec![x(0), !x(0)]).starting(&[0]), clocks(4)),
+        (net(1, vec![flop(i(0))], vec![x(0)]).starting(&[0]), bits("0110")),
+        (net(1, vec![flop(i(0))], vec![x(0)]).starting(&[0]), vec![]),
+        (long.starting(&many), bits("01101001")),
+    ];
+    for ones in [&[0][..], &[1], &[2], &[0, 2], &[0, 1, 2]] {
+        nets.push((shift.clone().starting(ones), bits("01000")));
+        nets.push((ring.clone().starting(ones), clocks(5)));
+    }
+    for ones in [&[1][..], &[3], &[5], &[1, 5], &[3, 5]] {
+        nets.push((among.clone().starting(ones), bits("010011")));
+    }
+    // an enable that is no constant is written, and not read
+    nets.push((net(1, vec![(14, vec![i(0), i(0), Signal::zero()])], vec![x(0)]).starting(&[0]), bits("01")));
+    nets
+}
+
+// Start values that are 20: of a flip-flop 2 and more, of another gate 1.
+fn wrong_starts() -> Vec<Trip> {
+    let p = net(1, vec![flop(i(0)), (13, vec![x(0)])], vec![x(1)]);
+    let with = |g: usize, start: u32| {
+        let mut l = lent(&p);
+        l.gates[RECORD * g + 3] = start;
+        Trip { lent: l, rows: vec![vec![true]] }
+    };
+    vec![with(0, 2), with(0, 3), with(0, u32::MAX), with(1, 1), with(1, u32::MAX)]
+}
+
 // Outputs of constants and inputs, repeated, or none; no gates; gates that are not sorted; loops and what is none.
 fn shapes() -> Vec<(Plain, Rows)> {
     let (zero, one) = (Signal::zero(), Signal::one());
@@ -136,12 +178,9 @@ fn limits() -> Vec<(Plain, Rows)> {
 // ---- from a seed
 
 // Every eighth has a flip-flop's enable or reset as it was made; the others are plain.
-fn plain(r: &mut Numbers, mut p: Plain) -> Plain {
+fn plain(r: &mut Numbers, p: Plain) -> Plain {
     if r.below(8) > 0 {
-        for (_, ps) in p.gates.iter_mut().filter(|(form, _)| *form == 14) {
-            ps[1] = Signal::one();
-            ps[2] = Signal::zero();
-        }
+        return plain_flops(p);
     }
     p
 }
@@ -174,8 +213,9 @@ fn random(r: &mut Numbers, k: usize) -> Trip {
 
 // The networks by hand and so many from a seed.
 pub fn trips(seed: u64, count: usize) -> Vec<Trip> {
-    let by_hand = [forms(), flops(), shapes(), limits()].into_iter().flatten();
+    let by_hand = [forms(), flops(), starts(), shapes(), limits()].into_iter().flatten();
     let mut all: Vec<Trip> = by_hand.map(|(p, rows)| Trip { lent: lent(&p), rows }).collect();
+    all.extend(wrong_starts());
     let mut r = Numbers(seed);
     all.extend((0..count).map(|k| random(&mut r, k)));
     all
@@ -209,18 +249,19 @@ pub fn all_given(ts: &[Trip]) -> String {
     words(&[ts.len() as u32]) + &ts.iter().map(given).collect::<String>()
 }
 
-// The kind of an answer, its lines, and for a network read back whether it is not sorted, has a flip-flop, is without rows, and how many
-// clocks and bits of outputs it has.
-fn shown(t: &Trip) -> (String, String, [usize; 5]) {
+// The kind of an answer, its lines, and for a network read back whether it is not sorted, has a flip-flop, has one that starts at one, is
+// without rows, and how many clocks and bits of outputs it has.
+fn shown(t: &Trip) -> (String, String, [usize; 6]) {
     match wanted(&t.lent) {
-        Answer::NotWritten(k) => (format!("not written {k}"), format!("not written={k}\n"), [0; 5]),
-        Answer::NotRead(k) => (format!("not read {k}"), format!("not read={k}\n"), [0; 5]),
+        Answer::NotWritten(k) => (format!("not written {k}"), format!("not written={k}\n"), [0; 6]),
+        Answer::NotRead(k) => (format!("not read {k}"), format!("not read={k}\n"), [0; 6]),
         Answer::Back(length, b) => {
             let p = decoded(&t.lent).unwrap();
             assert!(order(&p, variants::Mistake::Nothing).is_some(), "a loop is read back");
             let outs = run(&p, &t.rows, Mistake::Nothing);
-            let flop = p.gates.iter().any(|g| g.0 == 14);
-            let counts = [unsorted(&p) as usize, flop as usize, t.rows.is_empty() as usize, outs.len(), outs.concat().len()];
+            let one = p.gates.iter().any(|g| g.start == 1);
+            let kinds = [unsorted(&p), !p.flops().is_empty(), one, t.rows.is_empty()].map(|k| k as usize);
+            let counts = [kinds[0], kinds[1], kinds[2], kinds[3], outs.len(), outs.concat().len()];
             let head = format!("length={length} counts {} {} {} {}\n", b.inputs, b.gates.len(), b.pins(), b.outputs.len());
             let rows = as_text(&outs);
             assert!(rows.len() <= MOST_ROWS, "output rows that the program has no room for");
@@ -233,7 +274,7 @@ fn shown(t: &Trip) -> (String, String, [usize; 5]) {
 // how many have a flip-flop; and how many clocks and output bits are compared.
 pub fn answers(ts: &[Trip]) -> Vec<String> {
     let mut seen: BTreeMap<String, usize> = BTreeMap::new();
-    let mut back = [0; 5];
+    let mut back = [0; 6];
     let mut all = Vec::new();
     for (n, t) in ts.iter().enumerate() {
         let (kind, shown, counts) = shown(t);
@@ -242,8 +283,8 @@ pub fn answers(ts: &[Trip]) -> Vec<String> {
         all.push(format!("network {n}\n{shown}"));
     }
     eprintln!("{} networks; answers: {seen:?}", ts.len());
-    eprintln!("of those read back, not sorted, with a flip-flop, without rows: {:?}", &back[..3]);
-    eprintln!("clocks: {}; bits of outputs: {}", back[3], back[4]);
+    eprintln!("of those read back, not sorted, with a flip-flop, with one that starts at one, without rows: {:?}", &back[..4]);
+    eprintln!("clocks: {}; bits of outputs: {}", back[4], back[5]);
     all
 }
 

@@ -30,9 +30,9 @@ pub fn order(net: &Plain, m: Mistake) -> Option<Vec<usize>> {
     if m == Mistake::LeftAlone {
         return Some((0..n).collect());
     }
-    let comb = |g: usize| net.gates[g].0 != 14;
+    let comb = |g: usize| !net.gates[g].is_flop();
     let used = |g: usize| -> Vec<usize> {
-        let mut v: Vec<usize> = net.gates[g].1.iter().filter(|s| s.is_var()).map(|s| s.var() as usize).collect();
+        let mut v: Vec<usize> = net.gates[g].pins.iter().filter(|s| s.is_var()).map(|s| s.var() as usize).collect();
         if m == Mistake::RepeatsOnce {
             let mut seen = Vec::new();
             v.retain(|x| {
@@ -93,4 +93,40 @@ pub fn order(net: &Plain, m: Mistake) -> Option<Vec<usize>> {
     } else {
         None
     }
+}
+
+// How a sort may go wrong at start values, with the gates in the right order.
+#[derive(Clone, Copy, PartialEq, Debug)]
+pub enum StartMistake {
+    Lost,         // all are zero
+    NotMoved,     // each stays at the number that its gate had
+    Backwards,    // each goes the way that the gate of its new number came
+    FlopsDown,    // those of the flip-flops in reversed order
+    FirstForAll,  // every flip-flop has that of the first
+    OnlyToMoved,  // lost where a flip-flop keeps its number
+}
+
+pub const START_MISTAKES: [StartMistake; 6] = [
+    StartMistake::Lost,
+    StartMistake::NotMoved,
+    StartMistake::Backwards,
+    StartMistake::FlopsDown,
+    StartMistake::FirstForAll,
+    StartMistake::OnlyToMoved,
+];
+
+// The start values in an order of old numbers.
+pub fn starts(net: &Plain, order: &[usize], m: StartMistake) -> Vec<u32> {
+    let start = |g: usize| net.gates[g].start;
+    let place = |g: usize| order.iter().position(|old| *old == g).unwrap();
+    let flops = net.flops();
+    let one = |(new, old): (usize, &usize)| match (m, flops.iter().position(|f| f == old)) {
+        (StartMistake::NotMoved, _) => start(new),
+        (StartMistake::Backwards, _) => start(place(new)),
+        (StartMistake::FlopsDown, Some(k)) => start(flops[flops.len() - 1 - k]),
+        (StartMistake::FirstForAll, Some(_)) => start(flops[0]),
+        (StartMistake::OnlyToMoved, Some(_)) if *old != new => start(*old),
+        _ => 0,
+    };
+    order.iter().enumerate().map(one).collect()
 }

@@ -1,7 +1,7 @@
 // The networks to write, and their answers.
 use crate::compare::{number, Case};
 use crate::generate::{make, Numbers, Plain, Shape};
-use crate::lent::{decoded, given, lent, quaigh, shown, text, wanted, Lent, Wanted, MAX_TEXT};
+use crate::lent::{decoded, decoded_with, given, lent, quaigh, shown, text, wanted, Lent, Wanted, LAX, MAX_TEXT};
 use crate::nets::Hand;
 use crate::plain_writer::{written, Mistake, MISTAKES};
 use crate::variants::order;
@@ -10,13 +10,13 @@ use std::collections::BTreeMap;
 
 // A plain flip-flop, one with an enable, one with a reset, or as it is.
 fn some_plain(r: &mut Numbers, mut p: Plain) -> Plain {
-    for (_, ps) in p.gates.iter_mut().filter(|(form, _)| *form == 14) {
+    for g in p.gates.iter_mut().filter(|g| g.is_flop()) {
         let kind = r.below(4);
         if kind < 2 {
-            ps[1] = Signal::one();
+            g.pins[1] = Signal::one();
         }
         if kind == 0 || kind == 2 {
-            ps[2] = Signal::zero();
+            g.pins[2] = Signal::zero();
         }
     }
     p
@@ -39,7 +39,7 @@ fn random(r: &mut Numbers, k: usize) -> Lent {
     let made = make(r, &s);
     let p = some_plain(r, made);
     let mut l = lent(&p);
-    let narrow = p.gates.iter().all(|(form, ps)| *form < 11 || ps.len() < 13);
+    let narrow = p.gates.iter().all(|g| g.form < 11 || g.pins.len() < 13);
     let n = if narrow { text(&p).len() } else { 200 };
     if r.below(5) == 0 {
         l.room = [n, n.saturating_sub(1), r.below(n), n + 1, MAX_TEXT][r.below(5)].min(MAX_TEXT + 1);
@@ -87,7 +87,7 @@ pub fn seeded(seed: u64) -> impl Iterator<Item = Lent> {
 // Whether a combinational gate has an input that is no lower gate.
 pub fn unsorted(p: &Plain) -> bool {
     let higher = |g: usize, s: &Signal| s.is_var() && s.var() as usize >= g;
-    p.gates.iter().enumerate().any(|(g, (form, ps))| *form != 14 && ps.iter().any(|s| higher(g, s)))
+    p.gates.iter().enumerate().any(|(g, node)| !node.is_flop() && node.pins.iter().any(|s| higher(g, s)))
 }
 
 impl Case for Lent {
@@ -97,7 +97,8 @@ impl Case for Lent {
     const ANSWERED: &'static str = "written";
     const NOTES: &'static [&'static str] = &[
         "written with a .flop line",
-        "written with a .flop line that Quaigh writes otherwise",
+        "written with a .flop line whose enable or reset Quaigh writes otherwise",
+        "written with a start value of one, which Quaigh writes as 0",
         "written, not sorted",
         "written, with a combinational loop",
     ];
@@ -113,11 +114,13 @@ impl Case for Lent {
     fn answer(&self) -> (Vec<u8>, Vec<bool>) {
         let w = wanted(self);
         let Wanted::Written(t) = &w else {
-            return (shown(&w).into_bytes(), vec![false; 4]);
+            return (shown(&w).into_bytes(), vec![false; Lent::NOTES.len()]);
         };
         let p = decoded(self).unwrap();
         let flop = t.contains("\n.flop ");
-        let notes = vec![flop, flop && quaigh(&p) != *t, unsorted(&p), order(&p, variants::Mistake::Nothing).is_none()];
+        let one = p.gates.iter().any(|g| g.start == 1);
+        let other = quaigh(&p) != written(&p, Mistake::StartIsZero);
+        let notes = vec![flop, flop && other, one, unsorted(&p), order(&p, variants::Mistake::Nothing).is_none()];
         (shown(&w).into_bytes(), notes)
     }
 
@@ -146,7 +149,7 @@ pub fn lists(seed: u64, count: usize) -> (Vec<u8>, Vec<u8>) {
     let mut given = words(&[networks.len() as u32]).into_bytes();
     let mut wanted = TOLD.as_bytes().to_vec();
     let mut seen: BTreeMap<u32, usize> = BTreeMap::new();
-    let mut notes = [0; 4];
+    let mut notes = [0; Lent::NOTES.len()];
     for (n, l) in networks.iter().enumerate() {
         let (w, held) = l.answer();
         *seen.entry(number(&w)).or_insert(0) += 1;
@@ -183,5 +186,10 @@ fn told_apart(ls: &[Lent]) {
     for (m, n) in MISTAKES.iter().zip(&caught) {
         assert!(*n != usize::MAX, "the list does not tell {m:?} apart");
         eprintln!("{m:?} told apart by a network of {n} gates");
+    }
+    for m in LAX {
+        let apart = ls.iter().filter(|l| decoded(l).is_some() != decoded_with(l, m).is_some());
+        let n = apart.map(|l| l.counts[1]).min().unwrap_or_else(|| panic!("the list does not tell {m:?} apart"));
+        eprintln!("20 with {m:?} of start values told apart by {n} gates");
     }
 }

@@ -77,8 +77,8 @@ module _ {text tokens : List ℕ} {n end k e : ℕ} (l : LinesAt text tokens n e
       record {
         low = moves w;
         rest = l .rest;
-        are = ap decls (w .starts .0) ∙ stray (gate (latchFrom text tokens (at + 1)) ∷ []);
-        places = omega (arith, w .starts .1, w .rest .rows .high);
+        are = ap decls (w .starts .0) ∙ stray (gate (latchFrom text tokens (at + 1) (end - at - 1)) ∷ []);
+        places = (omega (arith, w .starts .1), omega (arith, w .starts .1, w .rest .rows .high));
       }
   -- "Cube lines count only directly after their `.names`"
   row-declares {at} key.Names w =

@@ -15,7 +15,9 @@ use Rattle.blif_text.specs.Statements.{Stmt, firstBad, stmts}
 use Rattle.blif_text.specs.between.Rows.{rowStmt}
 use Rattle.blif_text.specs.between.Places.{isFirst, tokenOf, tokensOf, grouped}
 use Rattle.blif_text.specs.Keywords.{keywordOf}
-use Rattle.blif_text.specs.between.PlacedStatements.{runTokens, parsedFrom, RowTo, namesRun, statementOf, refusalIn}
+use Rattle.blif_text.specs.between.PlacedStatements.{runTokens, latchIn, initIn, startOf, parsedFrom, RowTo, namesRun, startedLatch, statementOf, refusalIn}
+use Rattle.blif_text.specs.declared.Start.{Start}
+use Rattle.blif_text.specs.declared.Start.the-variants as start
 use Rattle.blif_text.specs.between.Walk.{rowsFrom, stmtsFrom, RowsAt, StmtsAt}
 use Rattle.blif_text.specs.declared.Keyword.{Keyword}
 use Rattle.blif_text.specs.declared.Keyword.the-variants as key
@@ -87,12 +89,20 @@ module _ {text cells : List ℕ} {n at r : ℕ} (c : StmtsAt text cells n at) (h
 
   module _ {keyword : Keyword} (e : keyword ≡ keywordOf (tokenOf text (getD cells at 0))) where
     -- the row's statement, then the others
-    are : stmtsFrom text cells n at ≡ stmts (parsedFrom text cells (statementOf keyword at r) ∷ map rowStmt (rowsFrom text cells n r))
-    are = stmts-are c h w ∙ ap (λ (k : Keyword). stmts (parsedFrom text cells (statementOf k at r) ∷ map rowStmt (rowsFrom text cells n r))) (sym e)
+    are : stmtsFrom text cells n at ≡ stmts (parsedFrom text cells (statementOf text cells keyword at r) ∷ map rowStmt (rowsFrom text cells n r))
+    are = stmts-are c h w ∙ ap (λ (k : Keyword). stmts (parsedFrom text cells (statementOf text cells k at r) ∷ map rowStmt (rowsFrom text cells n r))) (sym e)
 
     -- which is no refusal
-    fine : refusalIn (statementOf keyword at r) ≡ Fine
-    fine = ap (λ (k : Keyword). refusalIn (statementOf k at r)) e ∙ stmts-parsedFrom c h w
+    fine : refusalIn (statementOf text cells keyword at r) ≡ Fine
+    fine = ap (λ (k : Keyword). refusalIn (statementOf text cells k at r)) e ∙ stmts-parsedFrom c h w
+
+  -- a latch whose start value is no refusal
+  latch-good : (s : Start) → stmtsFrom text cells n at ≡ stmts (parsedFrom text cells (startedLatch s (namesRun at r)) ∷ map rowStmt (rowsFrom text cells n r))
+      → refusalIn (startedLatch s (namesRun at r)) ≡ Fine → stmtsFrom text cells n at ≡ Stmt.latch (latchIn text cells (namesRun at r)) ∷ stmtsFrom text cells n r
+  unfolding stmts
+  latch-good start.Zero q f = q
+  latch-good start.One q f = q
+  latch-good start.Wrong q f = absurd (refused-ne-fine f)
 
   row-starts : (k : Keyword) → k ≡ keywordOf (tokenOf text (getD cells at 0)) → Starts text cells n at r k
   unfolding stmts
@@ -104,7 +114,8 @@ module _ {text cells : List ℕ} {n at r : ℕ} (c : StmtsAt text cells n at) (h
   row-starts key.Outputs e = are e ∙ ap (λ (ns : List Bytes). Stmt.outputs ns ∷ stmtsFrom text cells n r) (run-names text cells (namesRun at r))
   row-starts key.Names e = are e ∙ ap (λ (ns : List Bytes). Stmt.names ns ∷ stmtsFrom text cells n r) (run-names text cells (namesRun at r))
   row-starts key.Latch e =
-      by-order 2 (r - at - 1) (λ m. (rw (le-ltb (r - at - 1) 2 m) at (are e), omega arith))
+      by-order 2 (r - at - 1)
+      (λ m. (latch-good (startOf (initIn text cells (at + 3) r)) (rw (le-ltb (r - at - 1) 2 m) at (are e)) (rw (le-ltb (r - at - 1) 2 m) at (fine e)), omega arith))
       (λ m. absurd (refused-ne-fine (rw (lt-ltb (r - at - 1) 2 m) at (fine e))))
   row-starts key.Cube e = are e ∙ ap (λ (ns : List Bytes). Stmt.cube ns ∷ stmtsFrom text cells n r) cube-row
   row-starts key.Unsupported e = refused-ne-fine (fine e)

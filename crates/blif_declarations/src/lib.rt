@@ -21,13 +21,13 @@ struct Lines {
     end: usize,
 }
 
-// A declaration by its places in the tokens: runs of names, a latch by the place of its first name, a cover with its lines; or
+// A declaration by its places in the tokens: runs of names, a latch with the tokens behind its names, a cover with its lines; or
 // that there is none, at a stray cube line and at `.exdc`.
 pub enum Declaration {
     Model,
     Inputs(Run),
     Outputs(Run),
-    Latch(usize),
+    Latch(Run),
     Cover(Block),
     End,
     None,
@@ -66,7 +66,7 @@ fn declared_by(keyword: Keyword, names: Run, lines: Lines, n: usize) -> Next
         Keyword::Model => Declaration::Model,
         Keyword::Inputs => Declaration::Inputs(names),
         Keyword::Outputs => Declaration::Outputs(names),
-        Keyword::Latch => Declaration::Latch(names.first),
+        Keyword::Latch => Declaration::Latch(names),
         Keyword::Names => Declaration::Cover(Block {
             first: names.first,
             names: names.count,

@@ -1,12 +1,12 @@
 -- What a BLIF model means. Sentences in quotes are the Berkeley text's, "Berkeley Logic Interchange Format (BLIF)", sections "Logic
--- Gates" and "Flip flops and latches", or, where `.flop` is named, ABC's. Names are of any type. Assumes nothing: these are definitions.
+-- Gates" and "Flip flops and latches", or, where `.flop` is named, ABC's; those of document 02 are named so. Names are of any type. Assumes nothing: these are definitions.
 use mathlib.Core.Path.{_≡_}
 use mathlib.Core.Bool.{Bool, true, false, not, _&&_, cond}
 use mathlib.Core.List.{List, [], _∷_, map, List·Memᴰ}
 use mathlib.Core.Option.{Option, none, some}
 use Prim.Native.Nat.{ℕ}
 use lib.ListN.{getD, getElem?}
-use Rattle.lists.specs.Lists.{optional, any}
+use Rattle.lists.specs.Lists.{Bytes, bytes, optional, any}
 use Rattle.network.specs.Clock.{Runs}
 
 -- a column of a row: "{0, 1, –} is used in the n-bit wide input plane"
@@ -20,6 +20,21 @@ pub record Line : Type 0 where
   -- the output plane
   pub out : Bool
 
+-- a latch's init-val: "the initial state of the latch, which can be one of {0, 1, 2, 3}. "2" stands for "don't care" and "3" is "unknown.""
+pub data Init : Type 0 where
+  I0 I1 DontCare Unknown : Init
+
+-- the initial states
+abbrev pub inits : List Init
+inits = I0 ∷ I1 ∷ DontCare ∷ Unknown ∷ []
+
+-- the bytes that say one: "one of {0, 1, 2, 3}"
+abbrev pub initBytes : Init → Bytes
+initBytes I0 = bytes "0"
+initBytes I1 = bytes "1"
+initBytes DontCare = bytes "2"
+initBytes Unknown = bytes "3"
+
 -- a latch: "input is the data input to the latch", "output is the output of the latch"; a `.flop` may have an enable `E` and a reset `R` too
 pub record LatchDef (Name : Type 0) : Type 0 where
   -- the data input
@@ -30,6 +45,8 @@ pub record LatchDef (Name : Type 0) : Type 0 where
   pub enable : Option Name
   -- `R`, if it is given
   pub reset : Option Name
+  -- init-val, or `init` of a `.flop`: "the initial state of the latch"
+  pub init : Init
 
 -- a latch, or a cover with its inputs, its output and its rows
 pub data Block (Name : Type 0) : Type 0 where
@@ -67,10 +84,28 @@ abbrev pub coverBit : List Line → List Bool → Bool
 coverBit [] bs = false
 coverBit (l ∷ ls) bs = cond (l .out) (cubesBit (l ∷ ls) bs) (not (cubesBit (l ∷ ls) bs))
 
+-- the value that an initial state allows a latch at power-up, by the Berkeley text
+abbrev pub MayHold : Init → Bool → Type 0
+MayHold I0 b = b ≡ false
+MayHold I1 b = b ≡ true
+MayHold DontCare b = Unit {0}
+MayHold Unknown b = Unit {0}
+
+-- the value that is taken: "2 and 3 read as zero" (document 02, CR 4)
+abbrev pub initBit : Init → Bool
+initBit I0 = false
+initBit I1 = true
+initBit DontCare = false
+initBit Unknown = false
+
+-- a latch holds that value
+abbrev pub Holds : Init → Bool → Type 0
+Holds i b = b ≡ initBit i
+
 module _ {Name : Type 0} where
-  -- a latch without enable and reset, from its input and its output
-  abbrev pub plainLatch : Name → Name → LatchDef Name
-  plainLatch d q = record { input = d; output = q; enable = none; reset = none }
+  -- a latch without enable and reset, from its input, its output and its initial state
+  abbrev pub plainLatch : Name → Name → Init → LatchDef Name
+  plainLatch d q i = record { input = d; output = q; enable = none; reset = none; init = i }
 
   -- the name that a latch or a cover defines
   abbrev pub target : Block Name → Name
@@ -105,6 +140,19 @@ module _ {Name : Type 0} where
     -- each latch takes what it holds next
     pub steps : (d : LatchDef Name) → List·Memᴰ (Latch d) (m .blocks) → next (d .output) ≡ nextHeld env (held (d .output)) d
 
-  -- the outputs that the model gives for these rows, from all latches at 0
+  -- the outputs that the model gives for these rows, from values at power-up that each latch's initial state allows
+  pub record RunsFrom (Allows : Init → Bool → Type 0) (m : Model Name) (rows outs : List (List Bool)) : Type 0 where
+    -- the values that the latches hold at power-up
+    pub held : Name → Bool
+    -- each is one that the latch's "initial state" allows
+    pub starts : (d : LatchDef Name) → List·Memᴰ (Latch d) (m .blocks) → Allows (d .init) (held (d .output))
+    -- clock by clock from there
+    pub runs : Runs (BlifClock m) held rows outs
+
+  -- the outputs that the Berkeley text allows: where a latch's initial state is "don't care" or "unknown", from either value
+  abbrev pub MayRun : Model Name → List (List Bool) → List (List Bool) → Type 0
+  MayRun m rows outs = RunsFrom MayHold m rows outs
+
+  -- those of them in which "2 and 3 read as zero", as document 02, CR 4, has it
   abbrev pub BlifRuns : Model Name → List (List Bool) → List (List Bool) → Type 0
-  BlifRuns m rows outs = Runs (BlifClock m) (λ (x : Name). false) rows outs
+  BlifRuns m rows outs = RunsFrom Holds m rows outs

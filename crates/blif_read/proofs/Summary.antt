@@ -2,6 +2,7 @@
 use mathlib.Core.Path.{_≡_, ap, _∙_}
 use mathlib.Core.Bool.{Bool, true, false}
 use mathlib.Core.List.{_++_}
+use mathlib.Core.Logic.{inl}
 use native.Mathlib.Omega.{arith}
 use Rattle.lists.specs.Lists.{if_then_else_, Bytes}
 use Rattle.refusals.specs.Numbers.{InReading}
@@ -34,7 +35,7 @@ reading-refuses text n r = go (enough n)
   where
     go : (b : Bool) → (if b then readText text else refused refusal.TooFewCells) ≡ refused r → InReading r
     go true e = texts.reading-refuses text r e
-    go false e = let q : r ≡ refusal.TooFewCells = cc in rw q (record { low = omega arith; high = omega arith })
+    go false e = let q : r ≡ refusal.TooFewCells = cc in rw q (inl (omega arith))
 
 -- what may stand behind `.end` or `.exdc` changes neither the answer nor any cell
 pub behind-end : (text rest : Bytes) (n : Lengths) → Ended text → MayFollow text rest → readInto (text ++ rest) n ≡ readInto text n

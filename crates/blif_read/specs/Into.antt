@@ -31,8 +31,8 @@ pub record Lengths : Type 0 where
 abbrev pub lengths : ℕ → ℕ → ℕ → ℕ → ℕ → Lengths
 lengths g p o wg wp = record { gates = g; pins = p; outputs = o; workGates = wg; workPins = wp }
 
--- "1 when fewer 32-bit cells are lent than 3,072 for gates .., 16,384 for pins and 256 for outputs, or than 3,072 and 16,384 again as
--- working cells"
+-- "1 when fewer 32-bit cells are lent than .. for gates .., 16,384 for pins and 256 for outputs, or than .. and 16,384 again as
+-- working cells"; "Refusal 1 then asks for 4,096 gate cells and as many working ones" (document 02, CR 4)
 unfoldable pub enough : Lengths → Bool
 enough n =
     leb (maxGates * gateWidth) (n .gates) && leb maxPins (n .pins) && leb maxOutputs (n .outputs)

@@ -8,7 +8,8 @@ use lib.Seq.{slice, getD-drop, getD-take}
 use Rattle.lists.specs.Lists.{Bytes, sumOf, known}
 use Rattle.lists.proofs.Places.{getD-any}
 use Rattle.lists.proofs.Tests.{by-order}
-use Rattle.blif_meaning.specs.Model.{LatchDef, plainLatch}
+use Rattle.blif_meaning.specs.Model.{LatchDef}
+use Rattle.blif_text.specs.between.PlacedStatements.{latchIn}
 use Rattle.blif_text.specs.Decls.{Def, latch, cover, gate, decls, defs, coverOut, defines}
 use Rattle.blif_text.specs.between.Places.{tokenOf}
 use Rattle.blif_text.specs.between.Walk.{rowsFrom, stmtsFrom, StmtsAt}
@@ -95,17 +96,16 @@ module _ {text tokens : List ℕ} {n : ℕ} {index out blocks : List ℕ} {v : W
 
   module _ (h : v .at < n) {behind : ℕ} {index′ blocks′ : List ℕ} {w : Step} where
     -- a latch
-    pub go-latch : {first : ℕ} → NextIs text tokens n (v .at) (next.Latch first) behind
-        → LatchStep text tokens index blocks index′ blocks′ (walkAt v behind) first w → length blocks′ ≡ length blocks → Steps text tokens n index′ out blocks′ v w
-    go-latch {first} x s p =
-        let d = tokenOf text (getD tokens first 0) in
-        let q = tokenOf text (getD tokens (first + 1) 0) in
+    pub go-latch : {run : Run} → NextIs text tokens n (v .at) (next.Latch run) behind
+        → LatchStep text tokens index blocks index′ blocks′ (walkAt v behind) run w → length blocks′ ≡ length blocks → Steps text tokens n index′ out blocks′ v w
+    go-latch {run} x s p =
+        let d = latchIn text tokens run in
         let l = decls (stmtsFrom text tokens n behind) in
         subst (Steps text tokens n index′ out blocks′ v) (sym (s .walk))
         (go-gate (x .low) (x .rest) (x .are)
-        (naming-latch (seen v) (namesIn text index (v .inputs + v .gates)) l (plainLatch d q))
-        (latch-defines (plainLatch d q)) refl
-        (record { latchNames = λ z. x .places; coverNames = omega (arith, x .places); behind = λ z. absurd (omega arith); enough = λ z. absurd (omega arith) })
+        (naming-latch (seen v) (namesIn text index (v .inputs + v .gates)) l d)
+        (latch-defines d) refl
+        (record { latchNames = λ z. x .places .0; latchTokens = λ z. x .places .1; coverNames = omega (arith, x .places .1); behind = λ z. absurd (omega arith); enough = λ z. absurd (omega arith) })
         (s .gate) p)
 
     module _ {block : Block} (x : NextIs text tokens n (v .at) (next.Cover block) behind) (s : CoverStep text tokens index blocks index′ blocks′ (walkAt v behind) block w) where
@@ -142,7 +142,7 @@ module _ {text tokens : List ℕ} {n : ℕ} {index out blocks : List ℕ} {v : W
           ∙ ap (λ (k : Bytes). refuseIf (known k (namesIn text index (v .inputs + v .gates))) refusal.DefinedTwice orElse naming (seen v) (namesIn text index (v .inputs + v .gates) ++ (k ∷ [])) l) y)
           (sym y ∙ cover-defines ns lines)
           (cover-from text tokens n (block .first) (block .names) (block .lines) f)
-          (record { latchNames = λ z. absurd (f z); coverNames = x .places .few; behind = λ z. x .places .behind; enough = λ z. x .places .enough })
+          (record { latchNames = λ z. absurd (f z); latchTokens = λ z. absurd (f z); coverNames = x .places .few; behind = λ z. x .places .behind; enough = λ z. x .places .enough })
           (s .cover .last f) p)
 
       -- a cover

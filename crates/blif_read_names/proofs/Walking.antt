@@ -64,20 +64,20 @@ module _ {text tokens : List ℕ} {n : ℕ} {index out blocks : List ℕ} {v : W
           room = omega (arith, few, c .tabled .index-is .counted, few-names .1);
         }
 
-    pub latch-fit : {first : ℕ} → NextIs text tokens n (v .at) (next.Latch first) behind → LatchFits text tokens index blocks (walkAt v behind) first
-    latch-fit {first} x =
+    pub latch-fit : {run : Run} → NextIs text tokens n (v .at) (next.Latch run) behind → LatchFits text tokens index blocks (walkAt v behind) run
+    latch-fit {run} x =
         record {
-          there = omega (arith, x .places, x .rest .rows .places .room);
+          there = omega (arith, x .places .0, x .places .1, x .rest .rows .places .room);
           gate =
               record {
                 index-is = index-counted (c .tabled .index-is);
                 free = one-free (x .are);
-                inside = x .rest .rows .places .inside (first + 1) (omega (arith, x .places));
+                inside = x .rest .rows .places .inside (run .first + 1) (omega (arith, x .places .0, x .places .1));
                 gates = one-more (x .are);
                 room = c .blocks-room;
-                first = omega (arith, x .places, c .few);
+                first = omega (arith, x .places .1, c .few);
                 names = omega arith;
-                lines = omega arith;
+                lines = omega (arith, x .places .1, c .few);
               };
         }
 

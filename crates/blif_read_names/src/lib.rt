@@ -4,6 +4,7 @@ use blif_declarations::Declaration;
 use blif_declarations::Next;
 use blif_declarations::next_declaration;
 use blif_text::Block;
+use blif_text::Run;
 use blif_text::put_block;
 use name_index::enter_name;
 use refusals::Checked;
@@ -149,17 +150,18 @@ fn define_latch(
     index: &mut [u32],
     blocks: &mut [u32],
     w: Walk,
-    first: usize,
+    run: Run,
 ) -> Step
-    requires { ⌜ LatchFits (now text) (now tokens) (now index) (now blocks) w first ⌝ }
+    requires { ⌜ LatchFits (now text) (now tokens) (now index) (now blocks) w run ⌝ }
     ensures { λ r.
         ⌜ LatchStep (now (text .entry)) (now (tokens .entry)) (now (index .entry)) (now (blocks .entry))
-        (now (index .exit)) (now (blocks .exit)) w first r ⌝ }
+        (now (index .exit)) (now (blocks .exit)) w run r ⌝ }
 {
+    let first = run.first;
     let block = Block {
         first,
         names: 0,
-        lines: 0,
+        lines: run.count,
     };
     let name = tokens[first + 1];
     let mut next = w;
@@ -228,7 +230,7 @@ fn define_declaration(
             copy_outputs(&tokens[first..end], out_names, w.outputs);
             Step::Next(after)
         }
-        Declaration::Latch(first) => define_latch(text, tokens, index, blocks, after, first),
+        Declaration::Latch(run) => define_latch(text, tokens, index, blocks, after, run),
         Declaration::Cover(block) => define_cover(text, tokens, index, blocks, after, block),
         Declaration::None => Step::Next(after),
     }

@@ -3,10 +3,12 @@ use mathlib.Core.Path.{_≡_, refl, sym, ap, ap₂, _∙_, subst}
 use mathlib.Core.Bool.{Bool, true, false, not, and-true, false≢true}
 use borrow.Author.Tests.{ne-eqb}
 use mathlib.Core.List.{List, [], _∷_, _++_, map}
-use Prim.Native.Nat.{ℕ, zero, suc, _+_, _-_, _*_, _≤_}
+use mathlib.Core.Option.{Option·getD}
+use Prim.Native.Nat.{ℕ, zero, suc, _+_, _-_, _*_, _≤_, _<_}
+use native.Mathlib.Nat.{add-zero}
 use native.Mathlib.Omega.{arith}
 use lib.ListN.{length, getD, take, drop, length-take, length-drop, length-map}
-use lib.Seq.{slice, getD-take, getD-drop, length-slice}
+use lib.Seq.{slice, getD-take, getD-drop, take-length, drop-drop, length-slice}
 use Rattle.lists.specs.Lists.{Bytes, all}
 use Rattle.lists.specs.between.Lists.{overwriteAt}
 use Rattle.lists.proofs.OverAt.{part-laid}
@@ -17,16 +19,21 @@ use Rattle.gates.specs.declared.Gate.the-variants as G
 use Rattle.network.specs.Record.{gateWidth}
 use Rattle.network.specs.between.Record.{handRecord, LayRoom, GateLaid}
 use Rattle.network.proofs.RecordCells.{record-in}
-use Rattle.blif_meaning.specs.Model.{plainLatch}
+use Rattle.blif_meaning.specs.Model.{Init, Unknown, initBit, plainLatch}
 use Rattle.blif_text.specs.between.Places.{tokenOf, tokensOf}
 use Rattle.blif_text.specs.between.Walk.{rowsFrom, Inside}
+use Rattle.blif_text.specs.Statements.{initAmong}
+use Rattle.blif_text.specs.between.PlacedStatements.{initIn, latchIn, startOf, atOne}
+use Rattle.blif_text.specs.declared.Start.{Start}
+use Rattle.blif_text.proofs.Starts.{atOne-startOf}
+use Rattle.blif_text.proofs.WordLaws.{drop-take}
 use Rattle.blif_text.specs.Decls.{Def, latch, cover, coverIns, usedNames}
 use Rattle.blif_text.specs.between.Blocks.{firstName, nameCount, lineCount, defFrom, defAt, Blocks}
 use Rattle.blif_text.proofs.BlockLaws.{cover-from}
-use Rattle.blif_text.proofs.RowWalk.{inside-less}
+use Rattle.blif_text.proofs.RowWalk.{part, part-length, part-inside}
 use Rattle.blif_reading.specs.between.Working.{placedCount}
 use Rattle.blif_read_signals.specs.between.Resolve.{isFound, placedTo, Resolved}
-use Rattle.blif_read_signals.specs.between.Steps.{GateRoom, andInHand, GatePlaced, DefPlaced}
+use Rattle.blif_read_signals.specs.between.Steps.{GateRoom, LatchTokens, latchOf, andInHand, GatePlaced, DefPlaced}
 use Rattle.blif_read_signals.specs.declared.Placed.{Placed}
 use Rattle.blif_read_signals.specs.declared.Placed.the-variants as answer
 use Rattle.refusals.specs.declared.Refusal.the-variants as refusal
@@ -60,11 +67,12 @@ cover-placed text names {sig} {pinsIn = pinsIn} {at = at} w t m g =
     }
 
 -- a latch whose input has this cell, and room for it
-module _ (sig : Bytes → ℕ) (x y : Bytes) {d : ℕ} (e : d ≡ sig x) where
+module _ (sig : Bytes → ℕ) (x y : Bytes) (i : Init) {d : ℕ} (e : d ≡ sig x) where
   input-is : all isFound (map sig (x ∷ [])) ≡ isFound d
   input-is = and-true (isFound (sig x)) ∙ ap isFound (sym e)
 
-  pub latch-missing : (j at : ℕ) (gates pinsIn : List ℕ) {gates′ pinsIn′ : List ℕ} → d ≡ 0 → DefPlaced sig (latch (plainLatch x y)) j at gates pinsIn gates′ pinsIn′ (answer.Refused refusal.Undefined)
+  pub latch-missing : (j at : ℕ) (gates pinsIn : List ℕ) {gates′ pinsIn′ : List ℕ} → d ≡ 0
+      → DefPlaced sig (latch (plainLatch x y i)) j at gates pinsIn gates′ pinsIn′ (answer.Refused refusal.Undefined)
   unfolding usedNames
   latch-missing j at gates pinsIn z =
       let f : all isFound (map sig (x ∷ [])) ≡ false = input-is ∙ ap isFound z in
@@ -74,8 +82,8 @@ module _ (sig : Bytes → ℕ) (x y : Bytes) {d : ℕ} (e : d ≡ sig x) where
         runs = λ u. absurd (false≢true (sym f ∙ u));
       }
 
-  module _ (one zero : signal.Signal) (j at : ℕ) (gates pinsIn : List ℕ) (m : GateRoom gates pinsIn j at 3) where
-    pub latch-fits : LayRoom (G.Dff (record { a = d }) one zero) j at gates pinsIn
+  module _ (one zero : signal.Signal) (v : Bool) (j at : ℕ) (gates pinsIn : List ℕ) (m : GateRoom gates pinsIn j at 3) where
+    pub latch-fits : LayRoom (G.Dff (record { a = d }) one zero v) j at gates pinsIn
     latch-fits =
         record {
           record-in = record-in (m .low) (m .cells .gateRoom);
@@ -84,16 +92,51 @@ module _ (sig : Bytes → ℕ) (x y : Bytes) {d : ℕ} (e : d ≡ sig x) where
           from = tt;
         }
 
-    pub latch-placed : {gates′ pinsIn′ : List ℕ} {r : ℕ} → (d ≡ 0 → ⊥) → one .a ≡ 1 → zero .a ≡ 0
-        → GateLaid (G.Dff (record { a = d }) one zero) j at gates pinsIn gates′ pinsIn′ r → DefPlaced sig (latch (plainLatch x y)) j at gates pinsIn gates′ pinsIn′ (answer.Pins r)
+    pub latch-placed : {gates′ pinsIn′ : List ℕ} {r : ℕ} → (d ≡ 0 → ⊥) → one .a ≡ 1 → zero .a ≡ 0 → v ≡ initBit i
+        → GateLaid (G.Dff (record { a = d }) one zero v) j at gates pinsIn gates′ pinsIn′ r → DefPlaced sig (latch (plainLatch x y i)) j at gates pinsIn gates′ pinsIn′ (answer.Pins r)
     unfolding usedNames
-    latch-placed n eo ez p =
+    latch-placed n eo ez ev p =
         let f : all isFound (map sig (x ∷ [])) ≡ true = input-is ∙ ap not (ne-eqb 0 d (λ z. n (sym z))) in
         record {
           end = ap answer.Pins (p .end) ∙ ap (λ (b : Bool). placedTo b (at + 3)) (sym f);
-          records = λ v. p .records ∙ (λ i. overwriteAt (j * gateWidth) (handRecord at (G.Dff (record { a = e i }) (record { a = eo i }) (record { a = ez i }))) gates);
-          runs = λ v. p .runs ∙ (λ i. overwriteAt at (e i ∷ eo i ∷ ez i ∷ []) pinsIn);
+          records = λ w.
+              p .records ∙ (λ k. overwriteAt (j * gateWidth) (handRecord at (G.Dff (record { a = e k }) (record { a = eo k }) (record { a = ez k }) (ev k))) gates);
+          runs = λ w. p .runs ∙ (λ k. overwriteAt at (e k ∷ eo k ∷ ez k ∷ []) pinsIn);
         }
+
+-- what the code tells of the start value, from the tokens behind the two names
+pub start-told : (text tokens : List ℕ) {s : Start} {v : Bool} → v ≡ atOne s
+    → s ≡ startOf (initAmong (tokensOf text (take (length tokens - 2) (drop 2 tokens)))) → v ≡ initBit (latchOf text tokens .init)
+start-told text tokens e q =
+    let n : length tokens ≡ 0 + length tokens = omega arith in
+    e ∙ ap atOne (q ∙ ap (λ (x : List ℕ). startOf (initAmong (tokensOf text x))) (sym (drop-take 2 (length tokens) tokens)))
+    ∙ atOne-startOf (initIn text tokens 2 (length tokens))
+    ∙ ap (λ (k : ℕ). initBit (Option·getD (initIn text tokens 2 k) Unknown)) n
+
+-- ---- the tokens of a latch, as the code takes them from all
+
+module _ (text tokens : List ℕ) (f c : ℕ) (h : f + c ≤ length tokens) where
+  abbrev behind : List ℕ
+  behind = part f (f + c) tokens
+
+  behind-length : length behind ≡ c
+  behind-length = part-length tokens f (f + c) h ∙ omega arith
+
+  name-at : (i : ℕ) → i < c → getD behind i 0 ≡ getD tokens (f + i) 0
+  name-at i l = getD-take (f + c - f) (drop f tokens) i 0 (omega arith) ∙ getD-drop f tokens i 0
+
+  rest-is : slice (0 + 2) (0 + length behind) behind ≡ slice (f + 2) (f + c) tokens
+  rest-is =
+      let n : 0 + length behind ≡ length behind = omega arith in
+      ap (λ (k : ℕ). drop 2 (take k behind)) n
+      ∙ ap (drop 2) (take-length behind ∙ sym (drop-take f (f + c) tokens))
+      ∙ drop-drop 2 f (take (f + c) tokens)
+
+  latch-part : 2 ≤ c → latchOf text behind ≡ latchIn text tokens (record { first = f; count = c })
+  latch-part two =
+      let a : getD behind 0 0 ≡ getD tokens f 0 = name-at 0 (omega arith) ∙ ap (λ (k : ℕ). getD tokens k 0) (add-zero f) in
+      let b : getD behind 1 0 ≡ getD tokens (f + 1) 0 = name-at 1 (omega arith) in
+      (λ i. plainLatch (tokenOf text (a i)) (tokenOf text (b i)) (Option·getD (initAmong (tokensOf text (rest-is i))) Unknown))
 
 -- ---- the block's definition
 
@@ -111,14 +154,29 @@ module _ {text tokens : List ℕ} {n : ℕ} {blocks : List ℕ} {f c : ℕ} (j :
   def-is : defAt text tokens n blocks j ≡ defFrom text tokens n f c (lineCount blocks j)
   def-is = ap₂ (λ (a k : ℕ). defFrom text tokens n a k (lineCount blocks j)) (sym ef) (sym ec)
 
-  latch-is : c ≡ 0 → defAt text tokens n blocks j ≡ latch (plainLatch (tokenOf text (getD tokens f 0)) (tokenOf text (getD tokens (f + 1) 0)))
-  latch-is z = def-is ∙ ap (λ (k : ℕ). defFrom text tokens n f k (lineCount blocks j)) z
+  -- a latch's tokens are among them, two or more
+  pub latch-among : {l : ℕ} → l ≡ lineCount blocks j → c ≡ 0 → (f + l ≤ length tokens) × (2 ≤ l)
+  latch-among el z =
+      let k = b .each j (omega arith) in
+      (omega (arith, k .latchTokens (sym ec ∙ z), b .places .room), omega (arith, k .latchNames (sym ec ∙ z)))
+
+  latch-is : {l : ℕ} → l ≡ lineCount blocks j → c ≡ 0 → defAt text tokens n blocks j ≡ latch (latchOf text (part f (f + l) tokens))
+  latch-is {l} el z =
+      let m = latch-among el z in
+      def-is
+      ∙ ap₂ (λ (k i : ℕ). defFrom text tokens n f k i) z (sym el)
+      ∙ ap latch (sym (latch-part text tokens f l (m .0) (m .1)))
 
   cover-is : (c ≡ 0 → ⊥) → defAt text tokens n blocks j ≡ cover (tokensOf text (slice f (f + c) tokens)) (take (lineCount blocks j) (rowsFrom text tokens n (f + c)))
   cover-is z = def-is ∙ cover-from text tokens n f c (lineCount blocks j) z
 
-  pub latch-names : c ≡ 0 → Inside text tokens (f + 1)
-  latch-names z = inside-less (omega (arith, b .each j (omega arith) .latchNames (sym ec ∙ z))) (b .places)
+  pub latch-tokens : {l : ℕ} → l ≡ lineCount blocks j → c ≡ 0 → LatchTokens text (part f (f + l) tokens)
+  latch-tokens {l} el z =
+      let m = latch-among el z in
+      record {
+        inside = part-inside f (f + l) (b .places) (omega (arith, b .each j (omega arith) .latchTokens (sym ec ∙ z)));
+        two = omega (arith, part-length tokens f (f + l) (m .0), m .1);
+      }
 
   pub cover-among : f + c ≤ n
   cover-among = omega (arith, b .each j (omega arith) .coverNames)
@@ -151,7 +209,7 @@ module _ {text tokens : List ℕ} {n : ℕ} {blocks : List ℕ} {f c : ℕ} (j :
 
   module _ {gates pinsIn : List ℕ} {at : ℕ} where
     pub latch-room : GateRoom gates pinsIn j at (placedCount (defAt text tokens n blocks j)) → c ≡ 0 → GateRoom gates pinsIn j at 3
-    latch-room m z = let e : placedCount (defAt text tokens n blocks j) ≡ 3 = ap placedCount (latch-is z) in rw e at m
+    latch-room m z = let e : placedCount (defAt text tokens n blocks j) ≡ 3 = ap placedCount (latch-is refl z) in rw e at m
 
     pub cover-room : GateRoom gates pinsIn j at (placedCount (defAt text tokens n blocks j)) → (c ≡ 0 → ⊥) → GateRoom gates pinsIn j at (length (inputsAt tokens f c))
     cover-room m z =
@@ -159,10 +217,10 @@ module _ {text tokens : List ℕ} {n : ℕ} {blocks : List ℕ} {f c : ℕ} (j :
         rw e at m
 
     module _ {sig : Bytes → ℕ} {gates′ pinsIn′ : List ℕ} {r : Placed} where
-      pub latch-def : c ≡ 0 → DefPlaced sig (latch (plainLatch (tokenOf text (getD tokens f 0)) (tokenOf text (getD tokens (f + 1) 0)))) j at gates pinsIn gates′ pinsIn′ r
+      pub latch-def : {l : ℕ} → l ≡ lineCount blocks j → c ≡ 0 → DefPlaced sig (latch (latchOf text (part f (f + l) tokens))) j at gates pinsIn gates′ pinsIn′ r
           → DefPlaced sig (defAt text tokens n blocks j) j at gates pinsIn gates′ pinsIn′ r
       unfolding usedNames
-      latch-def z p = subst (λ (d : Def). DefPlaced sig d j at gates pinsIn gates′ pinsIn′ r) (sym (latch-is z)) p
+      latch-def el z p = subst (λ (d : Def). DefPlaced sig d j at gates pinsIn gates′ pinsIn′ r) (sym (latch-is el z)) p
 
       pub cover-def : (c ≡ 0 → ⊥)
           → GatePlaced sig (andInHand at (length (inputsAt tokens f c))) (tokensOf text (inputsAt tokens f c)) (map sig (tokensOf text (inputsAt tokens f c))) j at gates pinsIn gates′ pinsIn′ r

@@ -23,6 +23,7 @@ use Rattle.network.specs.Record.{gateWidth, recordOf}
 use Rattle.network.specs.between.Record.{handRecord}
 use Rattle.network.proofs.RecordCells.{record-in, hand-dff, hand-nary, length-handRecord}
 use Rattle.blif_text.specs.Decls.{Def, latch, cover, coverIns, usedNames}
+use Rattle.blif_meaning.specs.Model.{initBit}
 use Rattle.blif_meaning.specs.WellFormed.{optName}
 use Rattle.blif_reading.specs.between.Working.{GateIn, placed, placedCount, WorkRoom}
 use Rattle.blif_reading.proofs.WorkingLaws.{record-kept, run-kept, used-more, gate-written}
@@ -66,8 +67,8 @@ run-is sig signalOf s (cover ns ls) f = found-cells sig signalOf s (coverIns ns)
 -- its record is that of the gate in hand
 record-is : (sig : Bytes → ℕ) (signalOf : Bytes → Signal) (at : ℕ) (d : Def) → handRecord at (placedInHand sig at d) ≡ recordOf at (placed signalOf d)
 record-is sig signalOf at (latch l) =
-    hand-dff at (record { a = sig (l .input) }) (record { a = optional sig 1 (l .enable) }) (record { a = optional sig 0 (l .reset) })
-    (record { dataIn = signalOf (l .input); enable = optional signalOf oneS (l .enable); reset = optional signalOf zeroS (l .reset) })
+    hand-dff at (record { a = sig (l .input) }) (record { a = optional sig 1 (l .enable) }) (record { a = optional sig 0 (l .reset) }) (initBit (l .init))
+    (record { dataIn = signalOf (l .input); enable = optional signalOf oneS (l .enable); reset = optional signalOf zeroS (l .reset); start = initBit (l .init) }) refl
 record-is sig signalOf at (cover ns ls) =
     hand-nary at N.And (record { first = at; count = length (coverIns ns) }) (map signalOf (coverIns ns)) (sym (length-map (coverIns ns) signalOf))
 

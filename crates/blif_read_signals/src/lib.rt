@@ -1,5 +1,6 @@
 // Names that are used: refusal 11, and the gates first placed (Quaigh's src/io/blif.rs: build_network, its first loop).
 use blif_text::block_at;
+use blif_text::latch_start;
 use blif_text::token;
 use gates::Gate;
 use gates::NaryType;
@@ -14,16 +15,15 @@ ghost use Prim.Native.Nat.{_+_, _≤_};
 ghost use lib.ListN.{length, getD};
 ghost use Rattle.lists.specs.Lists.{sumOf};
 ghost use Rattle.network.specs.Sizes.{maxGates, maxPins};
-ghost use Rattle.blif_meaning.specs.Model.{plainLatch};
 ghost use Rattle.blif_text.specs.Decls.{latch};
-ghost use Rattle.blif_text.specs.between.Places.{tokenOf, tokensOf};
+ghost use Rattle.blif_text.specs.between.Places.{tokensOf};
 ghost use Rattle.blif_text.specs.between.Walk.{Inside};
 ghost use Rattle.blif_text.specs.between.Blocks.{defAt, defsAt, Blocks};
 ghost use Rattle.name_index.specs.between.Search.{signalIn};
 ghost use Rattle.name_index.specs.between.Index.{entryCount, entriesOf, Index};
 ghost use Rattle.blif_reading.specs.between.Working.{placedCount, WorkRoom};
 ghost use Rattle.blif_read_signals.specs.between.Resolve.{Resolved, PlacedBy};
-ghost use Rattle.blif_read_signals.specs.between.Steps.{GateRoom, andInHand, GatePlaced, DefPlaced};
+ghost use Rattle.blif_read_signals.specs.between.Steps.{GateRoom, LatchTokens, latchOf, andInHand, GatePlaced, DefPlaced};
 
 // How many pins are in use, or the refusal of a name that is not defined.
 pub enum Placed {
@@ -52,29 +52,33 @@ pub fn resolve_names(text: &[u8], index: &[u32], names: &[u32], signals: &mut [u
     true
 }
 
-// Places gate j for the latch whose input's name is token first, with its pins from cell at on: enable one, reset zero.
+// Places gate j for the latch of these tokens, with its pins from cell at on: enable one, reset zero.
 fn place_latch(
     text: &[u8],
     tokens: &[u32],
     index: &[u32],
-    first: usize,
     j: usize,
     gates: &mut [u32],
     pins: &mut [u32],
     at: usize,
 ) -> Placed
-    requires { ⌜ Index (now text) (now index) (entryCount (now index)) × Inside (now text) (now tokens) (first + 1) ⌝ }
+    requires { ⌜ Index (now text) (now index) (entryCount (now index)) × LatchTokens (now text) (now tokens) ⌝ }
     requires { ⌜ GateRoom (now gates) (now pins) j at 3 ⌝ }
     ensures { λ r.
         let sig = signalIn (entriesOf (now (text .entry)) (now (index .entry)) (entryCount (now (index .entry)))) in
-        let d = latch (plainLatch (tokenOf (now (text .entry)) (getD (now (tokens .entry)) first 0)) (tokenOf (now (text .entry)) (getD (now (tokens .entry)) (first + 1) 0))) in
-        ⌜ DefPlaced sig d j at (now (gates .entry)) (now (pins .entry)) (now (gates .exit)) (now (pins .exit)) r ⌝ }
+        ⌜ DefPlaced sig (latch (latchOf (now (text .entry)) (now (tokens .entry)))) j at (now (gates .entry)) (now (pins .entry)) (now (gates .exit)) (now (pins .exit)) r ⌝ }
 {
-    let input = find_signal(text, index, token(text, tokens[first]));
+    let input = find_signal(text, index, token(text, tokens[0]));
     if input == 0 {
         return Placed::Refused(Refusal::Undefined);
     }
-    let gate = Gate::Dff(Signal { a: input }, Signal::one(), Signal::zero());
+    let start = latch_start(text, &tokens[2..]);
+    let gate = Gate::Dff(
+        Signal { a: input },
+        Signal::one(),
+        Signal::zero(),
+        start.is_one(),
+    );
     Placed::Pins(lay_gate(gates, j, pins, at, gate))
 }
 
@@ -124,10 +128,11 @@ fn place_block(
         (now (gates .exit)) (now (pins .exit)) r ⌝ }
 {
     let block = block_at(blocks, j);
-    if block.names == 0 {
-        return place_latch(text, tokens, index, block.first, j, gates, pins, at);
-    }
     let first = block.first;
+    if block.names == 0 {
+        let behind = first + block.lines;
+        return place_latch(text, &tokens[first..behind], index, j, gates, pins, at);
+    }
     let end = first + block.names - 1;
     place_cover(text, &tokens[first..end], index, j, gates, pins, at)
 }

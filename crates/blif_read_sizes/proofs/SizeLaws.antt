@@ -79,7 +79,7 @@ module _ (text tokens : List ℕ) {n : ℕ} (h : n ≤ length tokens) where
       record { ins-are = ap length (append-nil (names text tokens run)) ∙ names-length text tokens run (omega arith); outs-are = refl; gates-are = refl; pins-are = refl }
   counts-of (next.Outputs run) p =
       record { ins-are = refl; outs-are = ap length (append-nil (names text tokens run)) ∙ names-length text tokens run (omega arith); gates-are = refl; pins-are = refl }
-  counts-of (next.Latch first) p = record { ins-are = refl; outs-are = refl; gates-are = refl; pins-are = refl }
+  counts-of (next.Latch run) p = record { ins-are = refl; outs-are = refl; gates-are = refl; pins-are = refl }
   counts-of (next.Cover block) p = cover-counts block p
   counts-of next.None p = record { ins-are = refl; outs-are = refl; gates-are = refl; pins-are = refl }
 
@@ -124,7 +124,7 @@ module _ {v : Sizes} {d : Declaration} where
   pub add-outputs : {run : Run} → d ≡ next.Outputs run → Added v (sizesOf d) (sizes (v .inputs) (v .outputs + run .count) (v .gates) (v .pins))
   add-outputs e = added-as e (record { inputs = omega arith; outputs = refl; gates = omega arith; pins = omega arith })
 
-  pub add-latch : {first : ℕ} → d ≡ next.Latch first → Added v (sizesOf d) (sizes (v .inputs) (v .outputs) (v .gates + 1) (v .pins + 3))
+  pub add-latch : {run : Run} → d ≡ next.Latch run → Added v (sizesOf d) (sizes (v .inputs) (v .outputs) (v .gates + 1) (v .pins + 3))
   add-latch e = added-as e (record { inputs = omega arith; outputs = omega arith; gates = refl; pins = refl })
 
   pub add-cover : {block : Block} {g p : ℕ} → d ≡ next.Cover block → g ≡ 1 + added (block .lines) → p ≡ (block .lines + 1) * (block .names - 1 + 2)
@@ -140,7 +140,7 @@ few-of text tokens n next.Model h p = tt
 few-of text tokens n next.End h p = tt
 few-of text tokens n (next.Inputs run) h p = omega arith
 few-of text tokens n (next.Outputs run) h p = omega arith
-few-of text tokens n (next.Latch first) h p = tt
+few-of text tokens n (next.Latch run) h p = tt
 few-of text tokens n (next.Cover block) h p = (omega (arith, p .few), omega (arith, p .short))
 few-of text tokens n next.None h p = tt
 

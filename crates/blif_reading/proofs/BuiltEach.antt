@@ -74,7 +74,7 @@ module _ (signalOf : Bytes → Signal) (gs : List Def) where
   built-formed = built-have (record { and = λ ss. refl; or = λ ss. refl; nand = λ ss. refl; buf = λ s. refl }) signalOf gs (λ l m. refl)
 
   -- each is plain, if each latch is its input and its output alone
-  pub built-plain : ((l : LatchDef Bytes) → List·Memᴰ (latch l) gs → plainLatch (l .input) (l .output) ≡ l) → all isPlain (builtGates signalOf gs) ≡ true
+  pub built-plain : ((l : LatchDef Bytes) → List·Memᴰ (latch l) gs → plainLatch (l .input) (l .output) (l .init) ≡ l) → all isPlain (builtGates signalOf gs) ≡ true
   built-plain h =
       let each : Every (λ x. isPlain x ≡ true) (builtGates signalOf gs) =
       built-have (record { and = λ ss. refl; or = λ ss. refl; nand = λ ss. refl; buf = λ s. refl }) signalOf gs

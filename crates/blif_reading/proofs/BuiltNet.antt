@@ -53,7 +53,7 @@ gate-held : (gates pinsIn : List ℕ) (used h : ℕ) (x : Gate) → GateIn gates
 gate-held gates pinsIn used h x c u f s =
     let p = gate-parts c in
     gate-there gates pinsIn h (record-runs (c .at) x (c .inside) (c .is) (omega (arith, c .within)))
-    ∙ ap₂ gateFrom (p .form) (ap (map sigOf) (gate-run c) ∙ signals-again (pins x) s)
+    ∙ (λ i. gateFrom (p .form i) (p .start i) ((ap (map sigOf) (gate-run c) ∙ signals-again (pins x) s) i))
     ∙ gate-again x f
 
 -- ---- all of them

@@ -73,6 +73,13 @@ module _ {Name : Type 0} (m : Model Name) (signalOf : Name → Signal) (ok : Loo
   abbrev pub HoldsBack : (ℕ → Bool) → (Name → Bool) → Type 0
   HoldsBack heldN heldB = Holds m signalOf ok closed good heldB heldN
 
+  -- what the flip-flops hold, by the names of their latches
+  abbrev pub heldBy : (ℕ → Bool) → Name → Bool
+  heldBy heldN y = gateOr heldN (signalOf y .node)
+
+  pub heldBy-holds : (heldN : ℕ → Bool) → HoldsBack heldN (heldBy heldN)
+  heldBy-holds heldN j l e = sym (ap (λ (s : Signal). gateOr heldN (s .node)) (ok .blockAt j (Latch l) e))
+
   module _ (heldN nextN : ℕ → Bool) (heldB : Name → Bool) (row out : List Bool) (h : HoldsBack heldN heldB) (c : Clock (build signalOf m) heldN row out nextN) where
     abbrev σ : Signal → Bool
     σ = sigBit row (c .bits)
@@ -115,22 +122,20 @@ module _ {Name : Type 0} (m : Model Name) (signalOf : Name → Signal) (ok : Loo
     opt-same (some x) s v e = refl
 
     back-clock : (t : Name → Bool) × BlifClock m heldB row out t × HoldsBack nextN t
-    back-clock =
-        let next : Name → Bool = λ y. gateOr nextN (signalOf y .node) in
-        let at : (j : ℕ) (l : LatchDef Name) → getElem? (m .blocks) j ≡ some (Latch l) → next (l .output) ≡ nextN j = λ j l e. ap (λ (s : Signal). gateOr nextN (s .node)) (ok .blockAt j (Latch l) e) in (
-          next,
-          record {
-            env = env;
-            fits = record { ins = λ i x e. ap σ (ok .inputAt i x e); blocks = λ b w. let t = mem-place (m .blocks) b w in block-back (t .0) b (t .1) };
-            answers = c .answers ∙ env-map (m .outputs);
-            steps = λ l w.
-                let t = mem-place (m .blocks) (Latch l) w in
-                let p : Placed signalOf (length (m .blocks)) (m .blocks) (t .0) (Latch l) = at-place m signalOf (t .0) (Latch l) (t .1) in
-                at (t .0) l (t .1) ∙ c .steps (t .0) (blockGate signalOf (length (m .blocks) + p .d) (Latch l)) (main-is m signalOf (t .0) (Latch l) p)
-                ∙ (λ i. cond (opt-same (l .reset) zeroS false refl i) false (cond (opt-same (l .enable) oneS true refl i) (env (l .input)) (h (t .0) l (t .1) i)));
-          },
-          λ j l e. sym (at j l e),
-        )
+    back-clock = (
+      heldBy nextN,
+      record {
+        env = env;
+        fits = record { ins = λ i x e. ap σ (ok .inputAt i x e); blocks = λ b w. let t = mem-place (m .blocks) b w in block-back (t .0) b (t .1) };
+        answers = c .answers ∙ env-map (m .outputs);
+        steps = λ l w.
+            let t = mem-place (m .blocks) (Latch l) w in
+            let p : Placed signalOf (length (m .blocks)) (m .blocks) (t .0) (Latch l) = at-place m signalOf (t .0) (Latch l) (t .1) in
+            sym (heldBy-holds nextN (t .0) l (t .1)) ∙ c .steps (t .0) (blockGate signalOf (length (m .blocks) + p .d) (Latch l)) (main-is m signalOf (t .0) (Latch l) p)
+            ∙ (λ i. cond (opt-same (l .reset) zeroS false refl i) false (cond (opt-same (l .enable) oneS true refl i) (env (l .input)) (h (t .0) l (t .1) i)));
+      },
+      heldBy-holds nextN,
+    )
 
   pub read-back-simulates : Simulates HoldsBack (Clock (build signalOf m)) (BlifClock m)
   read-back-simulates heldN nextN heldB row out h c = back-clock heldN nextN heldB row out h c

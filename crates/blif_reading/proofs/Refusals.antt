@@ -1,12 +1,14 @@
--- Which refusals reading answers: 2 to 14, whatever the text. Assumes nothing.
+-- Which refusals reading answers: 2 to 14 and 34, whatever the text. Assumes nothing.
 use mathlib.Core.Path.{_≡_, refl}
-use mathlib.Core.Bool.{Bool, true, false, not}
+use mathlib.Core.Bool.{Bool, true, false, not, _||_}
 use mathlib.Core.List.{List, [], _∷_, map, flatMap}
 use mathlib.Core.Option.{Option, none, some}
 use Prim.Native.Nat.{ℕ}
 use native.Mathlib.Omega.{arith}
-use lib.Dec.{leb}
-use borrow.Author.Tests.{leb-true}
+use mathlib.Core.Logic.{inl, inr}
+use lib.Dec.{eqb, leb}
+use borrow.Author.Tests.{eqb-true, leb-true}
+use Rattle.lists.proofs.Tests.{by-test}
 use Rattle.lists.specs.Lists.{Bytes}
 use Rattle.refusals.specs.Numbers.{numberOf, InReading}
 use Rattle.refusals.specs.Order.{_orElse_, refuseIf}
@@ -14,12 +16,12 @@ use Rattle.refusals.specs.declared.Refusal.{Refusal}
 use Rattle.refusals.specs.declared.Refusal.the-variants as refusal
 use Rattle.refusals.specs.declared.Checked.{Checked}
 use Rattle.refusals.specs.declared.Checked.the-variants.{Fine, Refused}
-use Rattle.refusals.proofs.Numbers.{number-pos}
+use Rattle.blif_meaning.specs.Model.{Init}
 use Rattle.network.specs.Net.{Net}
 use Rattle.sort_order.specs.Sorted.{sorted}
 use Rattle.blif_text.specs.Lines.{lines, joined, tokens}
 use Rattle.blif_text.specs.Keywords.{keywordOf}
-use Rattle.blif_text.specs.Statements.{modelStmt, latchStmt, byKeyword, stmtOf, parsedLine, parsed, refusalOf, firstBad}
+use Rattle.blif_text.specs.Statements.{modelStmt, initAmong, latchWith, latchStmt, byKeyword, stmtOf, parsedLine, parsed, refusalOf, firstBad}
 use Rattle.blif_text.specs.Decls.{latch, cover, Def, Decl, model, end, inputs, outputs, gate, declsOf}
 use Rattle.blif_text.specs.declared.Keyword.{Keyword}
 use Rattle.blif_text.specs.declared.Keyword.the-variants as key
@@ -29,14 +31,18 @@ use Rattle.blif_reading.specs.Read.{naming, coverFault, coverFaults, dec
 abbrev Reads : Checked → Type 0
 Reads c = (r : Refusal) → c ≡ Refused r → InReading r
 
--- one of 1 to 14 is
-own : {k : Refusal} → leb (numberOf k) 14 ≡ true → Reads (Refused k)
-own {k} t r e = let q : r ≡ k = cc in rw q (record { low = number-pos k; high = leb-true (numberOf k) 14 t })
+-- the test of its number
+abbrev reads : Refusal → Bool
+reads k = leb (numberOf k) 14 || eqb (numberOf k) 34
+
+-- one that passes it is
+own : {k : Refusal} → reads k ≡ true → Reads (Refused k)
+own {k} t r e = let q : r ≡ k = cc in rw q (by-test (leb (numberOf k) 14) (λ l. inl (leb-true (numberOf k) 14 l)) (λ l. inr (eqb-true (numberOf k) 34 (rw l at t))))
 
 fine : Reads Fine
 fine r e = absurd (let z : _≡_ {A = ℕ} 0 1 = cc in omega arith)
 
-refuseIf-reads : (c : Bool) (k : Refusal) → leb (numberOf k) 14 ≡ true → Reads (refuseIf c k)
+refuseIf-reads : (c : Bool) (k : Refusal) → reads k ≡ true → Reads (refuseIf c k)
 unfolding refuseIf
 refuseIf-reads true k t = own t
 refuseIf-reads false k t = fine
@@ -46,7 +52,12 @@ unfolding _orElse_
 orElse-reads Fine b p q = q
 orElse-reads (Refused k) b p q = p
 
--- ---- 4 and 5
+-- ---- 4, 5 and 34
+
+started-reads : (d q : Bytes) (o : Option Init) → Reads (refusalOf (latchWith d q o))
+unfolding latchWith
+started-reads d q none = own refl
+started-reads d q (some i) = fine
 
 keyword-reads : (w : Keyword) (k : Bytes) (ts : List Bytes) → Reads (refusalOf (byKeyword w k ts))
 unfolding modelStmt latchStmt
@@ -56,7 +67,7 @@ keyword-reads key.Inputs k ts = fine
 keyword-reads key.Outputs k ts = fine
 keyword-reads key.Latch k [] = own refl
 keyword-reads key.Latch k (d ∷ []) = own refl
-keyword-reads key.Latch k (d ∷ q ∷ ts) = fine
+keyword-reads key.Latch k (d ∷ q ∷ ts) = started-reads d q (initAmong ts)
 keyword-reads key.Names k ts = fine
 keyword-reads key.End k ts = fine
 keyword-reads key.Exdc k ts = fine

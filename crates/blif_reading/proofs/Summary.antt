@@ -1,13 +1,14 @@
 -- What reading means, as a reviewer would read it (document 01, src/io/blif.rs). Assumes nothing.
 --   built-means      a model that is accepted runs as the gates built for it
 --   read-means       demand 2: a text that is read runs as the network read
+--   read-allowed     what the Berkeley text allows at power-up, and what is taken of it
 --   reading-refuses  which refusals reading answers
 --   behind-end       what stands behind `.end` or `.exdc` is not read
 --   behind-end-refused  but has to parse
-use mathlib.Core.Path.{_≡_}
+use mathlib.Core.Path.{_≡_, refl}
 use mathlib.Core.Bool.{Bool, false}
-use mathlib.Core.List.{List, _++_}
-use mathlib.Core.Logic.{_↔_}
+use mathlib.Core.List.{List, _++_, List·Memᴰ}
+use mathlib.Core.Logic.{_↔_, _⊎_}
 use Prim.Native.Nat.{_≤_}
 use lib.Dec.{leb}
 use lib.ListN.{length}
@@ -15,12 +16,12 @@ use Rattle.lists.specs.Lists.{Bytes, any}
 use Rattle.network.specs.Net.{Net}
 use Rattle.network.specs.Clock.{NetRuns}
 use Rattle.network.specs.Settle.{run}
-use Rattle.blif_meaning.specs.Model.{Model, BlifRuns}
+use Rattle.blif_meaning.specs.Model.{I0, I1, LatchDef, Latch, Model, MayRun, BlifRuns}
+use Rattle.blif_meaning.proofs.PowerUp.{runs-allowed, only-allowed}
 use Rattle.blif_text.specs.Lines.{maxText}
 use Rattle.blif_text.specs.Statements.{parsed, firstBad}
 use Rattle.blif_text.specs.Ended.{Ended, MayFollow}
-use Rattle.network.specs.Clock.{zeroBits}
-use Rattle.network.proofs.Summary.{one-run}
+use Rattle.network.proofs.Summary.{one-run-start}
 use Rattle.refusals.specs.Numbers.{InReading}
 use Rattle.refusals.specs.declared.Refusal.{Refusal}
 use Rattle.refusals.specs.declared.Checked.the-variants.{Fine, Refused}
@@ -47,11 +48,22 @@ pub read-means : (text : Bytes) (net : Net) → readText text ≡ read net → (
     → (BlifRuns (modelOfText text) rows outs ↔ NetRuns net rows outs) × (BlifRuns (modelOfText text) rows outs ↔ (outs ≡ run net rows))
 read-means text net e rows outs =
     let k = read-net text net e in
-    let x = one-run net (k .valid) (k .free) zeroBits rows outs in
+    let x = one-run-start net (k .valid) (k .free) rows outs in
     let m = reading.read-means text net e rows outs in
     (((λ r. x .1 (m .0 r)), (λ r. m .1 (x .0 r))), m)
 
--- "Reading refuses, in order: .. 2 .. 14", and nothing else; 1 is told of the lent cells
+-- "2 and 3 read as zero": of a text whose latches have such initial states the Berkeley text allows more runs, and the network's is one of
+-- them; of any other text it is the only one
+pub read-allowed : (text : Bytes) (net : Net) → readText text ≡ read net → (rows : List (List Bool))
+    → MayRun (modelOfText text) rows (run net rows)
+    × (((d : LatchDef Bytes) → List·Memᴰ (Latch d) (modelOfText text .blocks) → (d .init ≡ I0) ⊎ (d .init ≡ I1))
+    → (outs : List (List Bool)) → MayRun (modelOfText text) rows outs → outs ≡ run net rows)
+read-allowed text net e rows = (
+  runs-allowed (read-means text net e rows (run net rows) .1 .1 refl),
+  (λ told outs r. read-means text net e rows outs .1 .0 (only-allowed told r)),
+)
+
+-- "Reading refuses, in order: .. 2 .. 14", and 34, and nothing else; 1 is told of the lent cells
 pub reading-refuses : (text : Bytes) (r : Refusal) → readText text ≡ refused r → InReading r
 reading-refuses = texts.reading-refuses
 

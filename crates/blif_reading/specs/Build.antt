@@ -8,7 +8,7 @@ use Rattle.lists.specs.Lists.{optional, range}
 use Rattle.signal.specs.Signal.{Var, Signal, plain, zeroS, oneS, invert}
 use Rattle.gates.specs.Gate.{OrN, AndN, NandN, Buf, Gate, Comb, Dff}
 use Rattle.network.specs.Net.{Net}
-use Rattle.blif_meaning.specs.Model.{Col, C0, C1, Dash, Line, LatchDef, Block, Latch, Cover, Model}
+use Rattle.blif_meaning.specs.Model.{Col, C0, C1, Dash, Line, initBit, LatchDef, Block, Latch, Cover, Model}
 
 -- the literals of a row: 0 is the inverted input, 1 the input, "A dash adds no literal"
 abbrev pub literals : List Col → List Signal → List Signal
@@ -51,9 +51,9 @@ lineGates ss (l ∷ l′ ∷ ls) = map (lineGate ss) (l ∷ l′ ∷ ls)
 
 module _ {Name : Type 0} where
   module _ (signalOf : Name → Signal) where
-    -- the gate of a latch: "A latch is Dff(input, one, zero)", where enable and reset are left out
+    -- the gate of a latch: "A latch is Dff(input, one, zero)", where enable and reset are left out, with its start value
     abbrev pub latchGate : LatchDef Name → Gate
-    latchGate d = Dff (record { dataIn = signalOf (d .input); enable = optional signalOf oneS (d .enable); reset = optional signalOf zeroS (d .reset) })
+    latchGate d = Dff (record { dataIn = signalOf (d .input); enable = optional signalOf oneS (d .enable); reset = optional signalOf zeroS (d .reset); start = initBit (d .init) })
 
     -- the gate of a block; k is the number of the next gate of a line
     abbrev pub blockGate : ℕ → Block Name → Gate

@@ -104,7 +104,7 @@ declFault ds =
     orElse refuseIf (undefined ds) refusal.Undefined
     orElse coverFaults (defs ds)
 
--- "2 when the text is over 32,768 bytes. 3 when it has a byte of 128 or more", then 4 and 5, then 6 to 13
+-- "2 when the text is over 32,768 bytes. 3 when it has a byte of 128 or more", then 4, 5 and 34, then 6 to 13
 unfoldable pub readFault : Bytes → Checked
 readFault text =
     refuseIf (ltb maxText (length text)) refusal.TextTooLong

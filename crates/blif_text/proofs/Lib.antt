@@ -14,6 +14,7 @@ pub mod LineCells
 pub mod CellsFrom
 pub mod ScanSteps
 pub mod KeywordLaws
+pub mod Starts
 pub mod StatementLaws
 pub mod ColumnLaws
 pub mod RowWalk

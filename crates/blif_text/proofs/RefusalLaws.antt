@@ -106,7 +106,7 @@ marked-front {text} {cells} {n} h m =
 
 -- ---- the walk over statements that none refuses
 
--- a text that 4 and 5 do not refuse
+-- a text that 4, 5 and 34 do not refuse
 pub stmts-start : {text cells : List ℕ} {n : ℕ} → TokensMarked text cells n → n ≤ length cells → firstBad (parsed text) ≡ Fine → StmtsAt text cells n 0
 stmts-start {text} m r e = let c = passing-start m r in record { rows = c .rows; good = c .left ∙ e }
 

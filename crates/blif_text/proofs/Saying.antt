@@ -12,10 +12,10 @@ use Rattle.lists.proofs.Tests.{and-left, and-right, and-false}
 use Rattle.lists.proofs.Every.{Every, every-nil, every-cons, every-append, every-of, every-test, every-no, any-append}
 use Rattle.refusals.specs.Order.{_orElse_}
 use Rattle.refusals.specs.declared.Checked.the-variants.{Fine}
-use Rattle.blif_meaning.specs.Model.{plainLatch}
+use Rattle.blif_meaning.specs.Model.{Init, I0, I1, DontCare, Unknown, initBytes, plainLatch}
 use Rattle.blif_text.specs.Lines.{cut, continues, joined, isBlank, nonEmpty, tokens}
 use Rattle.blif_text.specs.Keywords.{keywordOf}
-use Rattle.blif_text.specs.Statements.{Stmt, Parsed, ok, stmtOf, latchStmt, parsedLine, parsed, stmts, firstBad}
+use Rattle.blif_text.specs.Statements.{Stmt, Parsed, ok, stmtOf, initOf, initAmong, latchWith, latchStmt, parsedLine, parsed, stmts, firstBad}
 use Rattle.blif_text.proofs.Splitting.{ended, spread, lines-each, Word, tokens-spread}
 
 -- ---- bytes
@@ -150,9 +150,13 @@ pub stmt-outputs : (ns : List Bytes) → stmtOf (bytes ".outputs") ns ≡ ok (St
 unfolding stmtOf keywordOf same
 stmt-outputs ns = refl
 
-pub stmt-latch : (d q : Bytes) (ts : List Bytes) → stmtOf (bytes ".latch") (d ∷ q ∷ ts) ≡ ok (Stmt.latch (plainLatch d q))
-unfolding stmtOf keywordOf same latchStmt
-stmt-latch d q ts = refl
+-- a latch with the token of an initial state behind its names
+pub stmt-latch : (d q : Bytes) (i : Init) → stmtOf (bytes ".latch") (d ∷ q ∷ initBytes i ∷ []) ≡ ok (Stmt.latch (plainLatch d q i))
+unfolding stmtOf keywordOf same latchStmt initAmong initOf latchWith
+stmt-latch d q I0 = refl
+stmt-latch d q I1 = refl
+stmt-latch d q DontCare = refl
+stmt-latch d q Unknown = refl
 
 -- ---- statements that are all good
 

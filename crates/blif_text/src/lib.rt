@@ -13,8 +13,8 @@ ghost use Rattle.lists.specs.between.Lists.{overwriteAt};
 ghost use Rattle.blif_text.specs.Lines.{isBlank, maxText};
 ghost use Rattle.blif_text.specs.between.Places.{maxTokens, tokenCell, isFirst, tokenStart, tokenLength, InText, tokenOf, tokensOf, tokenCells, TokensMarked};
 ghost use Rattle.blif_text.specs.Keywords.{leadingDot, keywordOf};
-ghost use Rattle.blif_text.specs.between.PlacedStatements.{RowTo, namesRun, statementOf, statementAt, refusalIn};
-ghost use Rattle.blif_text.specs.Statements.{parsed, firstBad};
+ghost use Rattle.blif_text.specs.between.PlacedStatements.{RowTo, namesRun, startOf, atOne, latchStatement, statementOf, statementAt, refusalIn};
+ghost use Rattle.blif_text.specs.Statements.{initOf, initAmong, parsed, firstBad};
 ghost use Rattle.blif_text.specs.Decls.{columns};
 ghost use Rattle.blif_text.specs.between.Walk.{Inside};
 ghost use Rattle.blif_text.specs.between.Blocks.{blockWidth, firstName, nameCount, lineCount};
@@ -33,7 +33,7 @@ struct Marks {
 }
 
 // A latch or a cover by places: the token of its first name, how many names a cover has (a latch is told by none), and
-// how many cube lines.
+// how many cube lines; of a latch, how many tokens stand behind `.latch`.
 pub struct Block {
     pub first: usize,
     pub names: usize,
@@ -59,7 +59,14 @@ pub struct Run {
     pub count: usize,
 }
 
-// A statement by the places of its names: a run of token cells, a latch by the first of its two, or its refusal.
+// What is told of a latch's start value: that it is zero or one, or that its token is none of 0, 1, 2 and 3.
+pub enum Start {
+    Zero,
+    One,
+    Wrong,
+}
+
+// A statement by the places of its names: a run of token cells, for a latch with those behind its names, or its refusal.
 pub enum Statement {
     Model,
     End,
@@ -67,7 +74,7 @@ pub enum Statement {
     Inputs(Run),
     Outputs(Run),
     Names(Run),
-    Latch(usize),
+    Latch(Run),
     Cube(Run),
     Refused(Refusal),
 }
@@ -431,10 +438,74 @@ pub fn names_run(at: usize, end: usize) -> Run
     }
 }
 
+impl Start {
+    // Whether the start value is one.
+    pub fn is_one(self) -> bool
+        ensures { λ r. ⌜ r ≡ atOne self ⌝ }
+    {
+        match self {
+            Start::Zero => false,
+            Start::One => true,
+            Start::Wrong => false,
+        }
+    }
+}
+
+// What a token says of a start value: 2 and 3 are read as zero.
+fn start_of(token: &[u8]) -> Start
+    ensures { λ r. ⌜ r ≡ startOf (initOf (now (token .entry))) ⌝ }
+{
+    if equal(token, b"0") {
+        return Start::Zero;
+    }
+    if equal(token, b"1") {
+        return Start::One;
+    }
+    if equal(token, b"2") {
+        return Start::Zero;
+    }
+    if equal(token, b"3") {
+        return Start::Zero;
+    }
+    Start::Wrong
+}
+
+// What the tokens behind a latch's two names say of its start value: the only one does, or the third of three or more.
+pub fn latch_start(text: &[u8], rest: &[u32]) -> Start
+    requires { ⌜ Inside (now text) (now rest) (length (now rest)) ⌝ }
+    ensures { λ r. ⌜ r ≡ startOf (initAmong (tokensOf (now (text .entry)) (now (rest .entry)))) ⌝ }
+{
+    if rest.len() == 1 {
+        return start_of(token(text, rest[0]));
+    }
+    if rest.len() > 2 {
+        return start_of(token(text, rest[2]));
+    }
+    Start::Zero
+}
+
+// The statement of the row from at to end, which is a latch's.
+fn latch_statement(text: &[u8], cells: &[u32], at: usize, end: usize) -> Statement
+    requires { ⌜ (at < end) × Inside (now text) (now cells) end ⌝ }
+    ensures { λ r. ⌜ r ≡ latchStatement (now (text .entry)) (now (cells .entry)) at end ⌝ }
+{
+    let names = names_run(at, end);
+    if names.count < 2 {
+        return Statement::Refused(Refusal::MissingName);
+    }
+    let from = at + 3;
+    let start = latch_start(text, &cells[from..end]);
+    match start {
+        Start::Zero => Statement::Latch(names),
+        Start::One => Statement::Latch(names),
+        Start::Wrong => Statement::Refused(Refusal::WrongStart),
+    }
+}
+
 // The statement of the row from at to end, whose first token has this keyword.
-fn statement_of(keyword: Keyword, at: usize, end: usize) -> Statement
-    requires { ⌜ at < end ⌝ }
-    ensures { λ r. ⌜ r ≡ statementOf keyword at end ⌝ }
+fn statement_of(text: &[u8], cells: &[u32], keyword: Keyword, at: usize, end: usize) -> Statement
+    requires { ⌜ (at < end) × Inside (now text) (now cells) end ⌝ }
+    ensures { λ r. ⌜ r ≡ statementOf (now (text .entry)) (now (cells .entry)) keyword at end ⌝ }
 {
     let names = names_run(at, end);
     match keyword {
@@ -446,12 +517,7 @@ fn statement_of(keyword: Keyword, at: usize, end: usize) -> Statement
         }
         Keyword::Inputs => Statement::Inputs(names),
         Keyword::Outputs => Statement::Outputs(names),
-        Keyword::Latch => {
-            if names.count < 2 {
-                return Statement::Refused(Refusal::MissingName);
-            }
-            Statement::Latch(names.first)
-        }
+        Keyword::Latch => latch_statement(text, cells, at, end),
         Keyword::Names => Statement::Names(names),
         Keyword::End => Statement::End,
         Keyword::Exdc => Statement::Exdc,
@@ -465,13 +531,12 @@ fn statement_of(keyword: Keyword, at: usize, end: usize) -> Statement
 
 // The statement of the row of token cells from at to end.
 pub fn statement_at(text: &[u8], cells: &[u32], at: usize, end: usize) -> Statement
-    requires { ⌜ (at < end) × (end ≤ length (now cells)) ⌝ }
-    requires { ⌜ InText (now text) (getD (now cells) at 0) ⌝ }
+    requires { ⌜ (at < end) × Inside (now text) (now cells) end ⌝ }
     ensures { λ r. ⌜ r ≡ statementAt (now (text .entry)) (now (cells .entry)) at end ⌝ }
 {
     let first = cells[at];
     let keyword = keyword_of(token(text, first));
-    statement_of(keyword, at, end)
+    statement_of(text, cells, keyword, at, end)
 }
 
 // The refusal that a statement is, if it is one.
@@ -484,10 +549,9 @@ fn refusal_of(s: Statement) -> Checked
     }
 }
 
-// The refusal of 4 and 5 that the statement of the row from at to end is, if it is one; a cube line never is.
+// The refusal of 4, 5 and 34 that the statement of the row from at to end is, if it is one; a cube line never is.
 fn refusal_at(text: &[u8], cells: &[u32], at: usize, end: usize) -> Checked
-    requires { ⌜ (at < end) × (end ≤ length (now cells)) ⌝ }
-    requires { ⌜ InText (now text) (getD (now cells) at 0) ⌝ }
+    requires { ⌜ (at < end) × Inside (now text) (now cells) end ⌝ }
     ensures { λ r. ⌜ r ≡ refusalIn (statementAt (now (text .entry)) (now (cells .entry)) at end) ⌝ }
 {
     let first = cells[at];
@@ -497,7 +561,7 @@ fn refusal_at(text: &[u8], cells: &[u32], at: usize, end: usize) -> Checked
     refusal_of(statement_at(text, cells, at, end))
 }
 
-// The first refusal of 4 and 5 among the statements of marked tokens, if there is one.
+// The first refusal of 4, 5 and 34 among the statements of marked tokens, if there is one.
 pub fn first_bad(text: &[u8], cells: &[u32]) -> Checked
     requires { ⌜ TokensMarked (now text) (now cells) (length (now cells)) ⌝ }
     ensures { λ r. ⌜ r ≡ firstBad (parsed (now (text .entry))) ⌝ }

@@ -1,6 +1,6 @@
 -- Runs of pins, the cover and the latch of each kind of gate, and gates that are not too wide. Assumes nothing.
 use mathlib.Core.Path.{_≡_, refl, sym, _∙_, ap}
-use mathlib.Core.Bool.{true, false}
+use mathlib.Core.Bool.{Bool, true, false}
 use mathlib.Core.List.{List, [], _∷_, map, flatMap, append-nil}
 use Prim.Native.Nat.{ℕ, _+_, _-_, _≤_}
 use lib.ListN.{length, take, drop, length-map}
@@ -102,7 +102,7 @@ module _ {x : code.Gate} (g : ℕ) (ps : List ℕ) where
   pub cover-buf : {s : signal.Signal} → x ≡ G.Buf s → blockText (bufBlock nameBytes g (sigOf (s .a) ∷ [])) ≡ coverText g (gateIn x ps)
   cover-buf {s} e = cover-at g ps e (comb-cover g Rattle.gates.specs.Gate.Buf (sigOf (s .a) ∷ []) refl)
 
-  pub cover-dff : {d e r : signal.Signal} → x ≡ G.Dff d e r → [] ≡ coverText g (gateIn x ps)
+  pub cover-dff : {d e r : signal.Signal} {v : Bool} → x ≡ G.Dff d e r v → [] ≡ coverText g (gateIn x ps)
   unfolding coverText flatMap
   cover-dff h = cover-at g ps h refl
 
@@ -112,8 +112,8 @@ module _ {x : code.Gate} (g : ℕ) (ps : List ℕ) where
 pub latch-at : {x y : code.Gate} {t : Bytes} (g : ℕ) → x ≡ y → t ≡ latchText g (gateIn y []) → t ≡ latchText g (gateIn x [])
 latch-at g e h = h ∙ ap (λ (z : code.Gate). latchText g (gateIn z [])) (sym e)
 
-pub latch-of : {x : code.Gate} {d e r : signal.Signal} (g : ℕ) → x ≡ G.Dff d e r
-    → storedText (sigOf (d .a)) (sigOf (e .a)) (sigOf (r .a)) g ≡ latchText g (gateIn x [])
+pub latch-of : {x : code.Gate} {d e r : signal.Signal} {v : Bool} (g : ℕ) → x ≡ G.Dff d e r v
+    → storedText (sigOf (d .a)) (sigOf (e .a)) (sigOf (r .a)) v g ≡ latchText g (gateIn x [])
 unfolding latchText storedText flatMap
-latch-of {x} {d} {e} {r} g h =
-    latch-at g h (sym (append-nil (storedText (sigOf (d .a)) (sigOf (e .a)) (sigOf (r .a)) g)))
+latch-of {x} {d} {e} {r} {v} g h =
+    latch-at g h (sym (append-nil (storedText (sigOf (d .a)) (sigOf (e .a)) (sigOf (r .a)) v g)))

@@ -16,7 +16,7 @@ use Rattle.gates.specs.between.Forms.{kindOf}
 use Rattle.gates.specs.between.Decode.{kindComb}
 use Rattle.gates.proofs.Forms.{From, comb-number}
 use Rattle.network.specs.Cells.{orBuf}
-use Rattle.network.specs.Record.{formAt, firstAt, countAt, runAt, gateAt}
+use Rattle.network.specs.Record.{formAt, firstAt, countAt, startAt, runAt, gateAt}
 use Rattle.network.specs.between.Record.{CellIs, HasRun}
 use Rattle.network.proofs.GateRead.{has-run, gate-is, run-pins}
 use Rattle.network.proofs.Records.{cut-run}
@@ -70,7 +70,7 @@ module _ {cells ps : List ℕ} {g : ℕ} (c : HeldAt cells ps g) where
   pub held-run : HasRun cells ps g
   held-run = has-run cells ps g (c .gate) (c .is)
 
-  tells : From (formAt cells g) (map sigOf (runAt cells ps g)) (c .gate)
+  tells : From (formAt cells g) (startAt cells g) (map sigOf (runAt cells ps g)) (c .gate)
   tells = gate-is cells ps g (c .gate) (c .is)
 
   count-is : countAt cells g ≡ length (pins (c .gate))

@@ -55,7 +55,7 @@ latch-any g (G.Binary t a b) ps = refl
 latch-any g (G.Ternary t a b c) ps = refl
 latch-any g (G.Nary t r) ps = refl
 latch-any g (G.Buf s) ps = refl
-latch-any g (G.Dff d e r) ps = refl
+latch-any g (G.Dff d e r v) ps = refl
 
 latch-step : (g : ℕ) (x : Gate) (xs : List Gate) → latchesText g (x ∷ xs) ≡ latchText g x ++ latchesText (suc g) xs
 unfolding latchText

@@ -52,7 +52,7 @@ fn write_latch(out: &mut [u8], gate: Gate, g: usize) -> usize
         Gate::Ternary(_, _, _, _) => 0,
         Gate::Nary(_, _) => 0,
         Gate::Buf(_) => 0,
-        Gate::Dff(d, e, r) => blif_write_gates::write_stored(out, d, e, r, g),
+        Gate::Dff(d, e, r, v) => blif_write_gates::write_stored(out, d, e, r, v, g),
     }
 }
 
@@ -84,7 +84,7 @@ fn write_cover(out: &mut [u8], gate: Gate, pins: &[u32], g: usize) -> usize
             blif_write_gates::write_nary(out, t, &pins[start..end], g)
         }
         Gate::Buf(s) => blif_write_gates::write_buf(out, s, g),
-        Gate::Dff(_, _, _) => 0,
+        Gate::Dff(_, _, _, _) => 0,
     }
 }
 

@@ -15,9 +15,9 @@ use Rattle.signal.specs.between.Cell.{gateCell, inputCell}
 use Rattle.signal.proofs.Cells.{signal-again, small-node, gate-cell, input-cell}
 use Rattle.gates.specs.declared.NaryType.{NaryType}
 use Rattle.gates.specs.between.Forms.{naryForm}
-use Rattle.blif_meaning.specs.Model.{Line, LatchDef, Cover, plainLatch}
+use Rattle.blif_meaning.specs.Model.{Line, Cover, initBytes, plainLatch}
 use Rattle.blif_writing.specs.Names.{nameBytes}
-use Rattle.blif_writing.specs.WrittenModel.{coverRow, colOf, linesOf, formBlock, isConst, unless, gateName, bare, bufBlock}
+use Rattle.blif_writing.specs.WrittenModel.{coverRow, colOf, linesOf, formBlock, isConst, initFrom, unless, gateName, bare, bufBlock}
 use Rattle.blif_writing.specs.Text.{spaced, line, cubeLine, field, latchLine, flopLine, given}
 use Rattle.blif_write_cubes.specs.between.Lines.{linesText}
 use Rattle.blif_write_names.proofs.Parts.{Parts}
@@ -49,9 +49,12 @@ cubes-text (l ∷ ls) = ap (λ (t : Bytes). line (cubeLine l) ++ t) (cubes-text 
 
 -- ---- flip-flops
 
-pub plain-text : (l : LatchDef Bytes) → ((bytes ".latch" ++ (32 ∷ l .input)) ++ (32 ∷ l .output)) ++ bytes " 0\n" ≡ line (latchLine l)
+-- the line of a latch, the start value's digit last
+pub plain-text : (d q : Bytes) (v : Bool)
+    → ((bytes ".latch" ++ (32 ∷ d)) ++ (32 ∷ q)) ++ cond v (bytes " 1\n") (bytes " 0\n") ≡ line (latchLine (plainLatch d q (initFrom v)))
 unfolding line spaced flatMap
-plain-text l = simp append-assoc
+plain-text d q false = simp append-assoc
+plain-text d q true = simp append-assoc
 
 field-text : (v : Bool) (key : Bytes) (s : Signal) → fieldText v (32 ∷ key) s ≡ field key (unless nameBytes v s)
 unfolding fieldText spaced flatMap
@@ -67,19 +70,24 @@ to-right f d k q i x y n = simp append-assoc
 from-right : (f b d k q i x y n : Bytes) → f ++ (b ++ (d ++ (k ++ (q ++ (i ++ (x ++ (y ++ n))))))) ≡ (f ++ (((b ++ d) ++ ((k ++ q) ++ i)) ++ (x ++ y))) ++ n
 from-right f b d k q i x y n = simp append-assoc
 
-pub flop-text : (d e r : Signal) (g : ℕ)
-    → (((((bytes ".flop D=" ++ nameBytes d) ++ (bytes " Q=" ++ gateName nameBytes g)) ++ bytes " init=0") ++ fieldText true (bytes " E=") e)
-    ++ fieldText false (bytes " R=") r) ++ bytes "\n" ≡ flopText d e r g
+-- the start value's word in the line of a `.flop`
+start-text : (v : Bool) → cond v (bytes " init=1") (bytes " init=0") ≡ spaced ((bytes "init=" ++ initBytes (initFrom v)) ∷ [])
+unfolding spaced flatMap
+start-text false = refl
+start-text true = refl
+
+pub flop-text : (d e r : Signal) (v : Bool) (g : ℕ)
+    → (((((bytes ".flop D=" ++ nameBytes d) ++ (bytes " Q=" ++ gateName nameBytes g)) ++ cond v (bytes " init=1") (bytes " init=0"))
+    ++ fieldText true (bytes " E=") e) ++ fieldText false (bytes " R=") r) ++ bytes "\n" ≡ flopText d e r v g
 unfolding flopText line spaced flatMap
-flop-text d e r g =
+flop-text d e r v g =
     let q : Bytes = gateName nameBytes g in
+    let i : Bytes = spaced ((bytes "init=" ++ initBytes (initFrom v)) ∷ []) in
     let x : Bytes = field (bytes "E=") (unless nameBytes true e) in
     let y : Bytes = field (bytes "R=") (unless nameBytes false r) in
-    ap₂ (λ (a b : Bytes). (((((bytes ".flop D=" ++ nameBytes d) ++ (bytes " Q=" ++ q)) ++ bytes " init=0") ++ a) ++ b) ++ bytes "\n")
-    (field-text true (bytes "E=") e)
-    (field-text false (bytes "R=") r)
-    ∙ to-right (bytes ".flop D=") (nameBytes d) (bytes " Q=") q (bytes " init=0") x y (bytes "\n")
-    ∙ from-right (bytes ".flop") (bytes " D=") (nameBytes d) (bytes " Q=") q (bytes " init=0") x y (bytes "\n")
+    rw (start-text v, field-text true (bytes "E=") e, field-text false (bytes "R=") r)
+    (to-right (bytes ".flop D=") (nameBytes d) (bytes " Q=") q i x y (bytes "\n")
+    ∙ from-right (bytes ".flop") (bytes " D=") (nameBytes d) (bytes " Q=") q i x y (bytes "\n"))
 
 -- a name is given unless the signal is the constant
 given-unless : (v : Bool) (s : Signal) → given (unless nameBytes v s) ≡ not (isConst v s)
@@ -89,29 +97,30 @@ given-unless v s = go (isConst v s)
     go true = refl
     go false = refl
 
--- whether the line is that of a `.flop`
-stored-is : (d e r : Signal) (g : ℕ) {x y : Bool} → isConst true e ≡ x → isConst false r ≡ y
-    → storedText d e r g ≡ line (cond (not x || not y) (flopLine (storedLatch d e r g)) (latchLine (storedLatch d e r g)))
-unfolding storedText
-stored-is d e r g h k =
-    ap₂ (λ (x y : Bool). line (cond (x || y) (flopLine (storedLatch d e r g)) (latchLine (storedLatch d e r g))))
-    (given-unless true e ∙ ap not h)
-    (given-unless false r ∙ ap not k)
+module _ (d e r : Signal) (v : Bool) (g : ℕ) where
+  -- whether the line is that of a `.flop`
+  stored-is : {x y : Bool} → isConst true e ≡ x → isConst false r ≡ y
+      → storedText d e r v g ≡ line (cond (not x || not y) (flopLine (storedLatch d e r v g)) (latchLine (storedLatch d e r v g)))
+  unfolding storedText
+  stored-is h k =
+      ap₂ (λ (x y : Bool). line (cond (x || y) (flopLine (storedLatch d e r v g)) (latchLine (storedLatch d e r v g))))
+      (given-unless true e ∙ ap not h)
+      (given-unless false r ∙ ap not k)
 
--- an enable other than one, or a reset other than zero, is written
-pub stored-enabled : (d e r : Signal) (g : ℕ) → isConst true e ≡ false → flopText d e r g ≡ storedText d e r g
-unfolding flopText
-stored-enabled d e r g h = sym (stored-is d e r g h refl)
+  -- an enable other than one, or a reset other than zero, is written
+  pub stored-enabled : isConst true e ≡ false → flopText d e r v g ≡ storedText d e r v g
+  unfolding flopText
+  stored-enabled h = sym (stored-is h refl)
 
-pub stored-reset : (d e r : Signal) (g : ℕ) → isConst false r ≡ false → flopText d e r g ≡ storedText d e r g
-unfolding flopText
-stored-reset d e r g k =
-    sym (stored-is d e r g refl k
-    ∙ ap (λ (b : Bool). line (cond b (flopLine (storedLatch d e r g)) (latchLine (storedLatch d e r g)))) (or-true (not (isConst true e))))
+  pub stored-reset : isConst false r ≡ false → flopText d e r v g ≡ storedText d e r v g
+  unfolding flopText
+  stored-reset k =
+      sym (stored-is refl k
+      ∙ ap (λ (b : Bool). line (cond b (flopLine (storedLatch d e r v g)) (latchLine (storedLatch d e r v g)))) (or-true (not (isConst true e))))
 
-pub stored-plain : (d e r : Signal) (g : ℕ) → isConst true e ≡ true → isConst false r ≡ true
-    → line (latchLine (plainLatch (nameBytes d) (gateName nameBytes g))) ≡ storedText d e r g
-stored-plain d e r g h k = sym (stored-is d e r g h k)
+  pub stored-plain : isConst true e ≡ true → isConst false r ≡ true
+      → line (latchLine (plainLatch (nameBytes d) (gateName nameBytes g) (initFrom v))) ≡ storedText d e r v g
+  stored-plain h k = sym (stored-is h k)
 
 -- ---- covers
 

@@ -12,6 +12,7 @@ use gates::NaryType;
 use gates::TernaryType;
 use signal::Signal;
 ghost use mathlib.Core.Path.{_≡_};
+ghost use mathlib.Core.Bool.{cond};
 ghost use mathlib.Core.List.{[], _∷_, _++_, map};
 ghost use Prim.Native.Nat.{_<_};
 ghost use lib.ListN.{length};
@@ -20,7 +21,7 @@ ghost use Rattle.gates.specs.between.Forms.{binaryForm, ternaryForm, naryForm};
 ghost use Rattle.network.specs.Sizes.{maxGates};
 ghost use Rattle.blif_meaning.specs.Model.{plainLatch};
 ghost use Rattle.blif_writing.specs.Names.{nameBytes};
-ghost use Rattle.blif_writing.specs.WrittenModel.{isConst, gateName, formBlock, bufBlock};
+ghost use Rattle.blif_writing.specs.WrittenModel.{isConst, initFrom, gateName, formBlock, bufBlock};
 ghost use Rattle.blif_writing.specs.Text.{spaced, line, latchLine};
 ghost use Rattle.blif_write_names.specs.between.Text.{Wrote, Appended};
 ghost use Rattle.blif_write_cubes.specs.between.Lines.{Narrow};
@@ -58,44 +59,68 @@ fn append_unless(out: &mut [u8], at: usize, value: bool, before: &[u8], s: Signa
     append_name(out, at, before, s)
 }
 
+// Writes the first text for a start value of one, and the second for zero.
+fn append_start(out: &mut [u8], at: usize, start: bool, one: &[u8], zero: &[u8]) -> usize
+    ensures { λ r. ⌜ Appended (cond start (now (one .entry)) (now (zero .entry))) (now (out .entry)) at (now (out .exit)) r ⌝ }
+{
+    if start {
+        return append(out, at, one);
+    }
+    append(out, at, zero)
+}
+
 // Writes a flip-flop that has its enable or its reset, with what it has.
-fn write_flop(out: &mut [u8], input: Signal, enable: Signal, reset: Signal, g: usize) -> usize
+fn write_flop(
+    out: &mut [u8],
+    input: Signal,
+    enable: Signal,
+    reset: Signal,
+    start: bool,
+    g: usize,
+) -> usize
     requires { ⌜ g < maxGates ⌝ }
-    ensures { λ r. ⌜ Wrote (flopText (sigOf (input .a)) (sigOf (enable .a)) (sigOf (reset .a)) g) (now (out .entry)) (now (out .exit)) r ⌝ }
+    ensures { λ r. ⌜ Wrote (flopText (sigOf (input .a)) (sigOf (enable .a)) (sigOf (reset .a)) start g) (now (out .entry)) (now (out .exit)) r ⌝ }
 {
     let mut at = append_name(out, 0, b".flop D=", input);
     at = append_gate(out, at, b" Q=", g);
-    at = append(out, at, b" init=0");
+    at = append_start(out, at, start, b" init=1", b" init=0");
     at = append_unless(out, at, true, b" E=", enable);
     at = append_unless(out, at, false, b" R=", reset);
     append(out, at, b"\n")
 }
 
 // Writes a flip-flop that always takes its data.
-fn write_plain(out: &mut [u8], input: Signal, g: usize) -> usize
+fn write_plain(out: &mut [u8], input: Signal, start: bool, g: usize) -> usize
     requires { ⌜ g < maxGates ⌝ }
     ensures { λ r.
-        ⌜ Wrote (line (latchLine (plainLatch (nameBytes (sigOf (input .a))) (gateName nameBytes g)))) (now (out .entry))
+        ⌜ Wrote (line (latchLine (plainLatch (nameBytes (sigOf (input .a))) (gateName nameBytes g) (initFrom start)))) (now (out .entry))
         (now (out .exit)) r ⌝ }
 {
     let mut at = append(out, 0, b".latch");
     at = append_name(out, at, b" ", input);
     at = append_gate(out, at, b" ", g);
-    append(out, at, b" 0\n")
+    append_start(out, at, start, b" 1\n", b" 0\n")
 }
 
 // Writes a flip-flop.
-pub fn write_stored(out: &mut [u8], input: Signal, enable: Signal, reset: Signal, g: usize) -> usize
+pub fn write_stored(
+    out: &mut [u8],
+    input: Signal,
+    enable: Signal,
+    reset: Signal,
+    start: bool,
+    g: usize,
+) -> usize
     requires { ⌜ g < maxGates ⌝ }
-    ensures { λ r. ⌜ Wrote (storedText (sigOf (input .a)) (sigOf (enable .a)) (sigOf (reset .a)) g) (now (out .entry)) (now (out .exit)) r ⌝ }
+    ensures { λ r. ⌜ Wrote (storedText (sigOf (input .a)) (sigOf (enable .a)) (sigOf (reset .a)) start g) (now (out .entry)) (now (out .exit)) r ⌝ }
 {
     if !is_value(enable, true) {
-        return write_flop(out, input, enable, reset, g);
+        return write_flop(out, input, enable, reset, start, g);
     }
     if !is_value(reset, false) {
-        return write_flop(out, input, enable, reset, g);
+        return write_flop(out, input, enable, reset, start, g);
     }
-    write_plain(out, input, g)
+    write_plain(out, input, start, g)
 }
 
 // Writes the end of a `.names` line: the gate's name.

@@ -68,7 +68,7 @@ module _ {Name : Type 0} (name : Signal → Name) where
   comb-target g = comb-cases (λ f ps b. target b ≡ gateName name g) g (λ ps. refl) (λ f ps e. refl)
 
   -- no latch is written among the covers
-  pub no-latch : (g : ℕ) (f : Form) (ps : List Signal) (l : LatchDef Name) → Latch l ≡ combBlock name g f ps → ⊥
+  no-latch : (g : ℕ) (f : Form) (ps : List Signal) (l : LatchDef Name) → Latch l ≡ combBlock name g f ps → ⊥
   no-latch g =
       comb-cases (λ f ps b. (l : LatchDef Name) → Latch l ≡ b → ⊥) g (λ ps l e. let z : _≡_ {A = ℕ} 0 1 = cc in omega arith)
       (λ f ps n l e. let z : _≡_ {A = ℕ} 0 1 = cc in omega arith)
@@ -136,3 +136,15 @@ module _ {Name : Type 0} (name : Signal → Name) where
 
         const : List·Memᴰ b (constBlocks name) → Source b
         const w = ⊎-elim ofOne (λ v. ofZero (List·Memᴰ·eq-of-singleton v)) (List·Memᴰ·cases-cons w)
+
+    -- a written latch is a flip-flop's
+    pub latch-source : (l : LatchDef Name) → List·Memᴰ (Latch l) (written name net .blocks)
+        → (g : ℕ) × (s : FlipFlop) × GateIs net g (Dff s) × (l ≡ latchOf name g s)
+    latch-source l m = go (source (Latch l) m)
+      where
+        go : Source (Latch l) → (g : ℕ) × (s : FlipFlop) × GateIs net g (Dff s) × (l ≡ latchOf name g s)
+        go (ofDff g s p w) = (g, s, p, cc)
+        go (ofComb g f ps p w) = absurd (no-latch g f ps l w)
+        go (ofInverter n v w) = absurd (let z : _≡_ {A = ℕ} 0 1 = cc in omega arith)
+        go (ofOne w) = absurd (let z : _≡_ {A = ℕ} 0 1 = cc in omega arith)
+        go (ofZero w) = absurd (let z : _≡_ {A = ℕ} 0 1 = cc in omega arith)

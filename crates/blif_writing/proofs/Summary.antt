@@ -39,8 +39,8 @@ mask-bits n = (order.masks-count n, order.mask-bits n)
 pub names-differ : (s t : Signal) → nameBytes s ≡ nameBytes t → s ≡ t
 names-differ s t e = sym (unname-name s) ∙ ap unname e ∙ unname-name t
 
--- the model written for a network gives the network's outputs, whatever enables and resets its flip-flops have; that it gives no others is
--- `written-means` (round_trip)
+-- the model written for a network gives the network's outputs, whatever enables, resets and start values its flip-flops have; that it gives no
+-- others is `written-means` (round_trip)
 pub written-runs : (net : Net) → Valid net → (Loop net → ⊥) → Formed net → (rows : List (List Bool)) → BlifRuns (written nameBytes net) rows (run net rows)
 written-runs net valid free formed = writing.written-runs nameBytes net formed unname unname-name valid free
 

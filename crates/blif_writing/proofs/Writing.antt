@@ -1,6 +1,6 @@
 -- Every clock of a network is one of the model written for it. Assumes nothing.
 use mathlib.Core.Path.{_≡_, refl, sym, ap, ap₂, _∙_, subst}
-use mathlib.Core.List.{List, [], _∷_, map}
+use mathlib.Core.List.{List, [], _∷_, map, List·Memᴰ}
 use mathlib.Core.Bool.{Bool, true, false, not, _&&_, _||_, cond, or-false, and-true}
 use mathlib.Core.Option.{none, some}
 use Prim.Native.Nat.{ℕ}
@@ -9,20 +9,25 @@ use native.Mathlib.Nat.{zero-add}
 use lib.ListN.{length, getD, getElem?, length-map}
 use borrow.Author.Tests.{eqb-true}
 use Rattle.signal.specs.Signal.{Node, Const, Input, Var, Signal, invertIf, plain, invert, oneS, zeroS, constNode}
-use Rattle.gates.specs.Gate.{Form, Buf, FlipFlop, Comb, Dff, formBit}
+use Rattle.gates.specs.Gate.{Form, Buf, FlipFlop, Comb, Dff, startBit, formBit}
 use Rattle.gates.specs.Forms.{canHave}
 use Rattle.network.specs.Net.{Net, GateIs, Valid, Formed, Loop}
-use Rattle.network.specs.Clock.{Clock, nodeBit, sigBit, zeroBits}
-use Rattle.network.specs.Settle.{run}
-use Rattle.blif_meaning.specs.Model.{LatchDef, Block, Latch, target, nextHeld, cubeBit, coverBit, blockBit, BlifClock, BlifRuns}
-use Rattle.blif_writing.specs.WrittenModel.{isConst, unless, latchOf, colOf, linesOf, bare, gateName, bufBlock, formBlock, combBlock, inverterBlock, written}
+use Rattle.network.specs.Clock.{Clock, nodeBit, sigBit, Runs, startBits}
+use Rattle.network.specs.Settle.{run, runFrom}
+use Rattle.blif_meaning.specs.Model.{LatchDef, Block, Latch, target, nextHeld, cubeBit, coverBit, Holds, blockBit, BlifClock, BlifRuns}
+use Rattle.blif_writing.specs.WrittenModel.{isConst, initFrom, unless, latchOf, colOf, linesOf, bare, gateName, bufBlock, formBlock, combBlock, inverterBlock, written}
 use Rattle.lists.specs.Lists.{range, optional}
 use Rattle.lists.proofs.Places.{map-on, map-map, map-at}
-use Rattle.blif_writing.proofs.Blocks.{range-at, comb-cases, no-latch, Source, ofDff, ofComb, ofInverter, ofOne, ofZero, source}
+use Rattle.blif_writing.proofs.Blocks.{range-at, comb-cases, Source, ofDff, ofComb, ofInverter, ofOne, ofZero, source, latch-source}
 use Rattle.blif_writing.proofs.FormLines.{lines-mean}
 use Rattle.network.proofs.SignalBits.{invert-bit}
 use Rattle.network.proofs.Runs.{Simulates, runs-along}
 use Rattle.network.proofs.OneChoice.{ranked, run-is}
+
+-- the initial state written for a start value holds it
+start-bit : (b : Bool) → Holds (initFrom b) b
+start-bit false = refl
+start-bit true = refl
 
 module _ {Name : Type 0} (name : Signal → Name) where
   module _ (unname : Name → Signal) (back : (s : Signal) → unname (name s) ≡ s) (row : List Bool) (bits : ℕ → Bool) where
@@ -80,6 +85,14 @@ module _ {Name : Type 0} (name : Signal → Name) where
       gateOr f (Input i) = false
       gateOr f (Var g) = f g
 
+      -- bits by the names of the gates
+      byName : (ℕ → Bool) → Name → Bool
+      byName f y = gateOr f (unname y .node)
+
+      by-gate : (f : ℕ → Bool) (g : ℕ) → byName f (gateName name g) ≡ f g
+      unfolding byName
+      by-gate f g = ap (λ (s : Signal). gateOr f (s .node)) (back (plain (Var g)))
+
       module _ (heldN nextN : ℕ → Bool) (heldB : Name → Bool) (row out : List Bool) (h : HoldsName heldN heldB) (c : Clock net heldN row out nextN) where
         abbrev ε : Name → Bool
         ε = envOf unname back row (c .bits)
@@ -102,13 +115,6 @@ module _ {Name : Type 0} (name : Signal → Name) where
             let u : t .0 ≡ i = range-at 0 (net .inputs) i (t .0) (t .1) ∙ zero-add i in
             ap ε (sym (t .2)) ∙ env-name unname back row (c .bits) (plain (Input (t .0))) ∙ ap (λ (j : ℕ). getD row j false) u
 
-        next : Name → Bool
-        next y = gateOr nextN (unname y .node)
-
-        next-gate : (g : ℕ) → next (gateName name g) ≡ nextN g
-        unfolding next
-        next-gate g = ap (λ (s : Signal). gateOr nextN (s .node)) (back (plain (Var g)))
-
         const-value : (v : Bool) (s : Signal) → isConst v s ≡ true → sigBit row (c .bits) s ≡ v
         const-value v s p = go (s .node) refl (s .inv) refl v p
           where
@@ -127,35 +133,46 @@ module _ {Name : Type 0} (name : Signal → Name) where
             go true p = sym (const-value v s p)
             go false p = env-name unname back row (c .bits) s
 
-        step-of : (l : LatchDef Name) → Source name net (Latch l) → next (l .output) ≡ nextHeld ε (heldB (l .output)) l
-        step-of l (ofDff g s p w) =
-            let e : l ≡ latchOf name g s = cc in
-            ap (λ (x : LatchDef Name). next (x .output)) e ∙ next-gate g ∙ c .steps g (Dff s) p
-            ∙ sym (λ i. cond (unless-bit false (s .reset) i) false (cond (unless-bit true (s .enable) i) (env-name unname back row (c .bits) (s .dataIn) i) (h g s p i)))
-            ∙ sym (λ i. nextHeld ε (heldB (e i .output)) (e i))
-        step-of l (ofComb g f ps p w) = absurd (no-latch name g f ps l w)
-        step-of l (ofInverter n m w) = absurd (let z : _≡_ {A = ℕ} 0 1 = cc in omega arith)
-        step-of l (ofOne w) = absurd (let z : _≡_ {A = ℕ} 0 1 = cc in omega arith)
-        step-of l (ofZero w) = absurd (let z : _≡_ {A = ℕ} 0 1 = cc in omega arith)
+        step-of : (l : LatchDef Name) → List·Memᴰ (Latch l) (written name net .blocks) → byName nextN (l .output) ≡ nextHeld ε (heldB (l .output)) l
+        step-of l m =
+            let t = latch-source name net l m in
+            let s : FlipFlop = t .1 in
+            rw (t .3)
+            (by-gate nextN (t .0) ∙ c .steps (t .0) (Dff s) (t .2)
+            ∙ sym (λ i. cond (unless-bit false (s .reset) i) false (cond (unless-bit true (s .enable) i) (env-name unname back row (c .bits) (s .dataIn) i) (h (t .0) s (t .2) i))))
 
         write-clock : (t : Name → Bool) × BlifClock (written name net) heldB row out t × HoldsName nextN t
         write-clock = (
-          next,
+          byName nextN,
           record {
             env = ε;
             fits = record { ins = ins-fit; blocks = λ b m. block-fits b (source name net b m) };
             answers = c .answers ∙ sym (env-names unname back row (c .bits) (net .outputs));
-            steps = λ l m. step-of l (source name net (Latch l) m);
+            steps = step-of;
           },
-          λ g s p. next-gate g,
+          λ g s p. by-gate nextN g,
         )
 
       -- every clock of the network is one of the model written for it
       pub write-simulates : Simulates HoldsName (Clock net) (BlifClock (written name net))
       write-simulates heldN nextN heldB row out h c = write-clock heldN nextN heldB row out h c
 
-      -- so the network's outputs are the model's
+      -- so from related bits the network's outputs are the model's
+      written-from : Valid net → (Loop net → ⊥) → (heldN : ℕ → Bool) (heldB : Name → Bool) → HoldsName heldN heldB
+          → (rows : List (List Bool)) → Runs (BlifClock (written name net)) heldB rows (runFrom net heldN rows)
+      written-from valid free heldN heldB h rows =
+          runs-along HoldsName (Clock net) (BlifClock (written name net)) write-simulates heldN heldB rows (runFrom net heldN rows) h
+          (run-is net valid (ranked net free) rows heldN)
+
+      start-of : (l : LatchDef Name) → List·Memᴰ (Latch l) (written name net .blocks) → Holds (l .init) (byName (startBits net) (l .output))
+      start-of l m =
+          let t = latch-source name net l m in
+          rw (t .3) (by-gate (startBits net) (t .0) ∙ ap (optional startBit false) (t .2) ∙ start-bit (t .1 .start))
+
+      -- and those from the start values are the model's from its initial states
       pub written-runs : Valid net → (Loop net → ⊥) → (rows : List (List Bool)) → BlifRuns (written name net) rows (run net rows)
-      written-runs valid free rows =
-          runs-along HoldsName (Clock net) (BlifClock (written name net)) write-simulates zeroBits (λ (x : Name). false) rows (run net rows) (λ g s p. refl)
-          (run-is net valid (ranked net free) rows zeroBits)
+      written-runs valid free rows = record {
+        held = byName (startBits net);
+        starts = start-of;
+        runs = written-from valid free (startBits net) (byName (startBits net)) (λ g s p. by-gate (startBits net) g) rows;
+      }

@@ -5,7 +5,7 @@ use mathlib.Core.Option.{Option, none, some}
 use Prim.Native.Nat.{ℕ}
 use Rattle.lists.specs.Lists.{Bytes, bytes}
 use Rattle.network.specs.Net.{Net}
-use Rattle.blif_meaning.specs.Model.{Col, C0, C1, Dash, Line, LatchDef, Block, Latch, Cover}
+use Rattle.blif_meaning.specs.Model.{Col, C0, C1, Dash, Line, initBytes, LatchDef, Block, Latch, Cover}
 use Rattle.blif_writing.specs.WrittenModel.{written, latchBlocks, combBlocks, inverterBlock, inverters}
 use Rattle.blif_writing.specs.Names.{nameBytes}
 
@@ -37,14 +37,14 @@ abbrev pub field : Bytes → Option Bytes → Bytes
 field key none = []
 field key (some x) = spaced ((key ++ x) ∷ [])
 
--- "A latch is `.latch d xN 0`"
+-- "A latch is `.latch d xN 0`", its start value "in place of the fixed 0, in `.latch` and after `init=` alike" (document 02, CR 4)
 abbrev pub latchLine : LatchDef Bytes → Bytes
-latchLine d = bytes ".latch" ++ spaced (d .input ∷ d .output ∷ bytes "0" ∷ [])
+latchLine d = bytes ".latch" ++ spaced (d .input ∷ d .output ∷ initBytes (d .init) ∷ [])
 
--- "`.flop D=d Q=xN init=0`, then ` E=e` unless enable is one, then ` R=r` unless reset is zero"
+-- "`.flop D=d Q=xN init=0`, then ` E=e` unless enable is one, then ` R=r` unless reset is zero", its start value too "in place of the fixed 0"
 abbrev pub flopLine : LatchDef Bytes → Bytes
 flopLine d =
-    bytes ".flop" ++ (spaced ((bytes "D=" ++ d .input) ∷ (bytes "Q=" ++ d .output) ∷ bytes "init=0" ∷ []) ++ (field (bytes "E=") (d .enable) ++ field (bytes "R=") (d .reset)))
+    bytes ".flop" ++ (spaced ((bytes "D=" ++ d .input) ∷ (bytes "Q=" ++ d .output) ∷ (bytes "init=" ++ initBytes (d .init)) ∷ []) ++ (field (bytes "E=") (d .enable) ++ field (bytes "R=") (d .reset)))
 
 -- the name is given
 abbrev pub given : Option Bytes → Bool

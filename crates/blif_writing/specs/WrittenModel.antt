@@ -11,7 +11,7 @@ use Rattle.signal.specs.Signal.{Node, Const, Input, Var, Signal, plain, zeroS, 
 use Rattle.gates.specs.Gate.{odd, Form, And2, Xor2, And3, Xor3, Maj3, Mux3, AndN, OrN, NandN, NorN, XorN, XnorN, Buf, FlipFlop, Gate, Comb, Dff, pins}
 use Rattle.gates.specs.Forms.{formNumber, formCell}
 use Rattle.network.specs.Net.{Net}
-use Rattle.blif_meaning.specs.Model.{Col, C0, C1, Dash, Line, LatchDef, Block, Latch, Cover, Model}
+use Rattle.blif_meaning.specs.Model.{Col, C0, C1, Dash, Line, Init, I0, I1, LatchDef, Block, Latch, Cover, Model}
 
 -- ---- cover lines
 
@@ -107,6 +107,11 @@ isConst b s = constNode (s .node) && cond b (s .inv) (not (s .inv))
 
 -- ---- the model
 
+-- the initial state of a start value
+abbrev pub initFrom : Bool → Init
+initFrom false = I0
+initFrom true = I1
+
 -- "its signal without inversion"
 abbrev pub bare : Signal → Signal
 bare s = plain (s .node)
@@ -132,9 +137,16 @@ module _ {Name : Type 0} (name : Signal → Name) where
   abbrev pub unless : Bool → Signal → Option Name
   unless b s = cond (isConst b s) none (some (name s))
 
-  -- the latch of flip-flop g: "E=e unless enable is one", "R=r unless reset is zero"
+  -- the latch of flip-flop g: "E=e unless enable is one", "R=r unless reset is zero", and its start value, "written by the writer in place of
+  -- the fixed 0" (document 02, CR 4)
   abbrev pub latchOf : ℕ → FlipFlop → LatchDef Name
-  latchOf g ff = record { input = name (ff .dataIn); output = gateName g; enable = unless true (ff .enable); reset = unless false (ff .reset) }
+  latchOf g ff = record {
+    input = name (ff .dataIn);
+    output = gateName g;
+    enable = unless true (ff .enable);
+    reset = unless false (ff .reset);
+    init = initFrom (ff .start);
+  }
 
   -- "latches", in gate order
   abbrev pub latchBlocks : ℕ → List Gate → List (Block Name)

@@ -65,10 +65,10 @@ fn answer(
 // Prints what is answered for a text.
 fn print_answer(text: &[u8]) {
     let mut out = [0u8; 32768];
-    let mut gates = [0u32; 3072];
+    let mut gates = [0u32; 4096];
     let mut pins = [0u32; 16384];
     let mut outputs = [0u32; 256];
-    let mut work_gates = [0u32; 3072];
+    let mut work_gates = [0u32; 4096];
     let mut work_pins = [0u32; 16384];
     let end = answer(
         text,

@@ -19,6 +19,8 @@ pub record FlipFlop : Type 0 where
   pub enable : Signal
   -- "a reset of one"
   pub reset : Signal
+  -- what it holds before the first clock: "a flip-flop's start value, 0 or 1" (document 02, CR 4)
+  pub start : Bool
 
 -- a plain flip-flop: it takes the data at each clock
 pub record PlainFlop (ff : FlipFlop) : Type 0 where
@@ -41,6 +43,11 @@ pins (Dff ff) = ff .dataIn ∷ ff .enable ∷ ff .reset ∷ []
 abbrev pub isPlain : Gate → Bool
 isPlain (Comb f ps) = true
 isPlain (Dff ff) = isOneS (ff .enable) && isZeroS (ff .reset)
+
+-- what a gate holds before the first clock: "a flip-flop's start value, 0 or 1, and else zero"
+abbrev pub startBit : Gate → Bool
+startBit (Comb f ps) = false
+startBit (Dff ff) = ff .start
 
 -- "Every form but Dff is combinational"
 abbrev pub isComb : Gate → Bool

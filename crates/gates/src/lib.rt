@@ -1,8 +1,8 @@
 // Gates: their forms, types, form numbers and pin counts (Quaigh's src/network/gates.rs).
 use signal::Signal;
 ghost use mathlib.Core.Path.{_≡_};
-ghost use Rattle.gates.specs.between.Forms.{kindOf, kindTakes, kindNumber};
-ghost use Rattle.gates.specs.between.Decode.{pinCount, kindOfGate, kindComb, cellSignal, kindGate, withPins};
+ghost use Rattle.gates.specs.between.Forms.{kindOf, kindTakes, kindStarts, kindNumber};
+ghost use Rattle.gates.specs.between.Decode.{pinCount, startIn, kindOfGate, kindComb, cellSignal, kindGate, withPins};
 
 // Form numbers, for those who look at a record's form alone.
 pub const NARY_XOR: u32 = 11;
@@ -46,8 +46,8 @@ pub enum Gate {
     Ternary(TernaryType, Signal, Signal, Signal),
     Nary(NaryType, PinRun),
     Buf(Signal),
-    // data, enable, reset
-    Dff(Signal, Signal, Signal),
+    // data, enable, reset, and the start value
+    Dff(Signal, Signal, Signal, bool),
 }
 
 // What a form number says of a gate: its form and type.
@@ -151,6 +151,20 @@ impl Kind {
         }
     }
 
+    // Whether a gate of this kind can have this start value.
+    pub fn starts(self, start: u32) -> bool
+        ensures { λ r. ⌜ r ≡ kindStarts self start ⌝ }
+    {
+        match self {
+            Kind::Binary(_) => start == 0,
+            Kind::Ternary(_) => start == 0,
+            Kind::Nary(_) => start == 0,
+            Kind::Buf => start == 0,
+            Kind::Dff => start <= 1,
+            Kind::Unknown => start == 0,
+        }
+    }
+
     // Whether it is combinational.
     pub fn is_comb(self) -> bool
         ensures { λ r. ⌜ r ≡ kindComb self ⌝ }
@@ -165,14 +179,17 @@ impl Kind {
         }
     }
 
-    // The gate of this kind with the pins of its run, which starts at cell first.
-    pub fn with_pins(self, first: usize, run: &[u32]) -> Decoded
-        ensures { λ r. ⌜ r ≡ withPins self first (now (run .entry)) ⌝ }
+    // The gate of this kind with a start value and the pins of its run, which starts at cell first.
+    pub fn with_pins(self, first: usize, start: u32, run: &[u32]) -> Decoded
+        ensures { λ r. ⌜ r ≡ withPins self first start (now (run .entry)) ⌝ }
     {
         if !self.takes(run.len()) {
             return Decoded::Bad;
         }
-        gate_of(self, first, run)
+        if !self.starts(start) {
+            return Decoded::Bad;
+        }
+        gate_of(self, first, start, run)
     }
 }
 
@@ -187,8 +204,8 @@ fn signal_at(run: &[u32], i: usize) -> Signal
 }
 
 // The gate of a kind that can have the run's pins.
-fn gate_of(k: Kind, first: usize, run: &[u32]) -> Decoded
-    ensures { λ r. ⌜ r ≡ kindGate k first (now (run .entry)) ⌝ }
+fn gate_of(k: Kind, first: usize, start: u32, run: &[u32]) -> Decoded
+    ensures { λ r. ⌜ r ≡ kindGate k first start (now (run .entry)) ⌝ }
 {
     match k {
         Kind::Binary(t) => { Decoded::Good(Gate::Binary(t, signal_at(run, 0), signal_at(run, 1))) }
@@ -210,6 +227,7 @@ fn gate_of(k: Kind, first: usize, run: &[u32]) -> Decoded
             signal_at(run, 0),
             signal_at(run, 1),
             signal_at(run, 2),
+            start == 1,
         )),
         Kind::Unknown => Decoded::Bad,
     }
@@ -225,7 +243,7 @@ impl Gate {
             Gate::Ternary(t, _, _, _) => Kind::Ternary(t),
             Gate::Nary(t, _) => Kind::Nary(t),
             Gate::Buf(_) => Kind::Buf,
-            Gate::Dff(_, _, _) => Kind::Dff,
+            Gate::Dff(_, _, _, _) => Kind::Dff,
         }
     }
 
@@ -245,7 +263,20 @@ impl Gate {
             Gate::Ternary(_, _, _, _) => 3,
             Gate::Nary(_, run) => run.count,
             Gate::Buf(_) => 1,
-            Gate::Dff(_, _, _) => 3,
+            Gate::Dff(_, _, _, _) => 3,
+        }
+    }
+
+    // The gate's start value.
+    pub fn start(self) -> bool
+        ensures { λ r. ⌜ r ≡ startIn self ⌝ }
+    {
+        match self {
+            Gate::Binary(_, _, _) => false,
+            Gate::Ternary(_, _, _, _) => false,
+            Gate::Nary(_, _) => false,
+            Gate::Buf(_) => false,
+            Gate::Dff(_, _, _, start) => start,
         }
     }
 }

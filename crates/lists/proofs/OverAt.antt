@@ -38,15 +38,24 @@ overwrite-append k (x ∷ a) t o =
     overwrite-first k x (a ++ t) o ∙ overwrite-append (suc k) a t (set o k x) ∙ ap (λ (j : ℕ). overwriteAt j t (overwriteAt (suc k) a (set o k x))) e
     ∙ ap (overwriteAt (k + suc (length a)) t) (sym (overwrite-first k x a o))
 
--- a record of three cells is three stores
+-- one element more is one store more
+store-next : (k : ℕ) (t o : List ℕ) (x : ℕ) → set (overwriteAt k t o) (k + length t) x ≡ overwriteAt k (t ++ x ∷ []) o
+store-next k t o x =
+    sym
+    (overwrite-append k t (x ∷ []) o
+    ∙ overwrite-first (k + length t) x [] (overwriteAt k t o)
+    ∙ overwriteAt-nil (suc (k + length t)) (set (overwriteAt k t o) (k + length t) x))
+
+-- so many cells are so many stores
+pub overwrite-two : (k x y : ℕ) (o : List ℕ) → set (set o k x) (k + 1) y ≡ overwriteAt k (x ∷ y ∷ []) o
+overwrite-two k x y o =
+    ap (λ (p : List ℕ). set p (k + 1) y) (sym (overwrite-first k x [] o ∙ overwriteAt-nil (suc k) (set o k x))) ∙ store-next k (x ∷ []) o y
+
 pub overwrite-three : (k x y z : ℕ) (o : List ℕ) → set (set (set o k x) (k + 1) y) (k + 2) z ≡ overwriteAt k (x ∷ y ∷ z ∷ []) o
-overwrite-three k x y z o =
-    let e : k + 1 ≡ suc k = omega arith in
-    let f : k + 2 ≡ suc (suc k) = omega arith in
-    rw (e, f)
-    (sym
-    (overwrite-first k x (y ∷ z ∷ []) o ∙ overwrite-first (suc k) y (z ∷ []) (set o k x) ∙ overwrite-first (suc (suc k)) z [] (set (set o k x) (suc k) y)
-    ∙ overwriteAt-nil (suc (suc (suc k))) (set (set (set o k x) (suc k) y) (suc (suc k)) z)))
+overwrite-three k x y z o = ap (λ (p : List ℕ). set p (k + 2) z) (overwrite-two k x y o) ∙ store-next k (x ∷ y ∷ []) o z
+
+pub overwrite-four : (k w x y z : ℕ) (o : List ℕ) → set (set (set (set o k w) (k + 1) x) (k + 2) y) (k + 3) z ≡ overwriteAt k (w ∷ x ∷ y ∷ z ∷ []) o
+overwrite-four k w x y z o = ap (λ (p : List ℕ). set p (k + 3) z) (overwrite-three k w x y o) ∙ store-next k (w ∷ x ∷ y ∷ []) o z
 
 -- ---- cells read back
 
@@ -144,12 +153,6 @@ overwriteAt-same zero (suc n) [] = refl
 overwriteAt-same zero (suc n) (y ∷ o) = ap (λ (l : List ℕ). y ∷ l) (overwriteAt-same zero n o)
 overwriteAt-same (suc k) n [] = refl
 overwriteAt-same (suc k) n (y ∷ o) = ap (λ (l : List ℕ). y ∷ l) (overwriteAt-same k n o)
-
--- two cells are two stores
-pub overwrite-two : (k x y : ℕ) (o : List ℕ) → set (set o k x) (k + 1) y ≡ overwriteAt k (x ∷ y ∷ []) o
-overwrite-two k x y o =
-    let e : k + 1 ≡ suc k = omega arith in
-    rw e (sym (overwrite-first k x (y ∷ []) o ∙ overwrite-first (suc k) y [] (set o k x) ∙ overwriteAt-nil (suc (suc k)) (set (set o k x) (suc k) y)))
 
 -- a longer list laid over a shorter one
 overwrite-again : (t r o : List ℕ) → length r ≤ length t → overwrite t (overwrite r o) ≡ overwrite t o

@@ -5,7 +5,6 @@ use mathlib.Core.List.{List, _++_, map, append-nil, append-assoc, List·Memᴰ}
 use mathlib.Core.Option.{some}
 use Prim.Native.Nat.{ℕ, zero, suc, _+_, _*_, _^_, _≤_, _<_}
 use native.Mathlib.Omega.{arith}
-use lib.Dec.{eqb}
 use lib.ListN.{length, take, drop, length-map}
 use lib.Seq.{take-add}
 use borrow.Author.Tests.{eqb-true}
@@ -15,10 +14,10 @@ use Rattle.lists.proofs.Places.{length-run, mem-run}
 use Rattle.signal.specs.Cell.{sigCell, sigOf}
 use Rattle.signal.proofs.Cells.{cells-again}
 use Rattle.gates.specs.Gate.{Gate, pins}
-use Rattle.gates.specs.Forms.{formCell, formed, canTake}
+use Rattle.gates.specs.Forms.{formCell, startCell, formed, canTake, canStart}
 use Rattle.gates.proofs.Forms.{From, gate-from, gate-made}
 use Rattle.network.specs.Cells.{pinsBelow, recordFits, orBuf}
-use Rattle.network.specs.Record.{gateWidth, recordOf, formAt, firstAt, countAt, runAt, gateAt, gateCells, pinCells}
+use Rattle.network.specs.Record.{gateWidth, recordOf, formAt, firstAt, countAt, startAt, runAt, gateAt, gateCells, pinCells}
 use Rattle.network.specs.between.Record.{recordAt}
 use Rattle.network.proofs.RecordCells.{record-in, records-split, start-mono, gate-there}
 use Rattle.network.proofs.GateRead.{gate-record}
@@ -36,6 +35,7 @@ pub record ReadAt (cells pinsL : List ℕ) (g : ℕ) : Type 0 where
   pub gate : Gate
   pub is : gateAt cells pinsL g ≡ some gate
   pub number : formCell gate ≡ formAt cells g
+  pub starts : startCell gate ≡ startAt cells g
   pub first : firstAt cells g ≡ pinsBelow cells g
   pub run : pins gate ≡ map sigOf (runAt cells pinsL g)
   pub count : length (pins gate) ≡ countAt cells g
@@ -51,21 +51,21 @@ module _ {cells pinsL : List ℕ} {n p : ℕ} (c : Fitting cells pinsL n p) wher
 
   pub read-at : (g : ℕ) → g < n → ReadAt cells pinsL g
   read-at g h =
-      let takes : canTake (formAt cells g) (countAt cells g) ≡ true =
-      and-left (canTake (formAt cells g) (countAt cells g)) (eqb (firstAt cells g) (pinsBelow cells g)) (c .fit g h) in
-      let at : firstAt cells g ≡ pinsBelow cells g =
-      eqb-true (firstAt cells g) (pinsBelow cells g)
-      (and-right (canTake (formAt cells g) (countAt cells g)) (eqb (firstAt cells g) (pinsBelow cells g)) (c .fit g h)) in
+      let fits : recordFits cells g ≡ true = c .fit g h in
+      let takes : canTake (formAt cells g) (countAt cells g) ≡ true = search (and-left, and-right) depth 8 in
+      let may : canStart (formAt cells g) (startAt cells g) ≡ true = search (and-left, and-right) depth 8 in
+      let at : firstAt cells g ≡ pinsBelow cells g = eqb-true (firstAt cells g) (pinsBelow cells g) (search (and-left, and-right) depth 8) in
       let end : firstAt cells g + countAt cells g ≤ length pinsL = omega (arith, run-inside g h, c .pinsInside) in
       let size : length (map sigOf (runAt cells pinsL g)) ≡ countAt cells g =
       length-map (runAt cells pinsL g) sigOf ∙ length-run (firstAt cells g) (countAt cells g) pinsL end in
-      let made = gate-made (formAt cells g) (map sigOf (runAt cells pinsL g)) (rw size takes) in
-      let from : From (formAt cells g) (map sigOf (runAt cells pinsL g)) (made .0) =
-      gate-from (formAt cells g) (map sigOf (runAt cells pinsL g)) (made .0) (made .1) in
+      let made = gate-made (formAt cells g) (startAt cells g) (map sigOf (runAt cells pinsL g)) (rw size takes) may in
+      let from : From (formAt cells g) (startAt cells g) (map sigOf (runAt cells pinsL g)) (made .0) =
+      gate-from (formAt cells g) (startAt cells g) (map sigOf (runAt cells pinsL g)) (made .0) (made .1) in
       record {
         gate = made .0;
         is = gate-there cells pinsL g (record { cells = record-in h (c .inside); within = end }) ∙ made .1;
         number = from .number;
+        starts = from .starts;
         first = at;
         run = from .all-pins;
         count = ap length (from .all-pins) ∙ size;

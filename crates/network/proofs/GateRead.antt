@@ -24,7 +24,7 @@ use Rattle.gates.specs.declared.Decoded.the-variants.{Good, Bad}
 use Rattle.gates.proofs.Forms.{From, gate-from}
 use Rattle.gates.proofs.Decode.{RunAt, decode-is, run-decoded}
 use Rattle.network.specs.Cells.{orBuf, cellGates}
-use Rattle.network.specs.Record.{gateWidth, recordOf, formAt, firstAt, countAt, runAt, hasRun, gateAt}
+use Rattle.network.specs.Record.{gateWidth, recordCells, recordOf, formAt, firstAt, countAt, startAt, runAt, hasRun, gateAt}
 use Rattle.network.specs.between.Record.{recordAt, decodedAt, HasRun}
 use Rattle.network.proofs.RecordCells.{record-parts, gate-some, decoded-some, gate-none, decoded-none}
 
@@ -51,7 +51,7 @@ module _ (cells ps : List ℕ) (g : ℕ) where
       (λ t.
       let run : RunAt ps (firstAt cells g) (runAt cells ps g) = ap (λ (k : ℕ). take k (drop (firstAt cells g) ps)) (run-length t) in
       ap (λ (d : Decoded). decodedIn d ps) (decoded-some cells ps g t)
-      ∙ decode-is ps (firstAt cells g) (runAt cells ps g) run (formAt cells g)
+      ∙ decode-is ps (firstAt cells g) (runAt cells ps g) run (formAt cells g) (startAt cells g)
       ∙ sym (gate-some cells ps g t))
       (λ t. ap (λ (d : Decoded). decodedIn d ps) (decoded-none cells ps g t) ∙ sym (gate-none cells ps g t))
 
@@ -65,7 +65,7 @@ module _ (cells ps : List ℕ) (g : ℕ) where
         by-test (hasRun cells ps g)
         (λ t.
         let n : firstAt cells g + length (runAt cells ps g) ≤ length ps = omega (arith, run-length t, there cells ps g t .within) in
-        run-decoded (firstAt cells g) (runAt cells ps g) ps n (kindOf (formAt cells g)) (sym (decoded-some cells ps g t) ∙ sym e ∙ h))
+        run-decoded (firstAt cells g) (runAt cells ps g) ps n (kindOf (formAt cells g)) (startAt cells g) (sym (decoded-some cells ps g t) ∙ sym e ∙ h))
         (λ t. absurd (let b : d ≡ Bad = e ∙ decoded-none cells ps g t in let z : _≡_ {A = ℕ} 0 1 = cc in omega arith))
 
 -- ---- a gate that can be read
@@ -77,8 +77,8 @@ module _ (cells ps : List ℕ) (g : ℕ) (x : Gate) (e : gateAt cells ps g ≡ s
   pub has-run : HasRun cells ps g
   has-run = there cells ps g is-there
 
-  pub gate-is : From (formAt cells g) (map sigOf (runAt cells ps g)) x
-  gate-is = gate-from (formAt cells g) (map sigOf (runAt cells ps g)) x (sym (gate-some cells ps g is-there) ∙ e)
+  pub gate-is : From (formAt cells g) (startAt cells g) (map sigOf (runAt cells ps g)) x
+  gate-is = gate-from (formAt cells g) (startAt cells g) (map sigOf (runAt cells ps g)) x (sym (gate-some cells ps g is-there) ∙ e)
 
   -- its record is the gate's
   pub gate-record : recordAt cells g ≡ recordOf (firstAt cells g) x
@@ -86,7 +86,7 @@ module _ (cells ps : List ℕ) (g : ℕ) (x : Gate) (e : gateAt cells ps g ≡ s
   gate-record =
       let n : countAt cells g ≡ length (pins x) =
       sym (ap length (gate-is .all-pins) ∙ length-map (runAt cells ps g) sigOf ∙ length-run (firstAt cells g) (countAt cells g) ps (has-run .within)) in
-      record-parts cells g (has-run .cells) ∙ (λ i. sym (gate-is .number) i ∷ firstAt cells g ∷ n i ∷ [])
+      record-parts cells g (has-run .cells) ∙ (λ i. recordCells (sym (gate-is .number) i) (firstAt cells g) (n i) (sym (gate-is .starts) i))
 
   pub run-pins : length (runAt cells ps g) ≡ length (pins x)
   run-pins = sym (length-map (runAt cells ps g) sigOf) ∙ ap length (sym (gate-is .all-pins))

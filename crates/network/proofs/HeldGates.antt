@@ -1,6 +1,6 @@
 -- Cells that hold gates one after the other have records that fit, and the gates come back. Assumes nothing.
 use mathlib.Core.Path.{_≡_, refl, sym, ap, ap₂, _∙_}
-use mathlib.Core.Bool.{true}
+use mathlib.Core.Bool.{true, _&&_}
 use mathlib.Core.List.{List, [], _∷_, _++_, map, List·Memᴰ, List·Memᴰ·head, List·Memᴰ·tail}
 use mathlib.Core.Option.{some}
 use Prim.Native.Nat.{ℕ, suc, _+_, _*_, _≤_}
@@ -16,10 +16,10 @@ use Rattle.signal.specs.Signal.{Signal}
 use Rattle.signal.specs.Cell.{sigCell, sigOf}
 use Rattle.signal.proofs.Cells.{Small, signals-again}
 use Rattle.gates.specs.Gate.{Gate, pins}
-use Rattle.gates.specs.Forms.{formCell, formed, canTake, gateFrom}
-use Rattle.gates.proofs.Forms.{gate-again, takes-formed}
+use Rattle.gates.specs.Forms.{formCell, formed, canTake, canStart, gateFrom}
+use Rattle.gates.proofs.Forms.{gate-again, takes-formed, starts-formed}
 use Rattle.network.specs.Cells.{pinsBelow, recordFits, orBuf}
-use Rattle.network.specs.Record.{gateWidth, recordOf, formAt, firstAt, countAt, runAt, gateAt, gateCells, pinCells}
+use Rattle.network.specs.Record.{gateWidth, recordOf, formAt, firstAt, countAt, startAt, runAt, gateAt, gateCells, pinCells}
 use Rattle.network.specs.between.Record.{recordAt, RecordIn}
 use Rattle.network.proofs.RecordCells.{length-recordOf, length-recordAt, record-is, record-runs, records-split, gate-there}
 use Rattle.network.proofs.FittingRecords.{heldAt}
@@ -37,7 +37,7 @@ pub record Holds (cells pinsL : List ℕ) (g : ℕ) (gs : List Gate) : Type 0 wh
 -- what the record and the run of the first of them hold
 record First (cells pinsL : List ℕ) (g : ℕ) (x : Gate) : Type 0 where
   form : formAt cells g ≡ formCell x
-  start : firstAt cells g ≡ pinsBelow cells g
+  first : firstAt cells g ≡ pinsBelow cells g
   size : countAt cells g ≡ length (pins x)
   gate : gateAt cells pinsL g ≡ some x
   fits : recordFits cells g ≡ true
@@ -84,12 +84,15 @@ module _ {cells pinsL : List ℕ} {g : ℕ} {x : Gate} {xs : List Gate} (c : Hol
       ∙ signals-again (pins x) (λ y m. c .allSmall x y (List·Memᴰ·head refl) m) in
       record {
         form = f;
-        start = s;
+        first = s;
         size = k;
-        gate = gate-there cells pinsL g (record-runs (pinsBelow cells g) x inside (cells-split .0) (omega (arith, c .pinsWithin, pins-next x xs))) ∙ ap₂ gateFrom f run ∙ gate-again x good;
+        gate = gate-there cells pinsL g (record-runs (pinsBelow cells g) x inside (cells-split .0) (omega (arith, c .pinsWithin, pins-next x xs)))
+            ∙ (λ i. gateFrom (f i) (q .start i) (run i)) ∙ gate-again x good;
         fits =
-            and-both (canTake (formAt cells g) (countAt cells g)) (eqb (firstAt cells g) (pinsBelow cells g))
+            and-both (canTake (formAt cells g) (countAt cells g) && canStart (formAt cells g) (startAt cells g)) (eqb (firstAt cells g) (pinsBelow cells g))
+            (and-both (canTake (formAt cells g) (countAt cells g)) (canStart (formAt cells g) (startAt cells g))
             (ap₂ canTake f k ∙ takes-formed x ∙ good)
+            (ap₂ canStart f (q .start) ∙ starts-formed x))
             (eq-eqb (firstAt cells g) (pinsBelow cells g) s);
       }
 

@@ -5,7 +5,7 @@ use Prim.Native.Nat.{ℕ, _+_, _-_, _*_, _≤_}
 use native.Mathlib.Omega.{arith}
 use lib.ListN.{take, drop, set}
 use Rattle.lists.specs.between.Lists.{overwriteAt}
-use Rattle.lists.proofs.OverAt.{overwriteAt-same, overwrite-inner, overwrite-two, overwrite-three}
+use Rattle.lists.proofs.OverAt.{overwriteAt-same, overwrite-inner, overwrite-two, overwrite-three, overwrite-four}
 use Rattle.lists.proofs.Laying.{one-store}
 use Rattle.lists.proofs.Places.{part-run}
 use Rattle.gates.specs.between.Decode.{pinsIn, pinCount}
@@ -28,6 +28,10 @@ stored-two k o {x} {y} e f = overwrite-two k x y o ∙ (λ i. overwriteAt k (e i
 pub stored-three : (k : ℕ) (o : List ℕ) {x y z a b c : ℕ} → x ≡ a → y ≡ b → z ≡ c
     → set (set (set o k x) (k + 1) y) (k + 2) z ≡ overwriteAt k (a ∷ b ∷ c ∷ []) o
 stored-three k o {x} {y} {z} e f g = overwrite-three k x y z o ∙ (λ i. overwriteAt k (e i ∷ f i ∷ g i ∷ []) o)
+
+pub stored-four : (k : ℕ) (o : List ℕ) {w x y z a b c d : ℕ} → w ≡ a → x ≡ b → y ≡ c → z ≡ d
+    → set (set (set (set o k w) (k + 1) x) (k + 2) y) (k + 3) z ≡ overwriteAt k (a ∷ b ∷ c ∷ d ∷ []) o
+stored-four k o {w} {x} {y} {z} e f g h = overwrite-four k w x y z o ∙ (λ i. overwriteAt k (e i ∷ f i ∷ g i ∷ h i ∷ []) o)
 
 -- ---- the pins
 

@@ -180,6 +180,7 @@ network-cells l w e =
             has = record { cells = record-in h (t .sizes .gates-lent); within = omega (arith, run-inside fit g h, t .sizes .pins-lent) };
             is = r .is;
             form = sym (r .number);
+            start = sym (r .starts);
             run = r .run;
             count = r .count;
             good = r .good;

@@ -1,6 +1,6 @@
 -- Where a gate's record and its run of pins stand in the cells. Assumes nothing.
 use mathlib.Core.Path.{_≡_, refl, sym, ap, _∙_, subst}
-use mathlib.Core.Bool.{true, false}
+use mathlib.Core.Bool.{Bool, true, false}
 use mathlib.Core.List.{List, [], _∷_, _++_, map}
 use mathlib.Core.Option.{none}
 use Prim.Native.Nat.{ℕ, zero, suc, _+_, _-_, _*_, _/_, _≤_, _<_}
@@ -13,8 +13,8 @@ use Rattle.lists.proofs.Tests.{by-order}
 use Rattle.lists.proofs.OverAt.{length-overwriteAt, run-before, drop-behind, run-overwriteAt}
 use Rattle.lists.proofs.Places.{length-run}
 use borrow.Author.Tests.{le-leb}
-use Rattle.signal.specs.Cell.{sigOf}
-use Rattle.gates.specs.Forms.{gateFrom, formNumber, formCell}
+use Rattle.signal.specs.Cell.{bitOf, sigOf}
+use Rattle.gates.specs.Forms.{gateFrom, formNumber, flopNumber, formCell, startCell}
 use Rattle.gates.specs.between.Forms.{kindOf, naryForm}
 use Rattle.gates.specs.between.Decode.{withPins}
 use Rattle.gates.specs.Gate.{FlipFlop, Gate, Comb, Dff, Buf, pins}
@@ -28,7 +28,7 @@ use Rattle.signal.specs.Signal.{Signal, remap}
 use Rattle.network.specs.Renumber.{remapGate}
 use Rattle.gates.specs.declared.Decoded.the-variants.{Bad}
 use Rattle.network.specs.Cells.{pinsBelow}
-use Rattle.network.specs.Record.{gateWidth, recordOf, formAt, firstAt, countAt, runAt, hasRun, gateAt}
+use Rattle.network.specs.Record.{gateWidth, recordCells, recordOf, formAt, firstAt, countAt, startAt, runAt, hasRun, gateAt}
 use Rattle.network.specs.between.Record.{recordAt, withFirst, decodedAt, RecordIn, HasRun, handRecord}
 
 -- ---- records
@@ -42,17 +42,21 @@ pub record-below : {cells : List ℕ} {g : ℕ} → g < length cells / gateWidth
 record-below h = record { within = omega (arith, h) }
 
 -- its parts
-pub record-parts : (cells : List ℕ) (g : ℕ) → RecordIn cells g → recordAt cells g ≡ formAt cells g ∷ firstAt cells g ∷ countAt cells g ∷ []
+pub record-parts : (cells : List ℕ) (g : ℕ) → RecordIn cells g → recordAt cells g ≡ recordCells (formAt cells g) (firstAt cells g) (countAt cells g) (startAt cells g)
 record-parts cells g h =
     let w = h .within in
     let a : suc (g * gateWidth) ≡ g * gateWidth + 1 = omega arith in
     let b : suc (g * gateWidth + 1) ≡ g * gateWidth + 2 = omega arith in
+    let c : suc (g * gateWidth + 2) ≡ g * gateWidth + 3 = omega arith in
     ap (take gateWidth)
     (drop-cons cells (g * gateWidth) 0 (omega arith)
     ∙ ap (λ (l : List ℕ). formAt cells g ∷ l)
     (ap (λ (i : ℕ). drop i cells) a
     ∙ drop-cons cells (g * gateWidth + 1) 0 (omega arith)
-    ∙ ap (λ (l : List ℕ). firstAt cells g ∷ l) (ap (λ (i : ℕ). drop i cells) b ∙ drop-cons cells (g * gateWidth + 2) 0 (omega arith))))
+    ∙ ap (λ (l : List ℕ). firstAt cells g ∷ l)
+    (ap (λ (i : ℕ). drop i cells) b
+    ∙ drop-cons cells (g * gateWidth + 2) 0 (omega arith)
+    ∙ ap (λ (l : List ℕ). countAt cells g ∷ l) (ap (λ (i : ℕ). drop i cells) c ∙ drop-cons cells (g * gateWidth + 3) 0 (omega arith)))))
 
 pub length-recordOf : (at : ℕ) (x : Gate) → length (recordOf at x) ≡ gateWidth
 unfolding recordOf
@@ -69,7 +73,7 @@ withFirst-recordOf at to x = refl
 -- a gate that is renumbered has the record of before
 pub recordOf-remap : (π : ℕ → ℕ) (at : ℕ) (x : Gate) → recordOf at (remapGate π x) ≡ recordOf at x
 unfolding recordOf
-recordOf-remap π at (Comb f ps) = ap (λ (n : ℕ). formNumber f ∷ at ∷ n ∷ []) (length-map ps (remap π))
+recordOf-remap π at (Comb f ps) = ap (λ (n : ℕ). recordCells (formNumber f) at n 0) (length-map ps (remap π))
 recordOf-remap π at (Dff s) = refl
 
 -- a gate in hand that is read from a text, with the gate that it stands for
@@ -79,11 +83,11 @@ hand-buf at a s = refl
 
 pub hand-nary : (at : ℕ) (t : NaryType) (r : PinRun) (ps : List Signal) → r .count ≡ length ps → handRecord at (G.Nary t r) ≡ recordOf at (Comb (naryForm t) ps)
 unfolding recordOf
-hand-nary at t r ps e = ap (λ (n : ℕ). formNumber (naryForm t) ∷ at ∷ n ∷ []) e
+hand-nary at t r ps e = ap (λ (n : ℕ). recordCells (formNumber (naryForm t)) at n 0) e
 
-pub hand-dff : (at : ℕ) (d e r : signal.Signal) (s : FlipFlop) → handRecord at (G.Dff d e r) ≡ recordOf at (Dff s)
+pub hand-dff : (at : ℕ) (d e r : signal.Signal) (v : Bool) (s : FlipFlop) → v ≡ s .start → handRecord at (G.Dff d e r v) ≡ recordOf at (Dff s)
 unfolding recordOf
-hand-dff at d e r s = refl
+hand-dff at d e r v s p = ap (λ (b : Bool). recordCells flopNumber at 3 (bitOf b)) p
 
 pub length-handRecord : (at : ℕ) (x : code.Gate) → length (handRecord at x) ≡ gateWidth
 length-handRecord at x = refl
@@ -93,10 +97,11 @@ pub record RecordIs (cells : List ℕ) (g at : ℕ) (x : Gate) : Type 0 where
   pub form : formAt cells g ≡ formCell x
   pub first : firstAt cells g ≡ at
   pub count : countAt cells g ≡ length (pins x)
+  pub start : startAt cells g ≡ startCell x
 
 pub record-is : {cells : List ℕ} {g at : ℕ} {x : Gate} → RecordIn cells g → recordAt cells g ≡ recordOf at x → RecordIs cells g at x
 unfolding recordOf
-record-is {cells} {g} h e = let q = sym (record-parts cells g h) ∙ e in record { form = cc; first = cc; count = cc }
+record-is {cells} {g} h e = let q = sym (record-parts cells g h) ∙ e in record { form = cc; first = cc; count = cc; start = cc }
 
 -- a gate's record, with its run within the pins
 pub record-runs : {cells ps : List ℕ} {g : ℕ} (at : ℕ) (x : Gate) → RecordIn cells g → recordAt cells g ≡ recordOf at x → at + length (pins x) ≤ length ps → HasRun cells ps g
@@ -143,11 +148,11 @@ start-mono cells g n h =
 -- where both are there, the gate is the one of its number and its pins; else there is none
 module _ (cells ps : List ℕ) (g : ℕ) where
   module _ (t : hasRun cells ps g ≡ true) where
-    pub gate-some : gateAt cells ps g ≡ gateFrom (formAt cells g) (map sigOf (runAt cells ps g))
+    pub gate-some : gateAt cells ps g ≡ gateFrom (formAt cells g) (startAt cells g) (map sigOf (runAt cells ps g))
     unfolding gateAt
     gate-some = rw t
 
-    pub decoded-some : decodedAt cells ps g ≡ withPins (kindOf (formAt cells g)) (firstAt cells g) (runAt cells ps g)
+    pub decoded-some : decodedAt cells ps g ≡ withPins (kindOf (formAt cells g)) (firstAt cells g) (startAt cells g) (runAt cells ps g)
     unfolding decodedAt
     decoded-some = rw t
 
@@ -164,8 +169,8 @@ module _ (cells ps : List ℕ) (g : ℕ) where
     pub both-there : hasRun cells ps g ≡ true
     both-there = rw (le-leb (suc g * gateWidth) (length cells) (h .cells .within), le-leb (firstAt cells g + countAt cells g) (length ps) (h .within))
 
-    pub gate-there : gateAt cells ps g ≡ gateFrom (formAt cells g) (map sigOf (runAt cells ps g))
+    pub gate-there : gateAt cells ps g ≡ gateFrom (formAt cells g) (startAt cells g) (map sigOf (runAt cells ps g))
     gate-there = gate-some both-there
 
-    pub decoded-there : decodedAt cells ps g ≡ withPins (kindOf (formAt cells g)) (firstAt cells g) (runAt cells ps g)
+    pub decoded-there : decodedAt cells ps g ≡ withPins (kindOf (formAt cells g)) (firstAt cells g) (startAt cells g) (runAt cells ps g)
     decoded-there = decoded-some both-there

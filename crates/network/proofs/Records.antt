@@ -14,9 +14,9 @@ use Rattle.lists.proofs.Places.{part-run}
 use Rattle.lists.proofs.Range.{TestedTo, to-start, to-next, to-fails, to-done}
 use Rattle.signal.specs.Cell.{nodeOf}
 use Rattle.signal.proofs.Cells as cells
-use Rattle.gates.specs.Forms.{canTake}
-use Rattle.gates.specs.between.Forms.{kindOf, kindTakes}
-use Rattle.gates.proofs.Forms.{take-kind}
+use Rattle.gates.specs.Forms.{canTake, canStart}
+use Rattle.gates.specs.between.Forms.{kindOf, kindTakes, kindStarts}
+use Rattle.gates.proofs.Forms.{take-kind, start-kind}
 use Rattle.gates.specs.between.Decode.{withPins}
 use Rattle.gates.specs.declared.Kind.{Kind}
 use Rattle.gates.specs.declared.Decoded.{Decoded}
@@ -24,7 +24,7 @@ use Rattle.gates.specs.declared.Decoded.the-variants.{Bad}
 use Rattle.network.specs.Cells.{sizesFit, pinsBelow, recordFits, recordsFit, validNode, allValid, lent, isNetwork}
 use Rattle.network.specs.between.Sizes.{WithinSizes}
 use Rattle.network.specs.between.Cells.{FewNodes}
-use Rattle.network.specs.Record.{gateWidth, formAt, firstAt, countAt, runAt, hasRun, gateAt}
+use Rattle.network.specs.Record.{gateWidth, formAt, firstAt, countAt, startAt, runAt, hasRun, gateAt}
 use Rattle.network.specs.between.Record.{CellIs, decodedAt}
 use Rattle.network.specs.declared.Counts.{Counts}
 use Rattle.network.proofs.SizeLimits.{not-over}
@@ -92,9 +92,17 @@ module _ (cells : List ℕ) (g : ℕ) where
   pub form-refused : canTake (formAt cells g) (countAt cells g) ≡ false → false ≡ recordFits cells g
   form-refused t = rw t
 
-  pub form-taken : {at first : ℕ} → canTake (formAt cells g) (countAt cells g) ≡ true → CellIs (firstAt cells g) first → at ≡ pinsBelow cells g
-      → eqb first at ≡ recordFits cells g
-  form-taken t r e = rw t (ap₂ eqb (r .cell) e)
+  -- and the start value
+  pub starts-is : {f m : ℕ} {k : Kind} {b : Bool} → f ≡ formAt cells g → k ≡ kindOf f → m ≡ startAt cells g → b ≡ kindStarts k m
+      → b ≡ canStart (formAt cells g) (startAt cells g)
+  starts-is p q r e = e ∙ ap₂ kindStarts (q ∙ ap kindOf p) r ∙ sym (start-kind (formAt cells g) (startAt cells g))
+
+  pub start-refused : canStart (formAt cells g) (startAt cells g) ≡ false → false ≡ recordFits cells g
+  start-refused t = sym (simp (t, and-false))
+
+  pub form-taken : {at first : ℕ} → canTake (formAt cells g) (countAt cells g) ≡ true → canStart (formAt cells g) (startAt cells g) ≡ true
+      → CellIs (firstAt cells g) first → at ≡ pinsBelow cells g → eqb first at ≡ recordFits cells g
+  form-taken t u r e = rw (t, u) (ap₂ eqb (r .cell) e)
 
 -- the records below g fit, and their runs end at `at`
 pub record Following (cells : List ℕ) (n at g : ℕ) : Type 0 where
@@ -157,10 +165,10 @@ module _ (cells pins : List ℕ) (g : ℕ) where
     pub cut-run : take (first + count - first) (drop first pins) ≡ runAt cells pins g
     cut-run = part-run first count pins ∙ ap₂ (λ (m i : ℕ). take m (drop i pins)) (c .cell) (f .cell)
 
-    pub gate-read : {form : ℕ} {k : Kind} {d : Decoded} → g < length cells / gateWidth → first + count ≤ length pins → form ≡ formAt cells g → k ≡ kindOf form
-        → d ≡ withPins k first (take (first + count - first) (drop first pins)) → d ≡ decodedAt cells pins g
-    gate-read h l p q e =
-        e ∙ (λ i. withPins ((q ∙ ap kindOf p) i) (f .cell i) (cut-run i))
+    pub gate-read : {form start : ℕ} {k : Kind} {d : Decoded} → g < length cells / gateWidth → first + count ≤ length pins → form ≡ formAt cells g → k ≡ kindOf form
+        → start ≡ startAt cells g → d ≡ withPins k first start (take (first + count - first) (drop first pins)) → d ≡ decodedAt cells pins g
+    gate-read h l p q s e =
+        e ∙ (λ i. withPins ((q ∙ ap kindOf p) i) (f .cell i) (s i) (cut-run i))
         ∙ sym (decoded-there cells pins g (record { cells = record-below h; within = omega (arith, end-is) }))
 
 -- ---- all of refusal 20

@@ -1,15 +1,16 @@
 -- A renumbered network has the clocks of the old one. Assumes nothing.
 use mathlib.Core.Path.{_≡_, refl, sym, ap, ap₂, _∙_, subst}
 use mathlib.Core.List.{List, map, List·Memᴰ, List·Memᴰ·head, List·Memᴰ·tail, Memᴰ·of-map}
-use mathlib.Core.Bool.{Bool}
+use mathlib.Core.Bool.{Bool, false}
 use mathlib.Core.Option.{some}
 use Prim.Native.Nat.{ℕ, _<_}
 use native.Mathlib.Omega.{arith}
 use lib.ListN.{length}
+use Rattle.lists.specs.Lists.{optional}
 use Rattle.signal.specs.Signal.{Node, Const, Input, Var, Signal, invertIf, remapNode, remap}
-use Rattle.gates.specs.Gate.{Form, Gate, Comb, Dff, pins, formBit}
+use Rattle.gates.specs.Gate.{Form, Gate, Comb, Dff, pins, startBit, formBit}
 use Rattle.network.specs.Net.{Net, GateIs, ValidNode, Valid, Loop}
-use Rattle.network.specs.Clock.{Clock, nodeBit, sigBit, gateBit, nextBit}
+use Rattle.network.specs.Clock.{Clock, nodeBit, sigBit, gateBit, nextBit, startBits}
 use Rattle.network.specs.Settle.{nextOf, runFrom}
 use Rattle.network.specs.Renumber.{remapGate, NodeKept, From, Renumbered}
 use Rattle.lists.proofs.Places.{map-on, map-map}
@@ -20,6 +21,11 @@ use Rattle.network.proofs.Runs.{Simulates, runs-along, nextOf-is}
 pub pins-remap : (π : ℕ → ℕ) (y : Gate) → pins (remapGate π y) ≡ map (remap π) (pins y)
 pins-remap π (Comb f ps) = refl
 pins-remap π (Dff s) = refl
+
+-- and its start value
+start-remap : (π : ℕ → ℕ) (y : Gate) → startBit (remapGate π y) ≡ startBit y
+start-remap π (Comb f ps) = refl
+start-remap π (Dff s) = refl
 
 -- what a renumbered node and a renumbered combinational gate were
 pub node-from : (π : ℕ → ℕ) (n : Node) (d : ℕ) → remapNode π n ≡ Var d → (v : ℕ) × (n ≡ Var v) × (π v ≡ d)
@@ -34,6 +40,12 @@ comb-from π (Dff s) f ps e = absurd (let z : _≡_ {A = ℕ} 0 1 = cc in omega 
 module _ (old new : Net) (π order : ℕ → ℕ) (ren : Renumbered old new π order) where
   abbrev pub HoldsAt : (ℕ → Bool) → (ℕ → Bool) → Type 0
   HoldsAt held held′ = (i : ℕ) (x : Gate) → GateIs new i x → held′ i ≡ held (order i)
+
+  -- each gate starts at the bit at which it started under its old number
+  pub starts-kept : HoldsAt (startBits old) (startBits new)
+  starts-kept i x e =
+      let f : From old (length (new .gates)) π order i x = ren .gatesFrom i x e in
+      ap (optional startBit false) e ∙ ap startBit (f .renamed) ∙ start-remap π (f .was) ∙ sym (ap (optional startBit false) (f .wasAt))
 
   module _ (row : List Bool) (bits : ℕ → Bool) where
     abbrev bits′ : ℕ → Bool

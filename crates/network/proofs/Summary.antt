@@ -6,12 +6,12 @@ use mathlib.Core.Logic.{_↔_}
 use Prim.Native.Nat.{ℕ, _<_}
 use lib.ListN.{length}
 use Rattle.network.specs.Net.{Net, Valid, Loop, topoSorted}
-use Rattle.network.specs.Clock.{Fits, Clock, Runs, zeroBits, NetRuns}
-use Rattle.network.specs.Settle.{settle, runFrom, OneRun, SameOutputs}
+use Rattle.network.specs.Clock.{Fits, Clock, Runs, startBits, NetRuns}
+use Rattle.network.specs.Settle.{settle, runFrom, run, OneRun, SameOutputs}
 use Rattle.network.specs.Renumber.{Renumbered}
 use Rattle.network.proofs.OneChoice.{ranked, settle-fits, fits-unique, run-is, runs-unique, rises-free}
 use Rattle.network.proofs.TopoSorted.{sorted-rises}
-use Rattle.network.proofs.Renumbering.{renumbered-same}
+use Rattle.network.proofs.Renumbering.{renumbered-same, starts-kept}
 
 -- "without a loop just one choice fits": `settle` fits, and whatever fits is `settle` on every gate, for any row and any held bits
 pub one-choice : (net : Net) → Valid net → (Loop net → ⊥) → (row : List Bool) (held : ℕ → Bool)
@@ -30,9 +30,9 @@ one-run net valid free held rows outs = (
   (λ e. subst (Runs (Clock net) held rows) (sym e) (run-is net valid (ranked net free) rows held)),
 )
 
--- the same from zero
-pub one-run-zero : (net : Net) → Valid net → (Loop net → ⊥) → OneRun net
-one-run-zero net valid free = one-run net valid free zeroBits
+-- the same from the start values
+pub one-run-start : (net : Net) → Valid net → (Loop net → ⊥) → OneRun net
+one-run-start net valid free = one-run net valid free (startBits net)
 
 -- a sorted network has no loop: each gate of a ring would have a lower number than the next
 pub sorted-free : (net : Net) → topoSorted net ≡ true → Loop net → ⊥
@@ -52,3 +52,9 @@ pub renumbered-runs : (old new : Net) (π order : ℕ → ℕ) → Renumbered ol
     → (held : ℕ → Bool) (rows : List (List Bool)) → runFrom new (λ g. held (order g)) rows ≡ runFrom old held rows
 renumbered-runs old new π order ren valid free held rows =
     renumbered-same old new π order ren valid free held (λ g. held (order g)) (λ i x e. refl) rows
+
+-- the same from the start values, which move with their gates
+pub renumbered-run : (old new : Net) (π order : ℕ → ℕ) → Renumbered old new π order → Valid old → (Loop old → ⊥)
+    → (rows : List (List Bool)) → run new rows ≡ run old rows
+renumbered-run old new π order ren valid free rows =
+    renumbered-same old new π order ren valid free (startBits old) (startBits new) (starts-kept old new π order ren) rows

@@ -10,10 +10,10 @@ use Rattle.lists.specs.Lists.{all, range, sumTo}
 use Rattle.signal.specs.Signal.{Node, Const, Input, Var}
 use Rattle.signal.specs.Cell.{nodeOf, sigOf}
 use Rattle.gates.specs.Gate.{Buf, Gate, Comb, pins}
-use Rattle.gates.specs.Forms.{canTake}
+use Rattle.gates.specs.Forms.{canTake, canStart}
 use Rattle.network.specs.Net.{Net, netFrom}
 use Rattle.network.specs.declared.Counts.{Counts}
-use Rattle.network.specs.Record.{gateWidth, formAt, firstAt, countAt, gateAt, pinCells}
+use Rattle.network.specs.Record.{gateWidth, formAt, firstAt, countAt, startAt, gateAt, pinCells}
 use Rattle.network.specs.Sizes.{overSizes}
 
 -- ---- a lent network
@@ -42,9 +42,11 @@ sizesFit counts gs ps os =
 abbrev pub pinsBelow : List ℕ → ℕ → ℕ
 pinsBelow cells g = sumTo g (countAt cells)
 
--- "an unknown form, a pin count its form cannot have" is refused, and so is a run that does not start where the one before it ends
+-- "an unknown form, a pin count its form cannot have" is refused, and so are a start value other than "0 or 1, and else zero" ("another value in
+-- that cell is a case of 20") and a run that does not start where the one before it ends
 abbrev pub recordFits : List ℕ → ℕ → Bool
-recordFits cells g = canTake (formAt cells g) (countAt cells g) && eqb (firstAt cells g) (pinsBelow cells g)
+recordFits cells g =
+    canTake (formAt cells g) (countAt cells g) && canStart (formAt cells g) (startAt cells g) && eqb (firstAt cells g) (pinsBelow cells g)
 
 -- "runs of pins that do not follow each other in gate order and fill the pins in use" are refused
 unfoldable pub recordsFit : List ℕ → ℕ → ℕ → Bool

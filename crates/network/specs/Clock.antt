@@ -3,9 +3,10 @@ use mathlib.Core.Path.{_≡_}
 use mathlib.Core.Bool.{Bool, false, cond}
 use mathlib.Core.List.{List, [], _∷_, map}
 use Prim.Native.Nat.{ℕ}
-use lib.ListN.{getD}
+use lib.ListN.{getD, getElem?}
+use Rattle.lists.specs.Lists.{optional}
 use Rattle.signal.specs.Signal.{Node, Const, Input, Var, Signal, invertIf}
-use Rattle.gates.specs.Gate.{FlipFlop, Gate, Comb, Dff, formBit}
+use Rattle.gates.specs.Gate.{FlipFlop, Gate, Comb, Dff, startBit, formBit}
 use Rattle.network.specs.Net.{Net, GateIs}
 
 -- the bit of a node: "a row, a bit for each input in order", and the gates' bits
@@ -53,10 +54,10 @@ pub data Runs {S : Type 0} (Tick : S → List Bool → List Bool → S → Type 
   tick : {s t : S} {row out : List Bool} {rows outs : List (List Bool)}
       → Tick s row out t → Runs Tick t rows outs → Runs Tick s (row ∷ rows) (out ∷ outs)
 
--- all flip-flops at zero
-abbrev pub zeroBits : ℕ → Bool
-zeroBits g = false
+-- the bits held before the first clock: "Runs and the equal-outputs rule now begin at the start values" (document 02, CR 4)
+abbrev pub startBits : Net → ℕ → Bool
+startBits net g = optional startBit false (getElem? (net .gates) g)
 
--- the outputs that the network gives for these rows from zero, a row for each clock
+-- the outputs that the network gives for these rows from its start values, a row for each clock
 abbrev pub NetRuns : Net → List (List Bool) → List (List Bool) → Type 0
-NetRuns net rows outs = Runs (Clock net) zeroBits rows outs
+NetRuns net rows outs = Runs (Clock net) (startBits net) rows outs

@@ -11,9 +11,9 @@ use Rattle.signal.specs.Signal.{Node, Const, Input, Var, Signal, remap}
 use Rattle.gates.specs.Gate.{Buf, FlipFlop, Gate, Comb, Dff, pins}
 use Rattle.network.specs.Net.{Net, GateIs}
 
--- a flip-flop's signals renumbered
+-- a flip-flop's signals renumbered; it starts as it did
 abbrev pub remapFlop : (ℕ → ℕ) → FlipFlop → FlipFlop
-remapFlop π ff = record { dataIn = remap π (ff .dataIn); enable = remap π (ff .enable); reset = remap π (ff .reset) }
+remapFlop π ff = record { dataIn = remap π (ff .dataIn); enable = remap π (ff .enable); reset = remap π (ff .reset); start = ff .start }
 
 -- a gate with its inputs renumbered: gate g is π g now
 abbrev pub remapGate : (ℕ → ℕ) → Gate → Gate

@@ -9,7 +9,7 @@ use lib.ListN.{length, getElem?}
 use Rattle.lists.specs.Lists.{optional}
 use Rattle.signal.specs.Signal.{Signal}
 use Rattle.network.specs.Net.{Net}
-use Rattle.network.specs.Clock.{sigBit, gateBit, nextBit, zeroBits, NetRuns}
+use Rattle.network.specs.Clock.{sigBit, gateBit, nextBit, startBits, NetRuns}
 
 -- the bits after k rounds, in each of which every gate is worked out from the round before
 abbrev pub round : Net → List Bool → (ℕ → Bool) → ℕ → ℕ → Bool
@@ -31,15 +31,16 @@ runFrom net held (row ∷ rows) =
     let σ : Signal → Bool = sigBit row (settle net row held) in
     map σ (net .outputs) ∷ runFrom net (nextOf net σ held) rows
 
--- the same from all flip-flops at zero
+-- the same from the start values
 abbrev pub run : Net → List (List Bool) → List (List Bool)
-run net rows = runFrom net zeroBits rows
+run net rows = runFrom net (startBits net) rows
 
--- for every list of rows there is just one list of outputs that the clocks allow from zero: `run`'s
+-- for every list of rows there is just one list of outputs that the clocks allow from the start values: `run`'s
 abbrev pub OneRun : Net → Type 0
 OneRun net = (rows outs : List (List Bool)) → NetRuns net rows outs ↔ (outs ≡ run net rows)
 
--- as many inputs and outputs, and for every list of input rows, the empty one too, equal outputs at every clock from zero
+-- as many inputs and outputs, and for every list of input rows, the empty one too, equal outputs at every clock, each network from its
+-- start values
 pub record SameOutputs (a b : Net) : Type 0 where
   -- as many inputs
   pub inputs : a .inputs ≡ b .inputs

@@ -15,7 +15,7 @@ ghost use Rattle.network.specs.Cells.{lent, sizesFit, pinsBelow, recordF
 ghost use Rattle.network.specs.between.Cells.{FewNodes, GateCells, NetCells};
 ghost use Rattle.network.specs.Sizes.{maxGates, maxPins};
 ghost use Rattle.gates.specs.between.Decode.{pinCount, pinsIn};
-ghost use Rattle.network.specs.Record.{gateWidth, formAt, firstAt, countAt, runAt, gateAt};
+ghost use Rattle.network.specs.Record.{gateWidth, formAt, firstAt, countAt, startAt, runAt, gateAt};
 ghost use Rattle.network.specs.between.Record.{RecordIn, HasRun, RunFrom, LayRoom, GateLaid, handRecord, withFirst, recordAt, decodedAt, CellIs};
 
 pub const MAX_INPUTS: usize = 256;
@@ -26,8 +26,8 @@ pub const MAX_GATES: usize = 1024;
 
 pub const MAX_PINS: usize = 16384;
 
-// The cells of a gate's record: form number, first pin, pin count.
-pub const GATE_CELLS: usize = 3;
+// The cells of a gate's record: form number, first pin, pin count, start value.
+pub const GATE_CELLS: usize = 4;
 
 // How many inputs, gates, pins and outputs a network has.
 pub struct Counts {
@@ -111,6 +111,14 @@ pub fn count_at(gates: &[u32], g: usize) -> usize
     gates[g * GATE_CELLS + 2] as usize
 }
 
+// Gate g's start value.
+pub fn start_at(gates: &[u32], g: usize) -> u32
+    requires { ⌜ RecordIn (now gates) g ⌝ }
+    ensures { λ r. ⌜ r ≡ startAt (now (gates .entry)) g ⌝ }
+{
+    gates[g * GATE_CELLS + 3]
+}
+
 // The pins of gate g.
 pub fn gate_pins<'a, 'b>(gates: &'a [u32], pins: &'b [u32], g: usize) -> &'b [u32]
     requires { ⌜ HasRun (now gates) (now pins) g ⌝ }
@@ -130,6 +138,7 @@ pub fn put_record(gates: &mut [u32], g: usize, first: usize, gate: Gate)
     gates[at] = gate.kind().number();
     gates[at + 1] = first as u32;
     gates[at + 2] = gate.pin_count() as u32;
+    gates[at + 3] = gate.start() as u32;
 }
 
 // Writes two signals into the pins from cell at on.
@@ -161,7 +170,7 @@ fn put_pins(pins: &mut [u32], at: usize, gate: Gate)
         Gate::Ternary(_, a, b, c) => put_three(pins, at, a, b, c),
         Gate::Nary(_, _) => {}
         Gate::Buf(a) => pins[at] = a.raw(),
-        Gate::Dff(d, e, r) => put_three(pins, at, d, e, r),
+        Gate::Dff(d, e, r, _) => put_three(pins, at, d, e, r),
     }
 }
 
@@ -186,13 +195,16 @@ pub fn copy_record(gates: &[u32], g: usize, to: &mut [u32], i: usize, first: usi
     to[at + 1] = first as u32;
 }
 
-// Whether gate g has a known form, a pin count that it can have, and its pins from cell at on.
+// Whether gate g has a known form, a pin count and a start value that it can have, and its pins from cell at on.
 fn record_fits(gates: &[u32], g: usize, at: usize) -> bool
     requires { ⌜ RecordIn (now gates) g × (at ≡ pinsBelow (now gates) g) ⌝ }
     ensures { λ r. ⌜ r ≡ recordFits (now (gates .entry)) g ⌝ }
 {
     let kind = gates::kind_of(form_at(gates, g));
     if !kind.takes(count_at(gates, g)) {
+        return false;
+    }
+    if !kind.starts(start_at(gates, g)) {
         return false;
     }
     first_at(gates, g) == at
@@ -272,5 +284,5 @@ pub fn gate_at(gates: &[u32], pins: &[u32], g: usize) -> Decoded
     if end > pins.len() {
         return Decoded::Bad;
     }
-    gates::kind_of(form_at(gates, g)).with_pins(first, &pins[first..end])
+    gates::kind_of(form_at(gates, g)).with_pins(first, start_at(gates, g), &pins[first..end])
 }

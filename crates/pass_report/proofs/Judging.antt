@@ -16,7 +16,7 @@ use Rattle.refusals.specs.declared.Refusal.{Refusal}
 use Rattle.refusals.specs.declared.Refusal.the-variants as refusal
 use Rattle.signal.specs.Cell.{sigOf}
 use Rattle.network.specs.Net.{Net}
-use Rattle.network.specs.Clock.{zeroBits}
+use Rattle.network.specs.Clock.{startBits}
 use Rattle.network.specs.Settle.{run}
 use Rattle.network.specs.Cells.{Lent, netOf, isNetwork}
 use Rattle.network.proofs.Lent.{network-sizes}
@@ -130,7 +130,7 @@ module _ (l : Lent) (t : Bytes) (ready : RunReady l t) where
         text = ran-text l t room for length-is (ap (λ (o : RunOutcome). o .out) h);
         outputs = length (net .outputs);
         some-output = omega (arith, outputs-are l (ready .network));
-        wide = wide-run net zeroBits (for .rows);
+        wide = wide-run net (startBits net) (for .rows);
         width-is = omega (arith, outputs-are l (ready .network));
       }
 

@@ -15,7 +15,7 @@ use Rattle.lists.proofs.OverAt.{part-is}
 use Rattle.refusals.specs.declared.Refusal.{Refusal}
 use Rattle.refusals.specs.declared.Refusal.the-variants as refusal
 use Rattle.network.specs.Net.{Net}
-use Rattle.network.specs.Clock.{zeroBits}
+use Rattle.network.specs.Clock.{startBits}
 use Rattle.network.specs.Settle.{run}
 use Rattle.blif_text.specs.Lines.{split}
 use Rattle.blif_reading.specs.Read.{Result, read, refused}
@@ -76,8 +76,8 @@ module _ {result : Result} {t : Bytes} {v : Verdicts} (c : CountedRows result t 
   pub counted-run : v .accepted + v .rejected ≡ length (c .rows)
   counted-run =
       ap (λ (x : Verdicts). x .accepted + x .rejected) (c .verdicts)
-      ∙ verdicts-all (length (c .net .outputs)) (run (c .net) (c .rows)) (wide-run (c .net) zeroBits (c .rows)) (c .some-output)
-      ∙ length-run (c .net) zeroBits (c .rows)
+      ∙ verdicts-all (length (c .net .outputs)) (run (c .net) (c .rows)) (wide-run (c .net) (startBits (c .net)) (c .rows)) (c .some-output)
+      ∙ length-run (c .net) (startBits (c .net)) (c .rows)
 
   pub counted-lines : v .accepted + v .rejected ≡ length (split (eqb 10) t)
   counted-lines = counted-run ∙ sym (rows-count (c .net .inputs) t (c .has))

@@ -3,7 +3,7 @@ use mathlib.Core.Path.{_≡_, refl, sym, ap, _∙_}
 use mathlib.Core.Bool.{Bool, true, false}
 use mathlib.Core.List.{List, [], _∷_, _++_}
 use mathlib.Core.Option.{Option, none, some}
-use mathlib.Core.Logic.{_↔_}
+use mathlib.Core.Logic.{_↔_, ⊎-elim}
 use Prim.Native.Nat.{ℕ, _+_, _≤_, _<_}
 use native.Mathlib.Omega.{arith}
 use lib.Dec.{eqb}
@@ -153,7 +153,7 @@ lines-short sheet {s} v e adds =
 
 as-short : {netlist sheet t : Bytes} → ReportedAs netlist sheet t → length t ≤ 61
 as-short (wrong-sheet e) = omega arith
-as-short (not-read {k = k} e q i) = omega (arith, count-short (bytes "refused=") (numberOf k) (omega (arith, i .high)))
+as-short (not-read {k = k} e q i) = omega (arith, count-short (bytes "refused=") (numberOf k) (⊎-elim (λ h. omega arith) (λ h. omega arith) i))
 as-short (no-output e q o) = omega arith
 as-short (wrong-rows e q o r) = omega arith
 as-short {sheet = sheet} (reported {v = v} e c) = lines-short sheet v e (c .adds)

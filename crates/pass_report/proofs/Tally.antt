@@ -8,7 +8,7 @@ use native.Mathlib.Omega.{arith}
 use Rattle.lists.proofs.Tests.{by-test}
 use Rattle.signal.specs.Signal.{Signal}
 use Rattle.network.specs.Net.{Net}
-use Rattle.network.specs.Clock.{sigBit, Clock, Runs, done, tick, zeroBits, NetRuns}
+use Rattle.network.specs.Clock.{sigBit, Clock, Runs, done, tick, startBits, NetRuns}
 use Rattle.pass_report.specs.Counted.{Tallies, end, accept, reject}
 use Rattle.pass_report.proofs.CountRows.{one, acceptedOf, rejectedOf, accepted-cons, rejected-cons}
 
@@ -58,9 +58,9 @@ module _ (net : Net) (first : Signal) (others : List Signal) (outputs : net .out
       let x = tally-runs t in
       (out ∷ x .0, tick c (x .1), omega (arith, x .2, adds-accepted (x .0) c e), omega (arith, x .3, adds-rejected (x .0) c e))
 
-  -- where there is one run from zero, its counts are the only ones
+  -- where there is one run from the start values, its counts are the only ones
   pub tallies-are : (rows outs : List (List Bool)) → ((other : List (List Bool)) → NetRuns net rows other ↔ (other ≡ outs)) → (a r : ℕ)
-      → Tallies net first zeroBits rows a r ↔ ((a ≡ acceptedOf outs) × (r ≡ rejectedOf outs))
+      → Tallies net first (startBits net) rows a r ↔ ((a ≡ acceptedOf outs) × (r ≡ rejectedOf outs))
   tallies-are rows outs one-run a r = (
     (λ t.
         let x = tally-runs t in

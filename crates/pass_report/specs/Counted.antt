@@ -16,7 +16,7 @@ use Rattle.refusals.specs.declared.Refusal.{Refusal}
 use Rattle.refusals.specs.declared.Refusal.the-variants as refusal
 use Rattle.signal.specs.Signal.{Signal}
 use Rattle.network.specs.Net.{Net}
-use Rattle.network.specs.Clock.{sigBit, Clock, zeroBits}
+use Rattle.network.specs.Clock.{sigBit, Clock, startBits}
 use Rattle.blif_meaning.specs.Model.{BlifRuns}
 use Rattle.blif_reading.specs.TextModel.{modelOfText}
 use Rattle.blif_reading.specs.Read.{read, refused, readText}
@@ -52,8 +52,8 @@ pub record CountedFor (netlist : Bytes) (s : Sheet) (v : Verdicts) : Type 0 wher
   pub has : rowsOf (net .inputs) (commandText s) ≡ some rows
   -- as many as the sheet has: "both equal the rows run"
   pub run : length rows ≡ length (s .rows)
-  -- by document 01's clock, from all flip-flops at zero, so many of them are accepted and rejected and no other numbers
-  pub tallies : (a r : ℕ) → Tallies net first zeroBits rows a r ↔ ((a ≡ v .accepted) × (r ≡ v .rejected))
+  -- by document 01's clock, from the start values, so many of them are accepted and rejected and no other numbers
+  pub tallies : (a r : ℕ) → Tallies net first (startBits net) rows a r ↔ ((a ≡ v .accepted) × (r ≡ v .rejected))
   -- "Accepted plus rejected equals the rows in the sheet"
   pub adds : v .accepted + v .rejected ≡ length (s .rows)
   -- the rows of outputs

@@ -38,7 +38,7 @@ verdictsOf outs = record { accepted = length (filter accepts outs); rejected = l
 
 -- ---- the commands on a network
 
--- of the rows that the commands are, by the run from all flip-flops at zero; "A command row's length and characters are left to 31"
+-- of the rows that the commands are, by the run from the start values; "A command row's length and characters are left to 31"
 abbrev pub judgedRows : Net → Option (List (List Bool)) → Judged
 judgedRows net none = Refused refusal.WrongRows
 judgedRows net (some rows) = Counted (verdictsOf (run net rows))

@@ -14,12 +14,12 @@ use Rattle.pass_report.proofs.Summary.{report-into}
 
 -- the lengths of the program's arrays
 abbrev pub arrays : Lengths
-arrays = lengths (length (zeros 3072)) (length (zeros 16384)) (length (zeros 256)) (length (zeros 3072)) (length (zeros 16384))
+arrays = lengths (length (zeros 4096)) (length (zeros 16384)) (length (zeros 256)) (length (zeros 4096)) (length (zeros 16384))
 
 arrays-enough : enough arrays ≡ true
 unfolding enough
 arrays-enough =
-    let a = length-replicate {A = ℕ} 3072 0 in
+    let a = length-replicate {A = ℕ} 4096 0 in
     let b = length-replicate {A = ℕ} 16384 0 in
     let c = length-replicate {A = ℕ} 256 0 in
     λ i. enough (lengths (a i) (b i) (c i) (a i) (b i))

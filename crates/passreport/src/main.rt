@@ -15,10 +15,10 @@ fn answer(netlist: &[u8], sheet: &[u8], out: &mut [u8]) -> usize
     ensures { λ r.
         ⌜ Wrote (reportOf (now (netlist .entry)) (now (sheet .entry))) (zeros (length (now (out .entry)))) (now (out .exit)) r ⌝ }
 {
-    let mut gates = [0u32; 3072];
+    let mut gates = [0u32; 4096];
     let mut pins = [0u32; 16384];
     let mut outputs = [0u32; 256];
-    let mut work_gates = [0u32; 3072];
+    let mut work_gates = [0u32; 4096];
     let mut work_pins = [0u32; 16384];
     pass_report(
         netlist,

@@ -96,12 +96,12 @@ fn read_into(
 
 // Reads a text into cells that are all ones, so many of each kind.
 fn read_cells(text: &[u8], g: usize, p: usize, o: usize, wg: usize, wp: usize)
-    requires { ⌜ (g ≤ 3073) × (p ≤ 16385) × (o ≤ 257) × (wg ≤ 3073) × (wp ≤ 16385) ⌝ }
+    requires { ⌜ (g ≤ 4097) × (p ≤ 16385) × (o ≤ 257) × (wg ≤ 4097) × (wp ≤ 16385) ⌝ }
 {
-    let mut gates = [ONES; 3073];
+    let mut gates = [ONES; 4097];
     let mut pins = [ONES; 16385];
     let mut outputs = [ONES; 257];
-    let mut work_gates = [ONES; 3073];
+    let mut work_gates = [ONES; 4097];
     let mut work_pins = [ONES; 16385];
     read_into(
         text,
@@ -120,9 +120,9 @@ fn replay_into(number: u32, text: &mut [u8]) {
     io::print_decimal(1, number as u64);
     io::write_all(1, b"\n");
     if number % 2 == 0 {
-        read_cells(text, 3072, 16384, 256, 3072, 16384);
+        read_cells(text, 4096, 16384, 256, 4096, 16384);
     } else {
-        read_cells(text, 3073, 16385, 257, 3073, 16385);
+        read_cells(text, 4097, 16385, 257, 4097, 16385);
     }
 }
 
@@ -133,30 +133,31 @@ fn replay_text(number: u32) {
     replay_into(number, &mut text[..n]);
 }
 
-// The text of no bytes, each time with one slice a cell short; then a text that is too long, with no cells at all.
+// The text of no bytes, or one that has a wrong start value, each time with one slice a cell short; then a text that is too long, with no
+// cells at all.
 fn replay_short() {
     let long = [0u8; 32769];
     io::write_all(1, b"short\n");
-    read_cells(b"", 3071, 16384, 256, 3072, 16384);
-    read_cells(b"", 3072, 16383, 256, 3072, 16384);
-    read_cells(b"", 3072, 16384, 255, 3072, 16384);
-    read_cells(b"", 3072, 16384, 256, 3071, 16384);
-    read_cells(b"", 3072, 16384, 256, 3072, 16383);
+    read_cells(b".latch q q x", 4095, 16384, 256, 4096, 16384);
+    read_cells(b"", 4096, 16383, 256, 4096, 16384);
+    read_cells(b"", 4096, 16384, 255, 4096, 16384);
+    read_cells(b".latch q q x", 4096, 16384, 256, 4095, 16384);
+    read_cells(b"", 4096, 16384, 256, 4096, 16383);
     read_cells(&long, 0, 0, 0, 0, 0);
 }
 
 // What is told of a network without cells in use, and of a refusal: kind 0 to 4 where the last cell of a slice is not zero, kind 5 where more
 // pins are in use than are lent.
 fn show_kind(kind: u32) {
-    let mut gates = [0u32; 3073];
+    let mut gates = [0u32; 4097];
     let mut pins = [0u32; 16385];
     let mut outputs = [0u32; 257];
-    let mut work_gates = [0u32; 3073];
+    let mut work_gates = [0u32; 4097];
     let mut work_pins = [0u32; 16385];
-    put_word(&mut gates, 3072, (kind == 0) as u32);
+    put_word(&mut gates, 4096, (kind == 0) as u32);
     put_word(&mut pins, 16384, (kind == 1) as u32);
     put_word(&mut outputs, 256, (kind == 2) as u32);
-    put_word(&mut work_gates, 3072, (kind == 3) as u32);
+    put_word(&mut work_gates, 4096, (kind == 3) as u32);
     put_word(&mut work_pins, 16384, (kind == 4) as u32);
     let mut counts = Counts {
         inputs: 0,

@@ -32,6 +32,7 @@ number-pos refusal.OtherFlipFlop = omega arith
 number-pos refusal.WrongRows = omega arith
 number-pos refusal.WrongSheet = omega arith
 number-pos refusal.NoOutput = omega arith
+number-pos refusal.WrongStart = omega arith
 
 -- the refusal of each number; the first stands where there is none
 byNumber : List Refusal
@@ -70,6 +71,7 @@ byNumber =
     ∷ refusal.WrongRows
     ∷ refusal.WrongSheet
     ∷ refusal.NoOutput
+    ∷ refusal.WrongStart
     ∷ []
 
 number-again : (r : Refusal) → getD byNumber (numberOf r) refusal.TooFewCells ≡ r
@@ -96,6 +98,7 @@ number-again refusal.OtherFlipFlop = refl
 number-again refusal.WrongRows = refl
 number-again refusal.WrongSheet = refl
 number-again refusal.NoOutput = refl
+number-again refusal.WrongStart = refl
 
 -- no two refusals share a number
 pub number-one : (a b : Refusal) → numberOf a ≡ numberOf b → a ≡ b

@@ -11,7 +11,8 @@ use Rattle.refusals.specs.declared.Refusal.{Refusal}
 use Rattle.refusals.specs.declared.Refusal.the-variants as refusal
 
 -- "Reading refuses, in order: 1 .. 14"; "Writing refuses, in order: 20 .. 22"; document 02, CR 1: "The order is 20, then these. 29 .. 30 ..
--- and 31"; CR 2: "32 when a sheet line is missing, misformed or left over, or the sheet passes 40,960 bytes", "33 when the network has no output"
+-- and 31"; CR 2: "32 when a sheet line is missing, misformed or left over, or the sheet passes 40,960 bytes", "33 when the network has no output";
+-- CR 4: "34 when a start value is not 0, 1, 2 or 3"
 abbrev pub numberOf : Refusal → ℕ
 numberOf refusal.TooFewCells = 1
 numberOf refusal.TextTooLong = 2
@@ -35,13 +36,11 @@ numberOf refusal.OtherFlipFlop = 30
 numberOf refusal.WrongRows = 31
 numberOf refusal.WrongSheet = 32
 numberOf refusal.NoOutput = 33
+numberOf refusal.WrongStart = 34
 
--- a refusal of reading: 1 to 14
-pub record InReading (r : Refusal) : Type 0 where
-  -- from 1
-  pub low : 1 ≤ numberOf r
-  -- to 14
-  pub high : numberOf r ≤ 14
+-- a refusal of reading: 1 to 14, since none has 0, or 34
+abbrev pub InReading : Refusal → Type 0
+InReading r = (numberOf r ≤ 14) ⊎ (numberOf r ≡ 34)
 
 -- a refusal of writing: 20 to 22
 pub record InWriting (r : Refusal) : Type 0 where

@@ -49,6 +49,8 @@ pub enum Refusal {
     WrongSheet,
     // the network has no output
     NoOutput,
+    // a latch's start value is not 0, 1, 2 or 3
+    WrongStart,
 }
 
 // What a check answers: nothing is wrong, or the refusal.
@@ -95,6 +97,7 @@ impl Refusal {
             Refusal::WrongRows => 31,
             Refusal::WrongSheet => 32,
             Refusal::NoOutput => 33,
+            Refusal::WrongStart => 34,
         }
     }
 }

@@ -111,15 +111,15 @@ fn replay_lengths(
 fn replay_report(number: u32) {
     print_line(b"report ", number as usize);
     let l = read_word() as usize % 101;
-    let g = read_word() as usize % 3074;
+    let g = read_word() as usize % 4098;
     let p = read_word() as usize % 16386;
     let o = read_word() as usize % 258;
-    let wg = read_word() as usize % 3074;
+    let wg = read_word() as usize % 4098;
     let wp = read_word() as usize % 16386;
-    let mut gates = [ONES; 3073];
+    let mut gates = [ONES; 4097];
     let mut pins = [ONES; 16385];
     let mut outputs = [ONES; 257];
-    let mut work_gates = [ONES; 3073];
+    let mut work_gates = [ONES; 4097];
     let mut work_pins = [ONES; 16385];
     let mut out = [165u8; 100];
     replay_lengths(
@@ -138,8 +138,8 @@ fn show_told() {
     let out = [b'o', b'k', b'\n', 1];
     print_report(&out, 3);
     print_report(&out, 5);
-    let mut cells = [0u32; 3073];
-    put_word(&mut cells, 3072, 1);
+    let mut cells = [0u32; 4097];
+    put_word(&mut cells, 4096, 1);
     expect_zero(&cells);
 }
 

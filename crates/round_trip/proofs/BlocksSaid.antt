@@ -15,7 +15,7 @@ use Rattle.blif_text.specs.Keywords.{keywordOf}
 use Rattle.blif_text.specs.Statements.{Stmt, Parsed, ok, stmtOf, parsedLine}
 use Rattle.blif_text.specs.Decls.{Def, latch, cover, Decl, gate, cubes, decls, insOf, outsOf, defsOf, coverOut, coverIns, columns, output, isOne}
 use Rattle.blif_text.proofs.Saying.{WordByte, IsWord, quoted, says, Single, words-single, says-words, stmt-names, stmt-latch}
-use Rattle.blif_meaning.specs.Model.{Col, C0, C1, Dash, Line, LatchDef, Block, Latch, Cover, plainLatch}
+use Rattle.blif_meaning.specs.Model.{Col, C0, C1, Dash, Init, I0, I1, DontCare, Unknown, initBytes, Line, LatchDef, Block, Latch, Cover, plainLatch}
 use Rattle.blif_writing.specs.WrittenModel.{written}
 use Rattle.blif_writing.specs.Text.{spaced, line, colByte, outByte, cubeLine, latchLine, flopLine, given, storedLine, blockLines, allLines}
 use Rattle.blif_reading.specs.TextModel.{colOfByte, lineOf, blockOf}
@@ -95,9 +95,12 @@ pub kw-names : IsWord (bytes ".names")
 unfolding nonEmpty
 kw-names = quoted (bytes ".names") refl
 
-pub kw-zero : IsWord (bytes "0")
+init-word : (i : Init) → IsWord (initBytes i)
 unfolding nonEmpty
-kw-zero = quoted (bytes "0") refl
+init-word I0 = quoted (bytes "0") refl
+init-word I1 = quoted (bytes "1") refl
+init-word DontCare = quoted (bytes "2") refl
+init-word Unknown = quoted (bytes "3") refl
 
 pub kw-inputs : IsWord (bytes ".inputs")
 unfolding nonEmpty
@@ -107,8 +110,8 @@ pub kw-outputs : IsWord (bytes ".outputs")
 unfolding nonEmpty
 kw-outputs = quoted (bytes ".outputs") refl
 
-pub latch-words : {d q : Bytes} → IsWord d → IsWord q → Every IsWord (d ∷ q ∷ bytes "0" ∷ [])
-latch-words d q = every-cons d (every-cons q (every-cons kw-zero every-nil))
+pub latch-words : {d q : Bytes} (i : Init) → IsWord d → IsWord q → Every IsWord (d ∷ q ∷ initBytes i ∷ [])
+latch-words i d q = every-cons d (every-cons q (every-cons (init-word i) every-nil))
 
 pub cover-words : {xs : List Bytes} {y : Bytes} → Every IsWord xs → IsWord y → Every IsWord (xs ++ (y ∷ []))
 cover-words xs y = every-append xs (every-cons y every-nil)
@@ -116,8 +119,8 @@ cover-words xs y = every-append xs (every-cons y every-nil)
 pub latch-line : (l : LatchDef Bytes) → l .enable ≡ none → l .reset ≡ none → storedLine l ≡ latchLine l
 latch-line l e r = λ i. cond (given (e i) || given (r i)) (flopLine l) (latchLine l)
 
-latch-plain : (l : LatchDef Bytes) → l .enable ≡ none → l .reset ≡ none → plainLatch (l .input) (l .output) ≡ l
-latch-plain l e r = λ i. record { input = l .input; output = l .output; enable = sym e i; reset = sym r i }
+latch-plain : (l : LatchDef Bytes) → l .enable ≡ none → l .reset ≡ none → plainLatch (l .input) (l .output) (l .init) ≡ l
+latch-plain l e r = λ i. record { input = l .input; output = l .output; enable = sym e i; reset = sym r i; init = l .init }
 
 pub cubes-say : (ls : List Line) → flatMap says (map cubeLine ls) ≡ map ok (map (λ (l : Line). Stmt.cube (tokOf l)) ls)
 unfolding flatMap
@@ -129,8 +132,8 @@ unfolding flatMap
 block-says (Latch l) w =
     ap (λ (r : List Parsed). r ++ []) (
     ap says (latch-line l (w .0) (w .1))
-    ∙ says-spaced (bytes ".latch") (l .input ∷ l .output ∷ bytes "0" ∷ []) kw-latch (latch-words (w .2) (w .3))
-    ∙ ap (λ (p : Parsed). p ∷ []) (stmt-latch (l .input) (l .output) (bytes "0" ∷ []) ∙ ap (λ (x : LatchDef Bytes). ok (Stmt.latch x)) (latch-plain l (w .0) (w .1))))
+    ∙ says-spaced (bytes ".latch") (l .input ∷ l .output ∷ initBytes (l .init) ∷ []) kw-latch (latch-words (l .init) (w .2) (w .3))
+    ∙ ap (λ (p : Parsed). p ∷ []) (stmt-latch (l .input) (l .output) (l .init) ∙ ap (λ (x : LatchDef Bytes). ok (Stmt.latch x)) (latch-plain l (w .0) (w .1))))
 block-says (Cover xs y ls) w =
     ap₂ (λ (a b : List Parsed). a ++ b)
     (says-spaced (bytes ".names") (xs ++ (y ∷ [])) kw-names (cover-words (w .0) (w .1)) ∙ ap (λ (p : Parsed). p ∷ []) (stmt-names (xs ++ (y ∷ []))))

@@ -21,7 +21,7 @@ use Rattle.blif_text.specs.Keywords.{keywordOf}
 use Rattle.blif_text.specs.Statements.{Stmt, Parsed, ok, stmtOf, modelStmt, parsedLine, parsed, stmts, firstBad}
 use Rattle.blif_text.specs.Decls.{latch, Decl, decls, declsOf, insOf, outsOf, defsOf, ins, outs, defs}
 use Rattle.blif_text.proofs.Saying.{WordByte, IsWord, quoted, says, Single, quoted-line, parsed-lines, lines-ascii, words-single, stmt-inputs, stmt-outputs, stmts-ok, none-bad}
-use Rattle.blif_meaning.specs.Model.{Line, Block, Latch, Cover, Model}
+use Rattle.blif_meaning.specs.Model.{Line, initBytes, Block, Latch, Cover, Model}
 use Rattle.blif_writing.specs.WrittenModel.{bare, latchOf, unless, latchBlocks, combBlocks, inverterBlock, inverters, constBlocks, written}
 use Rattle.blif_writing.specs.Names.{decimalBefore, suffix, nodeBytes, nameBytes}
 use Rattle.blif_writing.specs.Text.{spaced, line, colByte, outByte, cubeLine, blockLines, allLines, textLines, textOf}
@@ -93,7 +93,7 @@ cube-single l = words-single (map colByte (l .cols)) ((outByte (l .out) ∷ []) 
 
 block-single : (b : Block Bytes) → PlainBlock b → Every Single (blockLines b)
 block-single (Latch l) w =
-    every-cons (subst Single (sym (latch-line l (w .0) (w .1))) (spaced-single (bytes ".latch") (l .input ∷ l .output ∷ bytes "0" ∷ []) kw-latch (latch-words (w .2) (w .3)))) every-nil
+    every-cons (subst Single (sym (latch-line l (w .0) (w .1))) (spaced-single (bytes ".latch") (l .input ∷ l .output ∷ initBytes (l .init) ∷ []) kw-latch (latch-words (l .init) (w .2) (w .3)))) every-nil
 block-single (Cover xs y ls) w = every-cons (spaced-single (bytes ".names") (xs ++ (y ∷ [])) kw-names (cover-words (w .0) (w .1))) (every-map cubeLine ls cube-single)
 
 all-single : {bs : List (Block Bytes)} → Every PlainBlock bs → Every Single (allLines bs)

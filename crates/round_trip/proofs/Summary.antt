@@ -31,7 +31,7 @@ use Prim.Native.Nat.{_≤_}
 use mathlib.Core.Bool.{false}
 
 -- demand 3: whatever is lent, where the conditions hold the network is written and read back with as many inputs and outputs, and for every
--- list of rows, the empty one too, the two give equal outputs at every clock from zero, by the function and by the relation.
+-- list of rows, the empty one too, the two give equal outputs at every clock, each from its start values, by the function and by the relation.
 -- `Words` says that the lent cells are 32-bit numbers, which the slices give
 pub demand-three : (l : Lent) (n : ℕ) (m : Lengths) → Words l → RoundTripConditions l n m → ReadsBack (netOf l) (tripInto l n m)
 demand-three l n m w c = demand.demand-three w c

@@ -21,7 +21,7 @@ use Rattle.sort_order.specs.Sorted.{sorted}
 use Rattle.sort_order.proofs.Summary.{loop-exactly}
 use Rattle.blif_text.specs.Lines.{consFirst, split, dropCR, lines, cut, continues, before, joined, isBlank, nonEmpty, tokens}
 use Rattle.blif_text.specs.Keywords.{keywordOf}
-use Rattle.blif_text.specs.Statements.{modelStmt, latchStmt, stmtOf, parsedLine, parsed, stmts}
+use Rattle.blif_text.specs.Statements.{modelStmt, initOf, initAmong, latchWith, latchStmt, stmtOf, parsedLine, parsed, stmts}
 use Rattle.blif_text.specs.Decls.{cubes, decls, insOf, outsOf, defsOf, ins, outs, defs, declsOf}
 use Rattle.blif_writing.specs.WrittenModel.{wide}
 use Rattle.blif_writing.specs.Text.{spaced, line, textOf}
@@ -70,7 +70,7 @@ free l =
 
 -- its text is within the sizes
 sized : tooLarge (declsOf (textOf net)) ≡ false
-unfolding flatMap headD same consFirst split dropCR lines cut continues before joined isBlank nonEmpty tokens modelStmt latchStmt stmtOf keywordOf parsedLine parsed stmts cubes decls insOf outsOf defsOf ins outs defs spaced line added gateCount pinCount tooLarge declsOf
+unfolding flatMap headD same consFirst split dropCR lines cut continues before joined isBlank nonEmpty tokens modelStmt initOf initAmong latchWith latchStmt stmtOf keywordOf parsedLine parsed stmts cubes decls insOf outsOf defsOf ins outs defs spaced line added gateCount pinCount tooLarge declsOf
 sized = refl
 
 -- its one flip-flop is plain

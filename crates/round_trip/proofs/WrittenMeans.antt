@@ -12,7 +12,7 @@ use Rattle.signal.specs.Signal.{Input, Signal, plain}
 use Rattle.network.specs.Net.{Net, Valid, Formed, Loop}
 use Rattle.network.specs.Settle.{run}
 use Rattle.network.proofs.OneChoice.{ranked}
-use Rattle.network.proofs.Summary.{one-run-zero, sorted-free}
+use Rattle.network.proofs.Summary.{one-run-start, sorted-free}
 use Rattle.sort_order.specs.Sorted.{sorted, Preserved}
 use Rattle.sort_order.proofs.Summary.{sorted-keeps, sort-sorts}
 use Rattle.blif_meaning.specs.Model.{BlifRuns}
@@ -54,6 +54,6 @@ module _ (name : Signal → Bytes) (unnamed : Bytes → Signal) (back : (s : Sig
           inputs = k .inputs ∙ length-map (range 0 (net .inputs)) (λ (i : ℕ). name (plain (Input i))) ∙ length-range 0 (net .inputs);
           outputs = k .outputs ∙ length-map (map name (net .outputs)) (lookup (written name net)) ∙ length-map (net .outputs) name;
           runs = λ rows. sym (sorted-means (written name net) written-accepts new e rows (run net rows) .0 (outputs-are rows));
-          one-left = one-run-zero new (k .valid) (sorted-free new (sort-sorts (builtOf (written name net)) new (accepted-valid (written name net) written-accepts) e));
-          one-right = one-run-zero net valid free;
+          one-left = one-run-start new (k .valid) (sorted-free new (sort-sorts (builtOf (written name net)) new (accepted-valid (written name net) written-accepts) e));
+          one-right = one-run-start net valid free;
         }

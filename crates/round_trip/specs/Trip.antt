@@ -1,6 +1,6 @@
 -- Demand 3, write then read: a valid, loop-free network with no exclusive gate over 12 inputs and plain flip-flops, whose written text is
 -- within the sizes, is written and read back with as many inputs and outputs, and for every list of input rows the two give equal outputs
--- at every clock from zero ("Demand 3 is one claim over every list of rows, the empty one too, not one for each clock"). Assumes nothing:
+-- at every clock, each from its start values ("Demand 3 is one claim over every list of rows, the empty one too, not one for each clock"). Assumes nothing:
 -- these are definitions.
 use mathlib.Core.Path.{_≡_}
 use mathlib.Core.Bool.{true, false}

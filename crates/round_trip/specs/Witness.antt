@@ -1,5 +1,6 @@
--- A network that meets demand 3's conditions, with a flip-flop, an Xor, a Mux and an inverted output. Assumes nothing: these are
+-- A network that meets demand 3's conditions, with a flip-flop that starts at one, an Xor, a Mux and an inverted output. Assumes nothing: these are
 -- definitions.
+use mathlib.Core.Bool.{true}
 use Prim.Native.Nat.{_*_}
 use mathlib.Core.List.{[], _∷_, map}
 use Rattle.signal.specs.Signal.{Input, Var, plain, zeroS, oneS, invert}
@@ -11,9 +12,9 @@ use Rattle.network.specs.Sizes.{maxGates}
 use Rattle.network.specs.Record.{gateWidth, gateCells, pinCells}
 use Rattle.blif_read.specs.Into.{Lengths, lengths}
 
--- x0 takes x1 at each clock
+-- x0 starts at one and takes x1 at each clock
 abbrev pub flop : FlipFlop
-flop = record { dataIn = plain (Var 1); enable = oneS; reset = zeroS }
+flop = record { dataIn = plain (Var 1); enable = oneS; reset = zeroS; start = true }
 
 -- x1 = i0 xor x0; x2 = x0 ? i1 : x1; the output is x2 inverted
 abbrev pub net : Net

@@ -55,10 +55,10 @@ fn replay_network(number: u32) {
     print_line(b"network ", number as usize);
     let counts = read_counts();
     let l = read_word() as usize % 32801;
-    let g = read_word() as usize % 3077;
+    let g = read_word() as usize % 4102;
     let p = read_word() as usize % 16387;
     let o = read_word() as usize % 259;
-    let mut gates = [0u32; 3076];
+    let mut gates = [0u32; 4101];
     let mut pins = [0u32; 16386];
     let mut outputs = [0u32; 258];
     let mut out = [165u8; 32800];

@@ -14,7 +14,7 @@ use Rattle.lists.proofs.Places.{same-parts}
 use Rattle.signal.specs.Signal.{Signal}
 use Rattle.signal.specs.Cell.{nodeOf}
 use Rattle.network.specs.Net.{Net}
-use Rattle.network.specs.Clock.{sigBit, zeroBits}
+use Rattle.network.specs.Clock.{sigBit, startBits}
 use Rattle.network.specs.Settle.{settle, nextOf}
 use Rattle.network.specs.Cells.{cellNet}
 use Rattle.network.specs.between.Cells.{NetCells}
@@ -23,6 +23,7 @@ use Rattle.run_rows.specs.Rows.{digit, lineEnd, rowText, rowOf, rowBefor
 use Rattle.run_rows.specs.between.Steps.{Held, Shown, Started, SettledFor, RowSettled, Stepped, Clocked}
 use Rattle.run_rows.specs.between.Asks.{RowRoom, WholeRows}
 use Rattle.run_rows.proofs.Showing.{known-bits, valid-known}
+use Rattle.run_rows.proofs.Starting.{started-held}
 use Rattle.run_rows.proofs.RowsOf.{row-text}
 use Rattle.run_rows.proofs.Prepared.{Prepared, taken-flops, next-held}
 
@@ -67,7 +68,7 @@ pub record Clocking (net : Net) (cells : List ℕ) (n : ℕ) (rows out₀ out : 
   pub kept : length out ≡ length out₀
   -- whatever the rows left lead to, all rows do
   pub leads : (out′ : Bytes) (r : Bool) → take to out′ ≡ take to out
-      → Clocked net (rowsIn (net .inputs) left (drop at rows)) held (drop to out′) r → Clocked net (rowsOf (net .inputs) rows) zeroBits out′ r
+      → Clocked net (rowsIn (net .inputs) left (drop at rows)) held (drop to out′) r → Clocked net (rowsOf (net .inputs) rows) (startBits net) out′ r
 
 module _ {inputs n : ℕ} {cells ps outs slots tables flops : List ℕ} {k : ℕ} (p : Prepared inputs n cells ps outs slots tables flops k) where
   abbrev net : Net
@@ -76,19 +77,11 @@ module _ {inputs n : ℕ} {cells ps outs slots tables flops : List ℕ} {k : ℕ
   outs-long : length (net .outputs) ≡ length outs
   outs-long = length-map outs _
 
-  pub clocking-start : {rows out₀ : Bytes} {bits₀ : List Bool} → WholeRows inputs outs rows out₀ → Started n bits₀ → Clocking net cells n rows out₀ out₀ bits₀ 0 0
+  pub clocking-start : {rows out₀ : Bytes} {bits₀ : List Bool} → WholeRows inputs outs rows out₀ → Started cells n bits₀ → Clocking net cells n rows out₀ out₀ bits₀ 0 0
   unfolding rowsOf
   clocking-start {rows} {out₀} w s = record {
-    held = zeroBits;
-    holds =
-        record {
-          size = s .size;
-          const = s .const;
-          fewInputs = omega arith;
-          inputs = λ i l. absurd (omega arith);
-          fewGates = λ g f. omega (arith, f .below, p .runs .gates .fewGates);
-          gates = λ g f. s .gates g (f .below);
-        };
+    held = startBits net;
+    holds = started-held s outs (p .runs .gates);
     left = w .count;
     rowsLeft = omega (arith, w .whole);
     outLeft = omega (arith, w .room, ap (λ (k : ℕ). w .count * suc k) outs-long);
@@ -155,7 +148,7 @@ module _ {inputs n : ℕ} {cells ps outs slots tables flops : List ℕ} {k : ℕ
 
       -- a line that is no row
       pub clocking-refused : {m : ℕ} {line : Bytes} {bits′ : List Bool} {r : Bool} → RowSettled cells ps m line bits bits′ r → m ≡ n
-          → line ≡ take (suc inputs) (drop at rows) → r ≡ false → Clocked net (rowsOf inputs rows) zeroBits out false
+          → line ≡ take (suc inputs) (drop at rows) → r ≡ false → Clocked net (rowsOf inputs rows) (startBits net) out false
       clocking-refused {bits′ = bits′} {r = r} s e q f =
           c .leads out false refl
           (rw row-first (by (rowOf inputs (take (suc inputs) (drop at rows))) (row-told s e q)))
@@ -232,7 +225,7 @@ module _ {inputs n : ℕ} {cells ps outs slots tables flops : List ℕ} {k : ℕ
             })
 
     -- no row is left
-    pub clocking-done : length rows ≤ at → Clocked net (rowsOf inputs rows) zeroBits out true
+    pub clocking-done : length rows ≤ at → Clocked net (rowsOf inputs rows) (startBits net) out true
     clocking-done h = c .leads out true refl (by (c .left) (c .rowsLeft) (c .outLeft))
       where
         by : (l : ℕ) → length rows ≡ at + l * suc inputs → length out ≡ to + l * suc (length (net .outputs))

@@ -1,9 +1,9 @@
 pub mod RowsOf
 pub mod PlainFlops
 pub mod LayingOut
-pub mod Starting
 pub mod RowTexts
 pub mod Showing
+pub mod Starting
 pub mod GateBit
 pub mod Working
 pub mod Settling

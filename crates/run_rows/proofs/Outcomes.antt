@@ -20,7 +20,7 @@ use Rattle.refusals.specs.declared.Refusal.{Refusal}
 use Rattle.refusals.specs.declared.Refusal.the-variants as refusal
 use Rattle.gates.specs.Gate.{isPlain}
 use Rattle.network.specs.Net.{Net, topoSorted}
-use Rattle.network.specs.Clock.{zeroBits}
+use Rattle.network.specs.Clock.{startBits}
 use Rattle.network.specs.Settle.{run}
 use Rattle.network.specs.Cells.{Lent, Words, isNetwork, netOf}
 use Rattle.network.proofs.Lent.{network-cells, network-outs}
@@ -58,7 +58,7 @@ module _ (net : Net) (rows : Bytes) (n w l : ℕ) (ew : w ≡ suc (net .inputs))
   count-is e = div-eq-of-eq-mul-left some-byte (rows-long e)
 
   outputs-long : (rs : List (List Bool)) → length (rowsText (run net rs)) ≡ length rs * l
-  outputs-long rs = length-outputs net zeroBits rs ∙ ap (λ (k : ℕ). length rs * k) (sym el)
+  outputs-long rs = length-outputs net (startBits net) rs ∙ ap (λ (k : ℕ). length rs * k) (sym el)
 
   pub not-fitting : fits ≡ false → refusedRun refusal.WrongRows n ≡ runOn net (rowsOf (net .inputs) rows) n
   not-fitting f = by (rowsOf (net .inputs) rows) refl
@@ -81,15 +81,15 @@ module _ (net : Net) (rows : Bytes) (n w l : ℕ) (ew : w ≡ suc (net .inputs))
     lines-fit = le-div-iff-mul-le {k = l} {x = count} {y = n} some-out .0 (leb-true count (n / l) (and-right (eqb (length rows % w) 0) (leb count (n / l)) f))
 
   -- where a clock was refused
-  pub ran-not : (out : Bytes) {r : Bool} → r ≡ false → Clocked net (rowsOf (net .inputs) rows) zeroBits out r → refusedRun refusal.WrongRows n ≡ runOn net (rowsOf (net .inputs) rows) n
+  pub ran-not : (out : Bytes) {r : Bool} → r ≡ false → Clocked net (rowsOf (net .inputs) rows) (startBits net) out r → refusedRun refusal.WrongRows n ≡ runOn net (rowsOf (net .inputs) rows) n
   ran-not out {r} e c = by (rowsOf (net .inputs) rows) c
     where
-      by : (o : Option (List (List Bool))) → Clocked net o zeroBits out r → refusedRun refusal.WrongRows n ≡ runOn net o n
+      by : (o : Option (List (List Bool))) → Clocked net o (startBits net) out r → refusedRun refusal.WrongRows n ≡ runOn net o n
       by none c = refl
       by (some rs) c = absurd (false≢true (sym e ∙ c .0))
 
   -- where each row has run: the output rows, and zeros behind them
-  pub ran-all : (q o : Bytes) {z : Bytes} {r : Bool} → length o ≡ n → count * l ≤ n → length q ≡ count * l → r ≡ true → Clocked net (rowsOf (net .inputs) rows) zeroBits q r
+  pub ran-all : (q o : Bytes) {z : Bytes} {r : Bool} → length o ≡ n → count * l ≤ n → length q ≡ count * l → r ≡ true → Clocked net (rowsOf (net .inputs) rows) (startBits net) q r
       → let end = count * l in let p = q ++ drop end o in
       z ≡ zeros (length (take (length p - end) (drop end p)))
       → runOutcome (Ran end) (take end p ++ (z ++ drop (length p - end) (drop end p))) ≡ runOn net (rowsOf (net .inputs) rows) n
@@ -101,7 +101,7 @@ module _ (net : Net) (rows : Bytes) (n w l : ℕ) (ew : w ≡ suc (net .inputs))
       p : Bytes
       p = q ++ drop end o
 
-      by : (os : Option (List (List Bool))) → rowsOf (net .inputs) rows ≡ os → Clocked net os zeroBits q r
+      by : (os : Option (List (List Bool))) → rowsOf (net .inputs) rows ≡ os → Clocked net os (startBits net) q r
           → runOutcome (Ran end) (take end p ++ (z ++ drop (length p - end) (drop end p))) ≡ runOn net os n
       by none h c = absurd (true≢false (sym t ∙ c))
       by (some rs) h c =

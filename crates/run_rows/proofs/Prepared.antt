@@ -2,13 +2,12 @@
 use mathlib.Core.Path.{_≡_, sym, ap, ap₂, _∙_}
 use mathlib.Core.Bool.{Bool, true, false, cond}
 use mathlib.Core.List.{List, _++_}
-use mathlib.Core.Option.{some}
 use Prim.Native.Nat.{ℕ, _+_, _*_, _≤_, _<_}
 use native.Mathlib.Omega.{arith}
 use lib.ListN.{length, getD, take, length-append, List·getD-map}
 use lib.Seq.{length-take-le, take-at, getD-take}
 use Rattle.lists.specs.Lists.{all, optional}
-use Rattle.lists.proofs.Range.{all-mem, map-range}
+use Rattle.lists.proofs.Range.{all-mem}
 use Rattle.lists.proofs.Places.{place-mem, place-getD}
 use Rattle.signal.specs.Signal.{Signal}
 use Rattle.signal.specs.Cell.{nodeOf, sigOf}
@@ -20,8 +19,9 @@ use Rattle.gates.proofs.Plain.{plain-flop}
 use Rattle.network.specs.Net.{Net, GateIs}
 use Rattle.network.specs.Clock.{sigBit, nextBit}
 use Rattle.network.specs.Settle.{nextOf}
-use Rattle.network.specs.Cells.{cellNet, orBuf}
-use Rattle.network.specs.Record.{formAt, runAt, gateAt}
+use Rattle.network.specs.Cells.{cellNet}
+use Rattle.network.specs.Record.{formAt, runAt}
+use Rattle.network.proofs.GateRead.{cell-gate}
 use Rattle.gate_bits.specs.between.Slots.{slotCount}
 use Rattle.gate_bits.specs.between.Tables.{kindPad}
 use Rattle.gate_bits.proofs.SlotBits.{slot-at}
@@ -106,11 +106,7 @@ module _ {inputs n : ℕ} {cells ps outs slots tables flops : List ℕ} {k : ℕ
 
     module _ {g : ℕ} (f : IsFlop cells n g) where
       gate-is : GateIs net g (p .runs .gates .each g (f .below) .gate)
-      gate-is =
-          let z : 0 + g ≡ g = omega arith in
-          map-range (λ (i : ℕ). orBuf (gateAt cells ps i)) 0 n g (f .below)
-          ∙ ap (λ (i : ℕ). some (orBuf (gateAt cells ps i))) z
-          ∙ ap (λ o. some (orBuf o)) (p .runs .gates .each g (f .below) .is)
+      gate-is = cell-gate cells ps n g _ (f .below) (p .runs .gates .each g (f .below) .is)
 
       abbrev run : List ℕ
       run = runAt cells ps g

@@ -1,5 +1,5 @@
 -- A table of bits: a known signal's bit, and what the table shows once a bit is put. Assumes nothing.
-use mathlib.Core.Path.{_≡_, sym, ap, _∙_, subst}
+use mathlib.Core.Path.{_≡_, refl, sym, ap, _∙_, subst}
 use mathlib.Core.Bool.{Bool, true, false, not, true≢false, false≢true}
 use mathlib.Core.List.{List, map, List·Memᴰ}
 use mathlib.Core.Logic.{_⊎_, inl, inr, ⊎-elim}
@@ -120,14 +120,19 @@ shown-more {row} {val} {K} {J} {bits} {slot} {b} s g few at e more =
     one h (no d) (inl k) = gate-keeps-gate bits b g few at h (s .fewGates h k) d (s .gates h k)
     one h (no d) (inr q) = absurd (d q)
 
--- fewer gates are asked for
-pub shown-fewer : {row : List Bool} {val : ℕ → Bool} {K J : ℕ → Type 0} {bits : List Bool} → Shown row val K bits → ((h : ℕ) → J h → K h) → Shown row val J bits
-shown-fewer s f =
+-- fewer gates are asked for, and their bits are told otherwise
+pub shown-as : {row : List Bool} {val val′ : ℕ → Bool} {K J : ℕ → Type 0} {bits : List Bool} → Shown row val K bits → ((h : ℕ) → J h → K h)
+    → ((h : ℕ) → J h → val h ≡ val′ h) → Shown row val′ J bits
+shown-as {bits = bits} s f e =
     record {
       size = s .size;
       const = s .const;
       fewInputs = s .fewInputs;
       inputs = s .inputs;
       fewGates = λ h j. s .fewGates h (f h j);
-      gates = λ h j. s .gates h (f h j);
+      gates = λ h j. subst (Shows bits (Var h)) (e h j) (s .gates h (f h j));
     }
+
+-- fewer gates are asked for
+pub shown-fewer : {row : List Bool} {val : ℕ → Bool} {K J : ℕ → Type 0} {bits : List Bool} → Shown row val K bits → ((h : ℕ) → J h → K h) → Shown row val J bits
+shown-fewer s f = shown-as s f (λ h j. refl)

@@ -1,66 +1,59 @@
--- The constant's bit and the gates' put at zero, one after the other. Assumes nothing.
-use mathlib.Core.Path.{_≡_, refl, sym, ap, _∙_}
+-- The constant's bit put at zero, and the gates' at their start values, one after the other. Assumes nothing.
+use mathlib.Core.Path.{_≡_, sym, ap, _∙_}
 use mathlib.Core.Bool.{Bool, false}
 use mathlib.Core.List.{List}
-use Prim.Native.Nat.{ℕ, zero, suc, _+_, _*_, _≤_, _<_}
+use mathlib.Core.Logic.{inl, inr}
+use Prim.Native.Nat.{ℕ, _+_, _*_, _≤_, _<_}
 use native.Mathlib.Omega.{arith}
+use lib.Dec.{eqb}
 use lib.ListN.{length}
-use Rattle.lists.proofs.Tests.{below-next}
-use Rattle.signal.specs.Signal.{Node, Const, Input, Var}
-use Rattle.gate_bits.specs.between.Slots.{slotCount, nodeSlot, HasSlot, Shows}
-use Rattle.gate_bits.proofs.SlotBits.{put-here, put-other}
-use Rattle.run_rows.specs.between.Steps.{Started}
-use Rattle.run_rows.proofs.Showing.{put, length-put}
+use Rattle.lists.specs.Lists.{optional}
+use Rattle.lists.proofs.Tests.{by-order}
+use Rattle.signal.specs.Signal.{Const}
+use Rattle.gates.specs.Gate.{startBit}
+use Rattle.gates.proofs.Forms.{bit-again}
+use Rattle.network.specs.Clock.{startBits}
+use Rattle.network.specs.Cells.{cellNet}
+use Rattle.network.specs.Record.{startAt}
+use Rattle.network.specs.between.Cells.{NetCells}
+use Rattle.network.proofs.GateRead.{cell-gate}
+use Rattle.gate_bits.specs.between.Slots.{slotCount}
+use Rattle.gate_bits.proofs.SlotBits.{put-here}
+use Rattle.run_rows.specs.between.Steps.{Started, Held}
+use Rattle.run_rows.proofs.Showing.{put, length-put, shown-more, shown-as, shown-fewer}
 
--- the nodes in the order of their slots: the constant, then the gates
-abbrev nodeAt : ℕ → Node
-nodeAt zero = Const
-nodeAt (suc g) = Var g
-
--- the place of a node in that order
-abbrev placeOf : Node → ℕ
-placeOf Const = 0
-placeOf (Input i) = 0
-placeOf (Var g) = suc g
-
-place-node : (i : ℕ) → placeOf (nodeAt i) ≡ i
-place-node zero = refl
-place-node (suc g) = refl
-
-other-node : (i j : ℕ) → (j ≡ i → ⊥) → nodeAt j ≡ nodeAt i → ⊥
-other-node i j d e = d (sym (place-node j) ∙ ap placeOf e ∙ place-node i)
-
--- the code's slot of a node
-node-slot : (i : ℕ) → 2 * i ≡ nodeSlot (nodeAt i)
-node-slot zero = refl
-node-slot (suc g) = omega arith
-
-has-slot : (i : ℕ) → i ≤ 1024 → HasSlot (nodeAt i)
-has-slot zero h = tt
-has-slot (suc g) h = omega arith
-
--- the bits of the first i nodes are zero
-pub record Starting (bits : List Bool) (i : ℕ) : Type 0 where
-  -- as many slots as a table has
-  pub size : length bits ≡ slotCount
-  -- each of them
-  pub each : (j : ℕ) → j < i → Shows bits (nodeAt j) false
-
-pub starting-start : {bits : List Bool} → length bits ≡ slotCount → Starting bits 0
-starting-start l = record { size = l; each = λ j h. absurd (omega arith) }
-
-module _ {bits : List Bool} {i : ℕ} (s : Starting bits i) where
-  pub starting-next : i ≤ 1024 → Starting (put bits (2 * i) false) (i + 1)
-  starting-next h =
+-- the constant's bit is put, and no gate's yet
+pub started-none : {cells : List ℕ} (bits : List Bool) → length bits ≡ slotCount → Started cells 0 (put bits 0 false)
+started-none bits l = record {
+  shown =
       record {
-        size = length-put bits (2 * i) false ∙ s .size;
-        each =
-            below-next (λ j. Shows (put bits (2 * i) false) (nodeAt j) false) i
-            (λ j l.
-            rw (node-slot i)
-            (put-other bits (nodeAt i) (nodeAt j) false (has-slot i h) (has-slot j (omega arith)) (other-node i j (λ e. omega arith)) (s .each j l)))
-            (rw (node-slot i) (put-here bits (nodeAt i) false (has-slot i h) (s .size)));
-      }
+        size = length-put bits 0 false ∙ l;
+        const = put-here bits Const false tt l;
+        fewInputs = omega arith;
+        inputs = λ i h. absurd (omega arith);
+        fewGates = λ g h. absurd (omega arith);
+        gates = λ g h. absurd (omega arith);
+      };
+}
 
-  pub starting-done : {n : ℕ} → n < i → Started n bits
-  starting-done h = record { size = s .size; const = s .each 0 (omega arith); gates = λ g l. s .each (suc g) (omega arith) }
+module _ {cells : List ℕ} {n : ℕ} {bits : List Bool} (s : Started cells n bits) where
+  -- one gate more
+  pub started-next : {slot start : ℕ} → n < 1024 → slot ≡ 2 * (n + 1) → start ≡ startAt cells n → Started cells (n + 1) (put bits slot (eqb start 1))
+  started-next few at e = record {
+    shown = shown-more (s .shown) n few at (ap (λ (v : ℕ). eqb v 1) e) (λ h l. by-order n h (λ o. inr (omega arith)) (λ o. inl o));
+  }
+
+  -- the gates up to n
+  pub started-done : {m : ℕ} → m ≤ n → Started cells m bits
+  started-done h = record { shown = shown-fewer (s .shown) (λ g l. omega arith) }
+
+  -- the flip-flops hold the network's start values
+  pub started-held : {inputs : ℕ} {ps : List ℕ} (outs : List ℕ) → NetCells inputs n cells ps → Held cells n (startBits (cellNet inputs cells ps n outs)) bits
+  started-held {inputs} {ps} outs net = shown-as (s .shown) (λ g f. f .below) (λ g f. start-is g (f .below))
+    where
+      start-is : (g : ℕ) → g < n → eqb (startAt cells g) 1 ≡ startBits (cellNet inputs cells ps n outs) g
+      start-is g h =
+          let x = net .each g h in
+          ap (λ (v : ℕ). eqb v 1) (x .start)
+          ∙ bit-again (startBit (x .gate))
+          ∙ ap (optional startBit false) (sym (cell-gate cells ps n g (x .gate) h (x .is)))

@@ -20,10 +20,10 @@ use Rattle.lists.proofs.OverAt.{drop-overwrite-zeros}
 use Rattle.refusals.specs.Numbers.{InRunning}
 use Rattle.refusals.specs.declared.Refusal.{Refusal}
 use Rattle.network.specs.Net.{Net}
-use Rattle.network.specs.Clock.{zeroBits}
+use Rattle.network.specs.Clock.{startBits}
 use Rattle.network.specs.Settle.{run}
 use Rattle.network.specs.Cells.{Lent, Words, netOf}
-use Rattle.network.proofs.Summary.{one-run-zero, sorted-free}
+use Rattle.network.proofs.Summary.{one-run-start, sorted-free}
 use Rattle.network.proofs.Lent.{network-laid}
 use Rattle.run_rows.specs.Rows.{rowsText, rowsOf, Wide}
 use Rattle.run_rows.specs.Into.{RunOutcome, ranRows, runInto}
@@ -50,7 +50,7 @@ running-refuses = outcomes.running-refuses
 
 -- the bytes that the output rows take: for each row one for each output and an LF
 pub rows-take : (net : Net) (rows : List (List Bool)) → length (rowsText (run net rows)) ≡ length rows * suc (length (net .outputs))
-rows-take net rows = length-outputs net zeroBits rows
+rows-take net rows = length-outputs net (startBits net) rows
 
 -- the bytes up to the length are the text of these rows
 pub ran-text : (l : Lent) (t : Bytes) (n : ℕ) (f : RunsFor l t n) {k : ℕ} {out : Bytes} → k ≡ length (rowsText (run (netOf l) (f .rows)))
@@ -69,11 +69,11 @@ ran-rest l t n f {k} {out} e q =
     (λ i. drop (e i) (is i)) ∙ drop-overwrite-zeros text n (f .room) ∙ (λ i. zeros (long i - sym e i))
 
 -- "Each clock does what demand 3's definition of a clock says": for every list of rows, the empty one too, the rows written are the only
--- ones that the clocks allow from zero
+-- ones that the clocks allow from the start values
 pub ran-rows : (l : Lent) (t : Bytes) (n : ℕ) → Words l → (f : RunsFor l t n) {k : ℕ} {out : Bytes} → k ≡ length (rowsText (run (netOf l) (f .rows)))
     → out ≡ runInto l t n .out → RanFor (netOf l) t k out
 ran-rows l t n w f {k} {out} e q =
-    let one = one-run-zero (netOf l) (network-laid l w (f .network) .1) (sorted-free (netOf l) (f .sorted)) (f .rows) in
+    let one = one-run-start (netOf l) (network-laid l w (f .network) .1) (sorted-free (netOf l) (f .sorted)) (f .rows) in
     record {
       rows = f .rows;
       has = f .has;

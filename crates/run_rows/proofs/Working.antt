@@ -8,7 +8,6 @@ use Prim.Native.Nat.{ℕ, _+_, _*_, _≤_, _<_}
 use native.Mathlib.Omega.{arith}
 use lib.ListN.{length}
 use borrow.Author.Tests.{ltb-true}
-use Rattle.lists.proofs.Range.{map-range}
 use Rattle.lists.proofs.Tests.{by-order}
 use Rattle.signal.specs.Signal.{Node, Const, Input, Var, Signal}
 use Rattle.signal.specs.Cell.{nodeOf, sigOf}
@@ -21,13 +20,14 @@ use Rattle.network.specs.Settle.{settle}
 use Rattle.network.specs.Cells.{orBuf, cellGates, cellNet, validNode}
 use Rattle.network.specs.Record.{formAt, runAt, gateAt}
 use Rattle.network.specs.between.Cells.{NetCells}
+use Rattle.network.proofs.GateRead.{cell-gate}
 use Rattle.network.proofs.OneChoice.{ranked, settle-fits}
 use Rattle.network.proofs.Summary.{sorted-free}
 use Rattle.network.proofs.TopoSorted.{sorted-rises}
 use Rattle.gate_bits.specs.between.Slots.{slotCount, pinBits, Shows}
 use Rattle.run_rows.specs.between.Steps.{IsFlop, Shown, WorkedOut, combBit}
 use Rattle.run_rows.specs.between.Asks.{BitReady, Workable}
-use Rattle.run_rows.proofs.Showing.{Known, known-bits, put, length-put, gate-keeps-const, shown-more, shown-fewer}
+use Rattle.run_rows.proofs.Showing.{Known, known-bits, put, length-put, gate-keeps-const, shown-more, shown-as, shown-fewer}
 
 -- the gates whose bits are known once those before g are worked out: these, and the flip-flops
 abbrev pub Before : List ℕ → ℕ → ℕ → ℕ → Type 0
@@ -42,9 +42,7 @@ module _ {cells ps : List ℕ} {n : ℕ} (row : List Bool) (held : ℕ → Bool)
   val = settle gates row held
 
   gate-at : (g : ℕ) (h : g < n) → GateIs gates g (net .each g h .gate)
-  gate-at g h =
-      let z : 0 + g ≡ g = omega arith in
-      map-range (λ (i : ℕ). orBuf (gateAt cells ps i)) 0 n g h ∙ ap (λ (i : ℕ). some (orBuf (gateAt cells ps i))) z ∙ ap (λ o. some (orBuf o)) (net .each g h .is)
+  gate-at g h = cell-gate cells ps n g (net .each g h .gate) h (net .each g h .is)
 
   -- each gate has the bit that it should
   val-is : (g : ℕ) (h : g < n) → val g ≡ gateBit (sigBit row val) (held g) (net .each g h .gate)
@@ -59,15 +57,7 @@ module _ {cells ps : List ℕ} {n : ℕ} (row : List Bool) (held : ℕ → Bool)
       by (Comb k qs) q e = absurd (comb-other k qs q)
 
   pub work-start : {bits : List Bool} → Shown row held (IsFlop cells n) bits → Shown row val (Before cells n 0) bits
-  work-start {bits} s =
-      record {
-        size = s .size;
-        const = s .const;
-        fewInputs = s .fewInputs;
-        inputs = s .inputs;
-        fewGates = λ g k. s .fewGates g (flop g k);
-        gates = λ g k. subst (Shows bits (Var g)) (flop-holds g (k .0) (flop g k .form)) (s .gates g (flop g k));
-      }
+  work-start s = shown-as s flop (λ g k. flop-holds g (k .0) (flop g k .form))
     where
       flop : (g : ℕ) → Before cells n 0 g → IsFlop cells n g
       flop g k = record { below = k .0; form = ⊎-elim (λ (l : g < 0). absurd (omega arith)) (λ q. q) (k .1) }

@@ -39,7 +39,7 @@ pub record RanFor (net : Net) (t : Bytes) (k : ℕ) (out : Bytes) : Type 0 where
   pub has : rowsOf (net .inputs) t ≡ some rows
   -- rows of outputs
   pub outs : List (List Bool)
-  -- which document 01's clock allows for these rows, clock by clock from zero
+  -- which document 01's clock allows for these rows, clock by clock from the start values
   pub runs : NetRuns net rows outs
   -- and no others
   pub only : (others : List (List Bool)) → NetRuns net rows others → others ≡ outs

@@ -17,6 +17,7 @@ use network::first_at;
 use network::form_at;
 use network::gate_pins;
 use network::is_topo_sorted;
+use network::start_at;
 use refusals::Refusal;
 ghost use mathlib.Core.Path.{_≡_};
 ghost use mathlib.Core.Bool.{_&&_};
@@ -25,7 +26,7 @@ ghost use lib.Dec.{eqb, leb};
 ghost use lib.ListN.{length, take};
 ghost use Rattle.lists.specs.Lists.{all};
 ghost use Rattle.gates.specs.Gate.{isPlain};
-ghost use Rattle.network.specs.Clock.{zeroBits};
+ghost use Rattle.network.specs.Clock.{startBits};
 ghost use Rattle.network.specs.Cells.{lent, orBuf, cellGates, cellNet};
 ghost use Rattle.network.specs.Record.{runAt, gateAt};
 ghost use Rattle.network.specs.between.Cells.{GateCells, NetCells};
@@ -125,15 +126,16 @@ fn list_flops(gates: &[u32], n: usize, flops: &mut [u16]) -> usize
 
 // ---- a clock
 
-// Every bit at zero: of the constant and of n gates.
-fn start_bits(n: usize, bits: &mut [bool])
-    requires { ⌜ StartRoom n (now bits) ⌝ }
-    ensures { λ _. ⌜ Started n (now (bits .exit)) ⌝ }
+// The bits before the first clock: the constant's at zero, and each of n gates' at its start value.
+fn start_bits(gates: &[u32], n: usize, bits: &mut [bool])
+    requires { ⌜ StartRoom (now gates) n (now bits) ⌝ }
+    ensures { λ _. ⌜ Started (now (gates .entry)) n (now (bits .exit)) ⌝ }
 {
-    let mut i = 0;
-    while i <= n {
-        put_bit(bits, 2 * i, false);
-        i += 1;
+    put_bit(bits, 0, false);
+    let mut g = 0;
+    while g < n {
+        put_bit(bits, 2 * g + 2, start_at(gates, g) == 1);
+        g += 1;
     }
 }
 
@@ -147,7 +149,7 @@ fn is_digit(c: u8) -> bool
     c == b'1'
 }
 
-// TakeRoom the inputs' bits from a row; answers whether it has a character 0 or 1 for each, and an LF.
+// Takes the inputs' bits from a row; answers whether it has a character 0 or 1 for each, and an LF.
 fn read_row(row: &[u8], bits: &mut [bool]) -> bool
     requires { ⌜ RowRoom (now row) ⌝ }
     requires { ⌜ length (now bits) ≡ slotCount ⌝ }
@@ -204,7 +206,7 @@ fn work_out(gates: &[u32], pins: &[u32], slots: &[u16], tables: &[u64], bits: &m
     }
 }
 
-// TakeRoom a row's bits and works out the gates'; answers whether it is a row.
+// Takes a row's bits and works out the gates'; answers whether it is a row.
 fn settle_row(
     gates: &[u32],
     pins: &[u32],
@@ -295,7 +297,7 @@ fn refuse(out: &mut [u8], refusal: Refusal) -> RunAnswer
     RunAnswer::Refused(refusal)
 }
 
-// Runs a sorted network with plain flip-flops for whole rows, from all flip-flops at zero. Answers whether each row was one.
+// Runs a sorted network with plain flip-flops for whole rows, from the start values. Answers whether each row was one.
 fn run_sorted(
     counts: Counts,
     gates: &[u32],
@@ -307,8 +309,8 @@ fn run_sorted(
     requires { ⌜ Runnable (counts .inputs) (counts .gates) (now gates) (now pins) (now outputs) ⌝ }
     requires { ⌜ WholeRows (counts .inputs) (now outputs) (now rows) (now out) ⌝ }
     ensures { λ r.
-        ⌜ Clocked (cellNet (counts .inputs) (now (gates .entry)) (now (pins .entry)) (counts .gates) (now (outputs .entry)))
-        (rowsOf (counts .inputs) (now (rows .entry))) zeroBits (now (out .exit)) r ⌝ }
+        let net = cellNet (counts .inputs) (now (gates .entry)) (now (pins .entry)) (counts .gates) (now (outputs .entry)) in
+        ⌜ Clocked net (rowsOf (counts .inputs) (now (rows .entry))) (startBits net) (now (out .exit)) r ⌝ }
 {
     let inputs = counts.inputs;
     let n = counts.gates;
@@ -319,7 +321,7 @@ fn run_sorted(
     let mut next = [false; 1024];
     lay_tables(gates, pins, &mut slots, &mut tables[..n]);
     let k = list_flops(gates, n, &mut flops);
-    start_bits(n, &mut bits);
+    start_bits(gates, n, &mut bits);
     let width = inputs + 1;
     let line = outputs.len() + 1;
     let mut at = 0;
@@ -367,7 +369,7 @@ fn run_fitting(
     RunAnswer::Ran(end)
 }
 
-// Runs the lent network for the rows from all flip-flops at zero, and writes a row of outputs for each.
+// Runs the lent network for the rows from the start values, and writes a row of outputs for each.
 pub fn run_rows(
     counts: Counts,
     gates: &[u32],

@@ -13,10 +13,9 @@ use Rattle.signal.specs.Signal.{Var, Signal}
 use Rattle.gates.specs.Gate.{Form, Comb}
 use Rattle.network.specs.Net.{Net, GateIs, Valid, Loop, topoSorted}
 use Rattle.network.specs.Record.{pinCells}
-use Rattle.network.specs.Clock.{zeroBits}
 use Rattle.network.specs.Settle.{runFrom, run}
 use Rattle.network.specs.Renumber.{placeOf, permuted}
-use Rattle.network.proofs.Summary.{renumbered-runs}
+use Rattle.network.proofs.Summary.{renumbered-runs, renumbered-run}
 use Rattle.network.proofs.TopoSorted.{rises-sorted}
 use Rattle.sort_order.specs.Order.{useCount, startTo, walk, recorded, sortOrder}
 use Rattle.sort_order.specs.Sorted.{graph, sorted, Preserved}
@@ -71,9 +70,13 @@ sorted-runs net new valid e =
           (sorted-free net valid new e) held rows),
     )
 
--- the same from all flip-flops at zero
+-- the same from the start values, which move with their gates
 pub sorted-run : (net new : Net) → Valid net → sorted net ≡ some new → (rows : List (List Bool)) → run new rows ≡ run net rows
-sorted-run net new valid e rows = sorted-runs net new valid e .2 zeroBits rows
+sorted-run net new valid e rows =
+    let o = sorted-order net valid new e in
+    subst (λ (n : Net). run n rows ≡ run net rows) (o .2)
+    (renumbered-run net (permuted (o .0) net) (placeOf (o .0)) (λ g. getD (o .0) g 0) (order-renumbers net valid (o .0) (o .1)) valid
+    (sorted-free net valid new e) rows)
 
 -- "It counts how often combinational gates use each gate, twice if an input repeats": a count is at most the number of pins
 pub count-fits : (net : Net) (v : ℕ) → useCount (graph net) v ≤ length (pinCells (net .gates))

@@ -91,10 +91,10 @@ fn replay_network(number: u32) {
     io::write_all(1, b"\n");
     let counts = read_counts();
     let records = counts.gates % 0x1_0000_0000 * GATE_CELLS;
-    let mut gates = [0u32; 3075];
+    let mut gates = [0u32; 4100];
     let mut pins = [0u32; 16385];
     let mut outputs = [ONES; 258];
-    let mut new_gates = [ONES; 3075];
+    let mut new_gates = [ONES; 4100];
     let mut new_pins = [ONES; 16385];
     read_words(&mut gates, records);
     read_words(&mut pins, counts.pins);
@@ -120,10 +120,10 @@ fn replay_network(number: u32) {
 // What is told of a network without cells in use: kind 0, 1 or 2 where the last cell of gates, pins or outputs is not as before, kind 3 where
 // more outputs are in use than are lent.
 fn show_kind(kind: u32) {
-    let mut gates = [ONES; 3075];
+    let mut gates = [ONES; 4100];
     let mut pins = [ONES; 16385];
     let mut outputs = [ONES; 258];
-    put_word(&mut gates, 3074, ONES ^ (kind == 0) as u32);
+    put_word(&mut gates, 4099, ONES ^ (kind == 0) as u32);
     put_word(&mut pins, 16384, ONES ^ (kind == 1) as u32);
     put_word(&mut outputs, 257, ONES ^ (kind == 2) as u32);
     let mut o = 0;

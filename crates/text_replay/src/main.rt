@@ -1,5 +1,5 @@
-// Prints the statements of texts, a line for each, in the notation of the stored answers of Quaigh's read_statements. Standard input has how
-// many texts there are, then the length and the bytes of each.
+// Prints the statements of texts, a line for each, in the notation of the stored answers of Quaigh's read_statements, a latch with all its
+// tokens. Standard input has how many texts there are, then the length and the bytes of each.
 use blif_text::Run;
 use blif_text::Statement;
 use blif_text::first_bad;
@@ -66,7 +66,7 @@ fn print_statement(text: &[u8], cells: &[u32], s: Statement) {
         Statement::Inputs(run) => print_names(b"inputs", text, cells, run),
         Statement::Outputs(run) => print_names(b"outputs", text, cells, run),
         Statement::Names(run) => print_names(b"names", text, cells, run),
-        Statement::Latch(first) => print_names(b"latch", text, cells, Run { first, count: 2 }),
+        Statement::Latch(run) => print_names(b"latch", text, cells, run),
         Statement::Cube(run) => print_names(b"cube", text, cells, run),
         Statement::Refused(r) => print_refusal(r.number()),
     }

@@ -112,7 +112,7 @@ fn print_run(counts: Counts, gates: &[u32], pins: &[u32], outputs: &[u32], rows:
 
 // Sorts a network and runs it for the rows; one that cannot be sorted leaves cells that a run refuses.
 fn print_sorted_run(counts: Counts, gates: &[u32], pins: &[u32], outputs: &mut [u32], rows: &[u8]) {
-    let mut new_gates = [0u32; 3072];
+    let mut new_gates = [0u32; 4096];
     let mut new_pins = [0u32; 16384];
     sort_network(counts, gates, pins, outputs, &mut new_gates, &mut new_pins);
     print_run(counts, &new_gates, &new_pins, outputs, rows);
@@ -127,10 +127,10 @@ fn trip(
     rows: &[u8],
     text: &mut [u8],
 ) {
-    let mut new_gates = [ONES; 3072];
+    let mut new_gates = [ONES; 4096];
     let mut new_pins = [ONES; 16384];
     let mut new_outputs = [ONES; 256];
-    let mut work_gates = [ONES; 3072];
+    let mut work_gates = [ONES; 4096];
     let mut work_pins = [ONES; 16384];
     let answer = write_then_read(
         counts,
@@ -193,10 +193,10 @@ fn replay_network(number: u32) {
     print_line(b"network ", number as usize);
     let counts = read_counts();
     let l = read_word() as usize % 32801;
-    let g = read_word() as usize % 3077;
+    let g = read_word() as usize % 4102;
     let p = read_word() as usize % 16387;
     let o = read_word() as usize % 259;
-    let mut gates = [0u32; 3076];
+    let mut gates = [0u32; 4101];
     let mut pins = [0u32; 16386];
     let mut outputs = [0u32; 258];
     let mut text = [165u8; 32800];
@@ -212,16 +212,16 @@ fn replay_network(number: u32) {
 // What is told of a network without cells in use where the last byte of the text, or the last cell of a slice, is not zero.
 fn show_kind(kind: u32) {
     let mut text = [0u8; 32800];
-    let mut gates = [0u32; 3072];
+    let mut gates = [0u32; 4096];
     let mut pins = [0u32; 16384];
     let mut outputs = [0u32; 256];
-    let mut work_gates = [0u32; 3072];
+    let mut work_gates = [0u32; 4096];
     let mut work_pins = [0u32; 16384];
     text[32799] = (kind == 0) as u8;
-    put_word(&mut gates, 3071, (kind == 1) as u32);
+    put_word(&mut gates, 4095, (kind == 1) as u32);
     put_word(&mut pins, 16383, (kind == 2) as u32);
     put_word(&mut outputs, 255, (kind == 3) as u32);
-    put_word(&mut work_gates, 3071, (kind == 4) as u32);
+    put_word(&mut work_gates, 4095, (kind == 4) as u32);
     put_word(&mut work_pins, 16383, (kind == 5) as u32);
     let counts = Counts {
         inputs: 0,

@@ -3,8 +3,8 @@ use mathlib.Core.Path.{_≡_, refl, sym, ap, _∙_, subst}
 use mathlib.Core.Bool.{Bool, true, false, not}
 use mathlib.Core.List.{List}
 use mathlib.Core.Option.{Option, none, some}
-use mathlib.Core.Logic.{_⊎_, inl, inr}
-use Prim.Native.Nat.{ℕ}
+use mathlib.Core.Logic.{_⊎_, inl, inr, ⊎-elim}
+use Prim.Native.Nat.{ℕ, _*_, _<_}
 use native.Mathlib.Omega.{arith}
 use lib.Dec.{ltb}
 use lib.ListN.{length}
@@ -17,6 +17,8 @@ use Rattle.refusals.specs.declared.Refusal.the-variants as refusal
 use Rattle.refusals.proofs.Numbers.{number-pos}
 use Rattle.gates.specs.Gate.{isPlain}
 use Rattle.network.specs.Net.{Net, topoSorted}
+use Rattle.network.specs.Sizes.{maxGates}
+use Rattle.network.specs.Record.{gateWidth}
 use Rattle.network.specs.Settle.{run}
 use Rattle.network.specs.Cells.{Lent, netOf, isNetwork}
 use Rattle.blif_writing.specs.WrittenModel.{wide}
@@ -24,6 +26,7 @@ use Rattle.blif_writing.specs.Text.{textOf}
 use Rattle.blif_reading.specs.Read.{Result, read, refused, readText}
 use Rattle.blif_read.specs.Into.{Lengths, enough, filled, answered, readInto}
 use Rattle.blif_read.specs.declared.ReadAnswer.{ReadAnswer}
+use Rattle.blif_read.proofs.Lending.{few-gates, few-work-gates}
 use Rattle.blif_read.proofs.Summary.{read-counts, reading-refuses}
 use Rattle.blif_write.specs.Into.{WriteOutcome, refusedText, writtenText, tooLong, writeInto}
 use Rattle.blif_write.specs.declared.WriteAnswer.{WriteAnswer}
@@ -63,6 +66,13 @@ read-zero text n e = go (enough n) refl (result-zero (answered text n) n e)
 -- and a network read into enough cells is handed over with 0
 pub read-success : (text : Bytes) (n : Lengths) (net : Net) → enough n ≡ true → readText text ≡ read net → networkOf (readInto text n .answer) .refused ≡ 0
 read-success text n net e q = ap (λ (a : ReadAnswer). networkOf a .refused) (read-counts text net n e q)
+
+-- too few cells for gates are refusal 1, with zeros in all that is lent
+pub few-outcome : (text : Bytes) (n : Lengths) → (n .gates < maxGates * gateWidth) ⊎ (n .workGates < maxGates * gateWidth)
+    → readInto text n ≡ filled (refused refusal.TooFewCells) n
+unfolding readInto
+few-outcome text n h =
+    ap (λ (b : Bool). filled (if b then readText text else refused refusal.TooFewCells) n) (sym (⊎-elim (few-gates n) (few-work-gates n) h))
 
 -- any other number is one of reading's
 result-refused : (r : Result) (n : Lengths) → ((k : Refusal) → r ≡ refused k → InReading k) → (networkOf (filled r n .answer) .refused ≡ 0 → ⊥)

@@ -1,7 +1,9 @@
 -- What the exported functions promise, as a maker would read it: each theorem is over what their contracts say of the struct and of every
 -- cell and byte (`ReadHanded`, `WriteHanded`, `RunHanded`, specs/Handed). Assumes nothing.
---   refused-reading, refused-writing, refused-running  `refused` is 0 exactly on success, else a number of 1 to 14, of 20 to 22, of 20 and 29 to 31
+--   refused-reading, refused-writing, refused-running  `refused` is 0 exactly on success, else a number of 1 to 14 and 34, of 20 to 22, of 20 and 29 to 31
+--   few-cells       a caller that lends as many cells for gates as interface 1 asked for gets 1, and zero in every cell
 --   read-outputs    the network in the cells has exactly the outputs that the text has, by the Berkeley text
+--   read-allowed    which of the runs that the Berkeley text allows at power-up it has
 --   read-behind-end what stands behind `.end` or `.exdc` changes nothing that is handed over
 --   text-written    the bytes up to the length are the network's text
 --   rows-written        the rows written are the only ones that document 01's clock allows
@@ -13,10 +15,10 @@
 --   texts-differ    so two that differ never share a text
 use mathlib.Core.Path.{_≡_, sym, ap, _∙_, subst}
 use mathlib.Core.Bool.{Bool, true}
-use mathlib.Core.List.{List, _++_}
+use mathlib.Core.List.{List, _++_, List·Memᴰ}
 use mathlib.Core.Option.{some}
 use mathlib.Core.Logic.{_↔_, _⊎_, inl, inr, ⊎-elim}
-use Prim.Native.Nat.{ℕ, _≤_}
+use Prim.Native.Nat.{ℕ, _*_, _≤_, _<_}
 use native.Mathlib.Omega.{arith}
 use lib.ListN.{length, take, length-replicate}
 use Rattle.lists.specs.Lists.{Bytes, zeros, overwrite}
@@ -24,10 +26,12 @@ use Rattle.lists.proofs.Over.{take-overwrite}
 use Rattle.refusals.specs.Numbers.{numberOf, InReading, InWriting}
 use Rattle.refusals.specs.declared.Refusal.{Refusal}
 use Rattle.network.specs.Net.{Net}
+use Rattle.network.specs.Sizes.{maxGates}
+use Rattle.network.specs.Record.{gateWidth}
 use Rattle.network.specs.Cells.{Lent, lent, netOf, isNetwork, Words, countsOf}
 use Rattle.network.specs.Clock.{NetRuns}
 use Rattle.network.specs.Settle.{run, SameOutputs}
-use Rattle.blif_meaning.specs.Model.{BlifRuns}
+use Rattle.blif_meaning.specs.Model.{I0, I1, LatchDef, Latch, MayRun, BlifRuns}
 use Rattle.blif_reading.specs.TextModel.{modelOfText}
 use Rattle.blif_writing.specs.Text.{textOf}
 use Rattle.blif_text.specs.Ended.{Ended, MayFollow}
@@ -52,7 +56,7 @@ use Rattle.vumneath.specs.Handed.{networkOf, textFor, rowsFor, ReadHande
 use Rattle.vumneath.specs.declared.VumneathNetwork.{VumneathNetwork}
 use Rattle.vumneath.specs.declared.VumneathText.{VumneathText}
 use Rattle.vumneath.specs.declared.VumneathRows.{VumneathRows}
-use Rattle.vumneath.proofs.Answered.{read-zero, read-success, read-refused, write-zero, write-success, write-refused, run-zero, run-success, run-refused, run-rows-only}
+use Rattle.vumneath.proofs.Answered.{few-outcome, read-zero, read-success, read-refused, write-zero, write-success, write-refused, run-zero, run-success, run-refused, run-rows-only}
 
 -- ---- reading
 
@@ -62,13 +66,27 @@ module _ (text : Bytes) (n : Lengths) {r : VumneathNetwork} {gs ps os wgs wps : 
   told = ap (λ (x : VumneathNetwork). x .refused) (h .answer)
 
   -- every text gets a result or a numbered refusal: 0 is told exactly of a network read into enough cells, and any other number is that
-  -- of the refusal, one of 1 to 14
+  -- of the refusal, one of 1 to 14 and 34
   pub refused-reading : ((r .refused ≡ 0) ↔ ((net : Net) × (enough n ≡ true) × (readText text ≡ read net)))
       × ((r .refused ≡ 0 → ⊥) → (k : Refusal) × InReading k × (answered text n ≡ refused k) × (r .refused ≡ numberOf k))
   refused-reading = (
     ((λ z. read-zero text n (sym told ∙ z)), (λ q. told ∙ read-success text n (q .0) (q .1) (q .2))),
     (λ f. let k = read-refused text n (λ z. f (told ∙ z)) in (k .0, k .1, k .2, told ∙ k .3)),
   )
+
+  -- "Refusal 1 then asks for 4,096 gate cells and as many working ones": a caller that lends fewer, as one that was built for interface 1 does,
+  -- gets 1, and every lent cell is zero
+  pub few-cells : (n .gates < maxGates * gateWidth) ⊎ (n .workGates < maxGates * gateWidth)
+      → (r .refused ≡ 1) × (gs ≡ zeros (n .gates)) × (ps ≡ zeros (n .pins)) × (os ≡ zeros (n .outputs)) × (wgs ≡ zeros (n .workGates)) × (wps ≡ zeros (n .workPins))
+  few-cells few =
+      let o = few-outcome text n few in (
+        told ∙ ap (λ (x : ReadOutcome). networkOf (x .answer) .refused) o,
+        h .gates ∙ ap (λ (x : ReadOutcome). x .gates) o,
+        h .pins ∙ ap (λ (x : ReadOutcome). x .pins) o,
+        h .outputs ∙ ap (λ (x : ReadOutcome). x .outputs) o,
+        h .workGates ∙ ap (λ (x : ReadOutcome). x .workGates) o,
+        h .workPins ∙ ap (λ (x : ReadOutcome). x .workPins) o,
+      )
 
   module _ (z : r .refused ≡ 0) where
     -- what is read
@@ -91,6 +109,14 @@ module _ (text : Bytes) (n : Lengths) {r : VumneathNetwork} {gs ps os wgs wps : 
     read-outputs rows outs =
         subst (λ (x : Net). (BlifRuns (modelOfText text) rows outs ↔ NetRuns x rows outs) × (BlifRuns (modelOfText text) rows outs ↔ (outs ≡ run x rows))) (sym net-is)
         (reading.read-means text (was .0) (was .2) rows outs)
+
+    -- "2 and 3 read as zero": of a text whose latches have such initial states the Berkeley text allows more runs, and the network in the cells
+    -- has one of them; of any other text it has the only one
+    pub read-allowed : (rows : List (List Bool))
+        → MayRun (modelOfText text) rows (run (netHanded r gs ps os) rows)
+        × (((d : LatchDef Bytes) → List·Memᴰ (Latch d) (modelOfText text .blocks) → (d .init ≡ I0) ⊎ (d .init ≡ I1))
+        → (outs : List (List Bool)) → MayRun (modelOfText text) rows outs → outs ≡ run (netHanded r gs ps os) rows)
+    read-allowed rows = rw net-is (reading.read-allowed text (was .0) (was .2) rows)
 
 -- what may stand behind `.end` or `.exdc`, another model or notes, changes neither the struct nor any cell that is handed over
 pub read-behind-end : (text rest : Bytes) → Ended text → MayFollow text rest → (n : Lengths) {r : VumneathNetwork} {gs ps os wgs wps : List ℕ}
@@ -142,7 +168,7 @@ module _ (l : Lent) (t : Bytes) (n : ℕ) {w : VumneathRows} {out : Bytes} (h : 
   length-run : (f : RunsFor l t n) → w .length ≡ length (rowsText (run (netOf l) (f .rows)))
   length-run f = ap (λ (x : VumneathRows). x .length) (h .answer ∙ ap (λ (o : RunOutcome). rowsFor (o .answer)) (runs-answer l t n f))
 
-  -- where a length is answered, the rows written are, clock by clock, the only ones that document 01's clock allows from zero
+  -- where a length is answered, the rows written are, clock by clock, the only ones that document 01's clock allows from the start values
   pub rows-written : Words l → w .refused ≡ 0 → RanFor (netOf l) t (w .length) out
   rows-written words z =
       let f = refused-running .0 .0 z in

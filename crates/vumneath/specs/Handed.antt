@@ -31,6 +31,10 @@ use Rattle.vumneath.specs.declared.VumneathNetwork.{VumneathNetwork}
 use Rattle.vumneath.specs.declared.VumneathText.{VumneathText}
 use Rattle.vumneath.specs.declared.VumneathRows.{VumneathRows}
 
+-- the number of the interface: 1 with records of three cells, 2 with the start values of document 02, CR 4
+abbrev pub interfaceNumber : ℕ
+interfaceNumber = 2
+
 -- the counts that a caller hands over
 abbrev pub countsFrom : ℕ → ℕ → ℕ → ℕ → Counts
 countsFrom inputs gates pins outputs = record { inputs = inputs; gates = gates; pins = pins; outputs = outputs }

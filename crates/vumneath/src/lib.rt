@@ -12,7 +12,7 @@ ghost use Rattle.network.specs.Cells.{lent};
 ghost use Rattle.blif_read.specs.Into.{lengths, readInto};
 ghost use Rattle.blif_write.specs.Into.{writeInto};
 ghost use Rattle.run_rows.specs.Into.{runInto};
-ghost use Rattle.vumneath.specs.Handed.{networkOf, textFor, rowsFor, countsFrom, ReadHanded, WriteHanded, RunHanded};
+ghost use Rattle.vumneath.specs.Handed.{interfaceNumber, networkOf, textFor, rowsFor, countsFrom, ReadHanded, WriteHanded, RunHanded};
 ghost use Rattle.vumneath.specs.between.Handed.{CountsFit, LengthFits};
 
 // What reading answers: refused is zero and the counts are those of the network, or refused is the refusal's number and the counts are
@@ -39,6 +39,14 @@ pub struct VumneathText {
 pub struct VumneathRows {
     pub refused: u32,
     pub length: usize,
+}
+
+// The number of the interface. It rises where a caller that was built for the one before would lend too few cells or lay records wrongly.
+#[no_mangle]
+pub extern "C" fn vumneath_interface() -> u32
+    ensures { λ r. ⌜ r ≡ interfaceNumber ⌝ }
+{
+    2
 }
 
 // The counts that C hands over.

@@ -16,7 +16,7 @@ use Rattle.lists.proofs.Same.{same-is}
 use Rattle.refusals.specs.Numbers.{numberOf}
 use Rattle.refusals.specs.declared.Refusal.{Refusal}
 use Rattle.signal.specs.Signal.{Node, Const, Input, Var, Signal}
-use Rattle.gates.specs.Gate.{Form, And2, Xor2, And3, Xor3, Maj3, Mux3, AndN, OrN, NandN, NorN, XorN, XnorN, Buf, Gate, Comb, Dff, pins}
+use Rattle.gates.specs.Gate.{Form, And2, Xor2, And3, Xor3, Maj3, Mux3, AndN, OrN, NandN, NorN, XorN, XnorN, Buf, Gate, Comb, Dff, pins, startBit}
 use Rattle.gates.specs.Forms.{formNumber, flopNumber, formCell, forms}
 use Rattle.network.specs.Net.{Net, netFrom}
 use Rattle.network.specs.Settle.{run}
@@ -25,7 +25,7 @@ use Rattle.sort_order.specs.Order.{uses, useCount, recorded, order, sortOrder}
 use Rattle.sort_order.specs.Sorted.{sorted}
 use Rattle.blif_text.specs.Lines.{consFirst, split, dropCR, lines, endsInLf, cut, continues, before, joined, isBlank, nonEmpty, tokens}
 use Rattle.blif_text.specs.Keywords.{keywordOf}
-use Rattle.blif_text.specs.Statements.{modelStmt, latchStmt, stmtOf, parsedLine, parsed, firstBad, stmts}
+use Rattle.blif_text.specs.Statements.{modelStmt, initOf, initAmong, latchWith, latchStmt, stmtOf, parsedLine, parsed, firstBad, stmts}
 use Rattle.blif_text.specs.Ended.{stops, Ended, MayFollow}
 use Rattle.blif_text.specs.Decls.{usedNames, cubes, decls, insOf, outsOf, defsOf, ins, outs, defs, coverOut, coverIns, defines, columns, output, isOne, declsOf}
 use Rattle.blif_writing.specs.WrittenModel.{sameNode}
@@ -33,6 +33,7 @@ use Rattle.blif_writing.specs.Text.{spaced, line, textOf}
 use Rattle.blif_reading.specs.Read.{added, gateCount, pinCount, tooLarge, definedTwice, naming, undefined, goodLine, coverFault, coverFaults, declFault, readFault, Result, read, refused, answer, builtFrom, readText}
 use Rattle.worked_cases.specs.Checks.{sameList, sameSignal, sameGate, sameNet, Answer, network, number, agrees, Check, reads, writes, readsBack, runs, netIn, isRead, holds}
 use Rattle.worked_cases.specs.Cases.{table}
+use Rattle.worked_cases.specs.Starts.{starts}
 
 -- ---- what a test means
 
@@ -106,22 +107,27 @@ form-low Buf = omega arith
 form-no-flop : (f : Form) → formNumber f ≡ flopNumber → ⊥
 form-no-flop f e = omega (arith, form-low f, e)
 
--- a form number and inputs tell the gate
-gate-by : (x y : Gate) → formCell x ≡ formCell y → pins x ≡ pins y → x ≡ y
-gate-by (Comb f ps) (Comb g qs) e q = ap₂ Comb (form-one f g e) q
-gate-by (Comb f ps) (Dff t) e q = absurd (form-no-flop f e)
-gate-by (Dff s) (Comb g qs) e q = absurd (form-no-flop g (sym e))
-gate-by (Dff s) (Dff t) e q =
+-- a form number, inputs and a start value tell the gate
+gate-by : (x y : Gate) → formCell x ≡ formCell y → pins x ≡ pins y → startBit x ≡ startBit y → x ≡ y
+gate-by (Comb f ps) (Comb g qs) e q v = ap₂ Comb (form-one f g e) q
+gate-by (Comb f ps) (Dff t) e q v = absurd (form-no-flop f e)
+gate-by (Dff s) (Comb g qs) e q v = absurd (form-no-flop g (sym e))
+gate-by (Dff s) (Dff t) e q v =
     let a : s .dataIn ≡ t .dataIn = cc in
     let b : s .enable ≡ t .enable = cc in
     let c : s .reset ≡ t .reset = cc in
-    λ i. Dff (record { dataIn = a i; enable = b i; reset = c i })
+    λ i. Dff (record { dataIn = a i; enable = b i; reset = c i; start = v i })
 
 sameGate-is : (x y : Gate) → sameGate x y ≡ true → x ≡ y
 unfolding sameGate
 sameGate-is x y e =
-    gate-by x y (eqb-true (formCell x) (formCell y) (and-left (eqb (formCell x) (formCell y)) (sameList sameSignal (pins x) (pins y)) e))
-    (sameList-is sameSignal sameSignal-is (pins x) (pins y) (and-right (eqb (formCell x) (formCell y)) (sameList sameSignal (pins x) (pins y)) e))
+    let form = eqb (formCell x) (formCell y) in
+    let ins = sameList sameSignal (pins x) (pins y) in
+    let start = Bool·beq (startBit x) (startBit y) in
+    let both : (form && ins) ≡ true = and-left (form && ins) start e in
+    gate-by x y (eqb-true (formCell x) (formCell y) (and-left form ins both))
+    (sameList-is sameSignal sameSignal-is (pins x) (pins y) (and-right form ins both))
+    (sameBit-is (startBit x) (startBit y) (and-right (form && ins) start e))
 
 -- networks that pass the test are equal
 pub sameNet-is : (a b : Net) → sameNet a b ≡ true → a ≡ b
@@ -172,12 +178,17 @@ holds-means (runs t rows outs) e = ran (readText t) refl (and-left _ _ e) (and-r
 
 -- whether a check holds, with every definition open that reading a text and writing a network go through
 unfoldable pub computed : Check → Bool
-unfolding flatMap headD same hit uses useCount recorded order sortOrder sorted consFirst split dropCR lines cut continues before joined isBlank nonEmpty tokens modelStmt latchStmt stmtOf keywordOf parsedLine parsed firstBad stmts usedNames cubes decls insOf outsOf defsOf ins outs defs coverOut coverIns defines columns output isOne spaced line _orElse_ refuseIf added gateCount pinCount tooLarge definedTwice naming undefined goodLine coverFault coverFaults declFault declsOf readFault answer builtFrom readText sameList sameSignal sameGate sameNet agrees holds
+unfolding flatMap headD same hit uses useCount recorded order sortOrder sorted consFirst split dropCR lines cut continues before joined isBlank nonEmpty tokens modelStmt initOf initAmong latchWith latchStmt stmtOf keywordOf parsedLine parsed firstBad stmts usedNames cubes decls insOf outsOf defsOf ins outs defs coverOut coverIns defines columns output isOne spaced line _orElse_ refuseIf added gateCount pinCount tooLarge definedTwice naming undefined goodLine coverFault coverFaults declFault declsOf readFault answer builtFrom readText sameList sameSignal sameGate sameNet agrees holds
 computed c = holds c
 
 pub table-holds : T (all (all holds) table)
 unfolding computed table
 table-holds = tt
+
+-- the start values
+pub starts-hold : T (all holds starts)
+unfolding computed starts
+starts-hold = tt
 
 -- ---- behind `.end`
 

@@ -6,7 +6,7 @@ use lib.Dec.{eqb}
 use Rattle.lists.specs.Lists.{Bytes, same}
 use Rattle.refusals.specs.Numbers.{numberOf}
 use Rattle.signal.specs.Signal.{Signal}
-use Rattle.gates.specs.Gate.{Gate, pins}
+use Rattle.gates.specs.Gate.{Gate, pins, startBit}
 use Rattle.gates.specs.Forms.{formCell}
 use Rattle.network.specs.Net.{Net, netFrom}
 use Rattle.network.specs.Settle.{run}
@@ -27,9 +27,9 @@ sameList p (x ∷ xs) (y ∷ ys) = p x y && sameList p xs ys
 unfoldable pub sameSignal : Signal → Signal → Bool
 sameSignal s t = sameNode (s .node) (t .node) && Bool·beq (s .inv) (t .inv)
 
--- the same form and the same inputs
+-- the same form, the same inputs and the same start value
 unfoldable pub sameGate : Gate → Gate → Bool
-sameGate x y = eqb (formCell x) (formCell y) && sameList sameSignal (pins x) (pins y)
+sameGate x y = eqb (formCell x) (formCell y) && sameList sameSignal (pins x) (pins y) && Bool·beq (startBit x) (startBit y)
 
 -- the same inputs, gates and outputs
 unfoldable pub sameNet : Net → Net → Bool

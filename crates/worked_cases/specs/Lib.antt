@@ -1,3 +1,4 @@
 pub mod Cases
+pub mod Starts
 pub mod Checks
 pub mod Stored

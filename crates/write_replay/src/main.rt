@@ -62,7 +62,7 @@ fn replay_cells(
     kept: &mut [u32],
     out: &mut [u8],
 ) {
-    let mut kept_gates = [0u32; 3076];
+    let mut kept_gates = [0u32; 4101];
     let mut kept_outputs = [0u32; 258];
     read_words(gates, &mut kept_gates);
     read_words(pins, kept);
@@ -85,10 +85,10 @@ fn replay_network(number: u32) {
     print_line(b"network ", number as usize);
     let counts = read_counts();
     let l = read_word() as usize % 32801;
-    let g = read_word() as usize % 3077;
+    let g = read_word() as usize % 4102;
     let p = read_word() as usize % 16387;
     let o = read_word() as usize % 259;
-    let mut gates = [0u32; 3076];
+    let mut gates = [0u32; 4101];
     let mut pins = [0u32; 16386];
     let mut outputs = [0u32; 258];
     let mut kept = [0u32; 16386];
@@ -106,15 +106,15 @@ fn replay_network(number: u32) {
 // What is told of a text without bytes and of a refusal: kind 0 where the last byte is not zero, kind 1, 2 or 3 where the last cell of gates,
 // pins or outputs has changed, kind 4 where the text is longer than the slice.
 fn show_kind(kind: u32) {
-    let mut gates = [0u32; 3076];
+    let mut gates = [0u32; 4101];
     let mut pins = [0u32; 16386];
     let mut outputs = [0u32; 258];
     let mut out = [0u8; 32800];
-    let kept_gates = [0u32; 3076];
+    let kept_gates = [0u32; 4101];
     let kept_pins = [0u32; 16386];
     let kept_outputs = [0u32; 258];
     out[32799] = (kind == 0) as u8;
-    put_word(&mut gates, 3075, (kind == 1) as u32);
+    put_word(&mut gates, 4100, (kind == 1) as u32);
     put_word(&mut pins, 16385, (kind == 2) as u32);
     put_word(&mut outputs, 257, (kind == 3) as u32);
     let mut length = 0;

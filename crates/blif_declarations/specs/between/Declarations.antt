@@ -22,7 +22,7 @@ declAt text tokens n next.Model = model ∷ []
 declAt text tokens n next.End = end ∷ []
 declAt text tokens n (next.Inputs run) = inputs (names text tokens run) ∷ []
 declAt text tokens n (next.Outputs run) = outputs (names text tokens run) ∷ []
-declAt text tokens n (next.Latch first) = gate (latchFrom text tokens first) ∷ []
+declAt text tokens n (next.Latch run) = gate (latchFrom text tokens (run .first) (run .count)) ∷ []
 declAt text tokens n (next.Cover block) = gate (coverFrom text tokens n (block .first) (block .names) (block .lines)) ∷ []
 declAt text tokens n next.None = []
 
@@ -43,7 +43,7 @@ PlacesIn text tokens n next.Model = Unit {0}
 PlacesIn text tokens n next.End = Unit {0}
 PlacesIn text tokens n (next.Inputs run) = run .first + run .count ≤ n
 PlacesIn text tokens n (next.Outputs run) = run .first + run .count ≤ n
-PlacesIn text tokens n (next.Latch first) = first + 2 ≤ n
+PlacesIn text tokens n (next.Latch run) = (2 ≤ run .count) × (run .first + run .count ≤ n)
 PlacesIn text tokens n (next.Cover block) = CoverIn text tokens n block
 PlacesIn text tokens n next.None = Unit {0}
 
@@ -63,7 +63,7 @@ abbrev pub declaredBy : Keyword → Run → ℕ → Declaration
 declaredBy key.Model names lines = next.Model
 declaredBy key.Inputs names lines = next.Inputs names
 declaredBy key.Outputs names lines = next.Outputs names
-declaredBy key.Latch names lines = next.Latch (names .first)
+declaredBy key.Latch names lines = next.Latch names
 declaredBy key.Names names lines = next.Cover (record { first = names .first; names = names .count; lines = lines })
 declaredBy key.End names lines = next.End
 declaredBy key.Exdc names lines = next.None

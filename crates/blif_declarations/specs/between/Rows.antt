@@ -2,14 +2,13 @@
 use mathlib.Core.Path.{_≡_}
 use mathlib.Core.List.{List, _∷_}
 use Prim.Native.Nat.{ℕ, _+_, _≤_, _<_}
-use lib.ListN.{length, getD, take}
+use lib.ListN.{length, take}
 use lib.Seq.{slice}
 use Rattle.lists.specs.Lists.{Bytes, sumOf}
-use Rattle.blif_meaning.specs.Model.{plainLatch}
 use Rattle.blif_text.specs.Statements.{Stmt}
 use Rattle.blif_text.specs.Decls.{cubes, decls}
-use Rattle.blif_text.specs.between.Places.{tokenOf, tokensOf}
-use Rattle.blif_text.specs.between.PlacedStatements.{namesRun}
+use Rattle.blif_text.specs.between.Places.{tokensOf}
+use Rattle.blif_text.specs.between.PlacedStatements.{latchIn, namesRun}
 use Rattle.blif_text.specs.between.Walk.{rowsFrom, stmtsFrom, StmtsAt}
 use Rattle.blif_text.specs.declared.Run.{Run}
 use Rattle.blif_text.specs.declared.Keyword.{Keyword}
@@ -28,7 +27,7 @@ Starts text tokens n at end key.Inputs = stmtsFrom text tokens n at ≡ Stmt.inp
 Starts text tokens n at end key.Outputs = stmtsFrom text tokens n at ≡ Stmt.outputs (names text tokens (namesRun at end)) ∷ stmtsFrom text tokens n end
 Starts text tokens n at end key.Names = stmtsFrom text tokens n at ≡ Stmt.names (names text tokens (namesRun at end)) ∷ stmtsFrom text tokens n end
 Starts text tokens n at end key.Latch =
-    (stmtsFrom text tokens n at ≡ Stmt.latch (plainLatch (tokenOf text (getD tokens (at + 1) 0)) (tokenOf text (getD tokens (at + 1 + 1) 0))) ∷ stmtsFrom text tokens n end)
+    (stmtsFrom text tokens n at ≡ Stmt.latch (latchIn text tokens (namesRun at end)) ∷ stmtsFrom text tokens n end)
     × (at + 1 + 2 ≤ end)
 Starts text tokens n at end key.Cube = stmtsFrom text tokens n at ≡ Stmt.cube (tokensOf text (slice at end tokens)) ∷ stmtsFrom text tokens n end
 Starts text tokens n at end key.Unsupported = ⊥

@@ -40,13 +40,13 @@ Holds (read net) a gs ps os = (a ≡ Read (countsOf net)) × Laid net (lent (cou
 
 -- as many cells are lent as refusal 1 asks for
 pub record Enough (gs ps os wgs wps : List ℕ) : Type 0 where
-  -- "3,072 for gates"
+  -- "4,096 gate cells"
   pub gates : maxGates * gateWidth ≤ length gs
   -- "16,384 for pins"
   pub pins : maxPins ≤ length ps
   -- "256 for outputs"
   pub outputs : maxOutputs ≤ length os
-  -- "3,072 .. again as working cells"
+  -- "and as many working ones"
   pub workGates : maxGates * gateWidth ≤ length wgs
   -- "16,384 again as working cells"
   pub workPins : maxPins ≤ length wps

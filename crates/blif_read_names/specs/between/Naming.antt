@@ -21,6 +21,7 @@ use Rattle.blif_text.specs.between.Places.{maxTokens, InText, tokenOf, tokensOf
 use Rattle.blif_text.specs.between.Walk.{stmtsFrom, Inside, StmtsAt}
 use Rattle.blif_text.specs.between.Blocks.{blockWidth, defsAt, Blocks}
 use Rattle.blif_text.specs.declared.Block.{Block}
+use Rattle.blif_text.specs.declared.Run.{Run}
 use Rattle.name_index.specs.between.Search.{Entry, entry}
 use Rattle.name_index.specs.between.Index.{maxNames, entryCount, entriesOf, Index}
 use Rattle.blif_reading.specs.Read.{tooLarge, definedTwice, naming}
@@ -106,9 +107,9 @@ pub record CoverDefined (text tokens index : List ℕ) (k g : ℕ) (block : Bloc
   pub last : (block .names ≡ 0 → ⊥)
       → GateDefined text index k g (tokenOf text (getD tokens (block .first + block .names - 1) 0)) block blocks index′ blocks′ r
 
--- the block of a latch by its first name
-abbrev pub latchBlock : ℕ → Block
-latchBlock first = record { first = first; names = 0; lines = 0 }
+-- the block of a latch by the tokens behind `.latch`
+abbrev pub latchBlock : Run → Block
+latchBlock run = record { first = run .first; names = 0; lines = run .count }
 
 -- whether there was a `.model`
 abbrev pub seen : Walk → Bool
@@ -128,20 +129,20 @@ stepOf Fine w = step.Next w
 stepOf (Refused r) w = step.Refused r
 
 -- gate g can be defined by a latch
-pub record LatchFits (text tokens index blocks : List ℕ) (w : Walk) (first : ℕ) : Type 0 where
+pub record LatchFits (text tokens index blocks : List ℕ) (w : Walk) (run : Run) : Type 0 where
   -- its second name is there
-  pub there : first + 1 < length tokens
+  pub there : run .first + 1 < length tokens
   -- and can define a gate
-  pub gate : GateFits text index (w .gates) (getD tokens (first + 1) 0) (latchBlock first) blocks
+  pub gate : GateFits text index (w .gates) (getD tokens (run .first + 1) 0) (latchBlock run) blocks
 
 -- a latch is passed
-pub record LatchStep (text tokens index blocks index′ blocks′ : List ℕ) (w : Walk) (first : ℕ) (s : Step) : Type 0 where
+pub record LatchStep (text tokens index blocks index′ blocks′ : List ℕ) (w : Walk) (run : Run) (s : Step) : Type 0 where
   -- its refusal, if it has one
   pub checked : Checked
   -- else the walk goes on behind it
   pub walk : s ≡ stepOf checked (gateWalk w)
   -- its second name defines a gate
-  pub gate : GateDefined text index (entryCount index) (w .gates) (tokenOf text (getD tokens (first + 1) 0)) (latchBlock first) blocks index′ blocks′ checked
+  pub gate : GateDefined text index (entryCount index) (w .gates) (tokenOf text (getD tokens (run .first + 1) 0)) (latchBlock run) blocks index′ blocks′ checked
 
 -- a cover and its lines are passed
 pub record CoverStep (text tokens index blocks index′ blocks′ : List ℕ) (w : Walk) (block : Block) (s : Step) : Type 0 where

@@ -12,7 +12,10 @@ use Rattle.gates.specs.declared.Gate.the-variants as G
 use Rattle.gates.specs.declared.NaryType.the-variants as N
 use Rattle.network.specs.Record.{gateWidth}
 use Rattle.network.specs.between.Record.{handRecord}
+use Rattle.blif_meaning.specs.Model.{initBit, LatchDef}
 use Rattle.blif_text.specs.Decls.{Def, latch, cover, coverIns, usedNames}
+use Rattle.blif_text.specs.between.Walk.{Inside}
+use Rattle.blif_text.specs.between.PlacedStatements.{latchIn}
 use Rattle.blif_reading.specs.between.Working.{WorkRoom}
 use Rattle.blif_read_signals.specs.between.Resolve.{isFound, placedTo}
 use Rattle.blif_read_signals.specs.declared.Placed.{Placed}
@@ -35,6 +38,17 @@ pub record GatePlaced (sig : Bytes → ℕ) (x : code.Gate) (names : List Bytes)
   -- the run
   pub runs : all isFound (map sig names) ≡ true → pinsIn′ ≡ overwriteAt at run pinsIn
 
+-- the tokens behind a `.latch` that has its names
+pub record LatchTokens (text tokens : List ℕ) : Type 0 where
+  -- each is a place within the text
+  pub inside : Inside text tokens (length tokens)
+  -- its two names are among them
+  pub two : 2 ≤ length tokens
+
+-- the latch of these tokens
+abbrev pub latchOf : Bytes → List ℕ → LatchDef Bytes
+latchOf text tokens = latchIn text tokens (record { first = 0; count = length tokens })
+
 -- the Nary And in hand of so many pins from cell `at` on
 abbrev pub andInHand : ℕ → ℕ → code.Gate
 andInHand at count = G.Nary N.And (record { first = at; count = count })
@@ -42,7 +56,8 @@ andInHand at count = G.Nary N.And (record { first = at; count = count })
 -- the gate in hand that is first placed for a definition, its pins from cell `at` on: a Dff, whose enable is one and whose reset zero where
 -- they are left out, or a Nary And
 abbrev pub placedInHand : (Bytes → ℕ) → ℕ → Def → code.Gate
-placedInHand sig at (latch l) = G.Dff (record { a = sig (l .input) }) (record { a = optional sig 1 (l .enable) }) (record { a = optional sig 0 (l .reset) })
+placedInHand sig at (latch l) =
+    G.Dff (record { a = sig (l .input) }) (record { a = optional sig 1 (l .enable) }) (record { a = optional sig 0 (l .reset) }) (initBit (l .init))
 placedInHand sig at (cover ns ls) = andInHand at (length (coverIns ns))
 
 -- the cells of its pins

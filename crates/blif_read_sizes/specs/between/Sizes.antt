@@ -18,7 +18,7 @@ Few next.Model = Unit {0}
 Few next.End = Unit {0}
 Few (next.Inputs run) = run .count ≤ maxTokens
 Few (next.Outputs run) = run .count ≤ maxTokens
-Few (next.Latch first) = Unit {0}
+Few (next.Latch run) = Unit {0}
 Few (next.Cover block) = (block .names ≤ maxTokens) × (block .lines ≤ maxTokens)
 Few next.None = Unit {0}
 
@@ -32,7 +32,7 @@ sizesOf next.Model = sizes 0 0 0 0
 sizesOf next.End = sizes 0 0 0 0
 sizesOf (next.Inputs run) = sizes (run .count) 0 0 0
 sizesOf (next.Outputs run) = sizes 0 (run .count) 0 0
-sizesOf (next.Latch first) = sizes 0 0 1 3
+sizesOf (next.Latch run) = sizes 0 0 1 3
 sizesOf (next.Cover block) = sizes 0 0 (1 + added (block .lines)) ((block .lines + 1) * (block .names - 1 + 2))
 sizesOf next.None = sizes 0 0 0 0
 

@@ -49,7 +49,7 @@ builtGates signalOf ds = gatesFor signalOf (map blockOf ds)
 
 -- the working cells have room for what is counted of the definitions (refusal 6), and for the gates placed first
 pub record WorkRoom (gates pinsIn : List ℕ) : Type 0 where
-  -- "3,072 for gates"
+  -- "4,096 gate cells and as many working ones"
   pub gateRoom : maxGates * gateWidth ≤ length gates
   -- "16,384 for pins"
   pub pinRoom : maxPins ≤ length pinsIn

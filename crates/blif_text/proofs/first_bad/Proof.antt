@@ -4,6 +4,7 @@ use Prim.Native.Nat.{_-_}
 use native.Mathlib.Omega.{arith}
 use lib.ListN.{length}
 use borrow.Author.Needs.{needs}
+use Rattle.blif_text.proofs.RowWalk.{inside-less}
 use Rattle.blif_text.proofs.RefusalLaws.{Passing, passing-start, passing-done, passing-stop, passing-next}
 use Rattle.blif_text.proofs.first_bad.Statement.{statement}
 use Rattle.blif_text.proofs.first_bad.Tie as tie
@@ -24,7 +25,7 @@ refusal-at-requires : tie.Need-refusal-at-requires Inv-loop μ-loop
 refusal-at-requires c κs =
     let v = c .before .before .loop .inv in
     let w = c .row-end .ensures in
-    ((w .low, omega (arith, w .high, v .rows .places .room)), v .rows .places .inside (c .before .before .loop .at) (c .before .loop-test .taken))
+    (w .low, inside-less (w .high) (v .rows .places))
 
 returns : tie.Need-returns Inv-loop μ-loop
 returns c =

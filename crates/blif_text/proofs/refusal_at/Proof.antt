@@ -9,15 +9,18 @@ use Rattle.blif_text.proofs.KeywordLaws.{no-dot-first}
 use Rattle.blif_text.proofs.refusal_at.Statement.{statement}
 use Rattle.blif_text.proofs.refusal_at.Tie as tie
 
+token-requires : tie.Need-token-requires
+token-requires c κs = let s = c .before .before .before in s .pre .1 .inside (s .args .at) (s .pre .0)
+
 returns : tie.Need-returns
 returns c =
     let s = c .before .before .before .before .before .before .args in
     let no-dot = sym (c .before .has-leading-dot .ensures ∙ ap leadingDot (c .before .before .token .ensures)) ∙ not-true _ (c .if1 .taken) in
-    sym (ap (λ (k : Keyword). refusalIn (statementOf k (s .at) (s .end))) (no-dot-first _ no-dot))
+    sym (ap (λ (k : Keyword). refusalIn (statementOf (s .text .now) (s .cells .now) k (s .at) (s .end))) (no-dot-first _ no-dot))
 
 returns-2 : tie.Need-returns-2
 returns-2 c = c .refusal-of .ensures ∙ ap refusalIn (c .before .statement-at .ensures)
 
 pub refusal-at-spec : {M : Type 1} → statement M
 refusal-at-spec = tie.close (tie.spec
-    (λ c. search needs) (λ c. search needs) (λ c κs. search needs) (λ c κs. search needs) returns (λ c κs. search needs) (λ c κs. search needs) returns-2)
+    (λ c. search needs) (λ c. search needs) token-requires (λ c κs. search needs) returns (λ c κs. search needs) (λ c κs. search needs) returns-2)

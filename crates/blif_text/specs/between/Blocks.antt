@@ -6,9 +6,9 @@ use Prim.Native.Nat.{ℕ, zero, suc, _+_, _*_, _≤_, _<_}
 use lib.ListN.{length, getD, take}
 use lib.Seq.{slice}
 use Rattle.lists.specs.Lists.{Bytes, range}
-use Rattle.blif_meaning.specs.Model.{plainLatch}
 use Rattle.blif_text.specs.Decls.{Def, latch, cover}
-use Rattle.blif_text.specs.between.Places.{maxTokens, tokenOf, tokensOf}
+use Rattle.blif_text.specs.between.Places.{maxTokens, tokensOf}
+use Rattle.blif_text.specs.between.PlacedStatements.{latchIn}
 use Rattle.blif_text.specs.between.Walk.{rowsFrom, Inside, RowsAt}
 
 -- the cells of a block's record
@@ -23,13 +23,13 @@ firstName blocks j = getD blocks (j * blockWidth) 0
 abbrev pub nameCount : List ℕ → ℕ → ℕ
 nameCount blocks j = getD blocks (j * blockWidth + 1) 0
 
--- how many cube lines a cover has
+-- how many cube lines a cover has; of a latch, how many tokens stand behind `.latch`
 abbrev pub lineCount : List ℕ → ℕ → ℕ
 lineCount blocks j = getD blocks (j * blockWidth + 2) 0
 
--- a latch by the token of its first name
-abbrev pub latchFrom : Bytes → List ℕ → ℕ → Def
-latchFrom text tokens first = latch (plainLatch (tokenOf text (getD tokens first 0)) (tokenOf text (getD tokens (first + 1) 0)))
+-- a latch by the token of its first name, and how many tokens it has
+abbrev pub latchFrom : Bytes → List ℕ → ℕ → ℕ → Def
+latchFrom text tokens first count = latch (latchIn text tokens (record { first = first; count = count }))
 
 -- a cover by the token of its first name, and how many names it has; its lines are the rows behind them
 abbrev pub coverFrom : Bytes → List ℕ → ℕ → ℕ → ℕ → ℕ → Def
@@ -38,7 +38,7 @@ coverFrom text tokens n first names lines =
 
 -- a latch, which is told by no name count; or a cover
 abbrev pub defFrom : Bytes → List ℕ → ℕ → ℕ → ℕ → ℕ → Def
-defFrom text tokens n first zero lines = latchFrom text tokens first
+defFrom text tokens n first zero lines = latchFrom text tokens first lines
 defFrom text tokens n first (suc k) lines = coverFrom text tokens n first (suc k) lines
 
 -- the definition that block j's record places
@@ -51,8 +51,10 @@ defsAt text tokens n blocks g = map (defAt text tokens n blocks) (range 0 g)
 
 -- a block's names and lines are among the n tokens
 pub record BlockIn (text tokens : List ℕ) (n first names lines : ℕ) : Type 0 where
-  -- a latch has two names
-  pub latchNames : names ≡ 0 → first + 2 ≤ n
+  -- a latch has two names or more tokens
+  pub latchNames : names ≡ 0 → 2 ≤ lines
+  -- which are among them
+  pub latchTokens : names ≡ 0 → first + lines ≤ n
   -- a cover's names
   pub coverNames : first + names ≤ n
   -- rows stand behind them

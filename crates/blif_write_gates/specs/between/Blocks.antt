@@ -17,14 +17,14 @@ blockText b = flatMap line (blockLines b)
 unfoldable pub fieldText : Bool → Bytes → Signal → Bytes
 fieldText v key s = cond (isConst v s) [] (key ++ nameBytes s)
 
--- the latch of flip-flop g with this data, enable and reset
-abbrev pub storedLatch : Signal → Signal → Signal → ℕ → LatchDef Bytes
-storedLatch d e r g = latchOf nameBytes g (record { dataIn = d; enable = e; reset = r })
+-- the latch of flip-flop g with this data, enable, reset and start value
+abbrev pub storedLatch : Signal → Signal → Signal → Bool → ℕ → LatchDef Bytes
+storedLatch d e r v g = latchOf nameBytes g (record { dataIn = d; enable = e; reset = r; start = v })
 
--- "`.flop D=d Q=xN init=0`, then ` E=e` unless enable is one, then ` R=r` unless reset is zero"
-unfoldable pub flopText : Signal → Signal → Signal → ℕ → Bytes
-flopText d e r g = line (flopLine (storedLatch d e r g))
+-- "`.flop D=d Q=xN init=0`, then ` E=e` unless enable is one, then ` R=r` unless reset is zero", the start value "in place of the fixed 0"
+unfoldable pub flopText : Signal → Signal → Signal → Bool → ℕ → Bytes
+flopText d e r v g = line (flopLine (storedLatch d e r v g))
 
 -- the line of a flip-flop
-unfoldable pub storedText : Signal → Signal → Signal → ℕ → Bytes
-storedText d e r g = line (storedLine (storedLatch d e r g))
+unfoldable pub storedText : Signal → Signal → Signal → Bool → ℕ → Bytes
+storedText d e r v g = line (storedLine (storedLatch d e r v g))

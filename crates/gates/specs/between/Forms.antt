@@ -4,7 +4,7 @@ use mathlib.Core.Bool.{Bool, false}
 use mathlib.Core.List.{List}
 use mathlib.Core.Option.{Option, none}
 use Prim.Native.Nat.{ℕ}
-use lib.Dec.{eqb}
+use lib.Dec.{eqb, leb}
 use Rattle.lists.specs.Lists.{if_then_else_, optional}
 use Rattle.signal.specs.Signal.{Signal}
 use Rattle.gates.specs.Gate.{Form, And2, Xor2, And3, Xor3, Maj3, Mux3, AndN, OrN, NandN, NorN, XorN, XnorN, Buf, Gate}
@@ -68,16 +68,25 @@ kindTakes K.Buf n = canHave Buf n
 kindTakes K.Dff n = eqb n 3
 kindTakes K.Unknown n = false
 
+-- whether a kind can have this start value
+abbrev pub kindStarts : Kind → ℕ → Bool
+kindStarts (K.Binary t) v = eqb v 0
+kindStarts (K.Ternary t) v = eqb v 0
+kindStarts (K.Nary t) v = eqb v 0
+kindStarts K.Buf v = eqb v 0
+kindStarts K.Dff v = leb v 1
+kindStarts K.Unknown v = eqb v 0
+
 -- ---- from a number and pins to a gate
 
--- the gate of a kind and pins
-abbrev pub gateOfKind : Kind → List Signal → Option Gate
-gateOfKind (K.Binary t) ps = combFrom (binaryForm t) ps
-gateOfKind (K.Ternary t) ps = combFrom (ternaryForm t) ps
-gateOfKind (K.Nary t) ps = combFrom (naryForm t) ps
-gateOfKind K.Buf ps = combFrom Buf ps
-gateOfKind K.Dff ps = flopFrom ps
-gateOfKind K.Unknown ps = none
+-- the gate of a kind, a start value and pins
+abbrev pub gateOfKind : Kind → ℕ → List Signal → Option Gate
+gateOfKind (K.Binary t) v ps = combFrom (binaryForm t) ps
+gateOfKind (K.Ternary t) v ps = combFrom (ternaryForm t) ps
+gateOfKind (K.Nary t) v ps = combFrom (naryForm t) ps
+gateOfKind K.Buf v ps = combFrom Buf ps
+gateOfKind K.Dff v ps = flopFrom (eqb v 1) ps
+gateOfKind K.Unknown v ps = none
 
 -- the form number of a kind; 0 for an unknown one
 abbrev pub kindNumber : Kind → ℕ

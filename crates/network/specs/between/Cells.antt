@@ -8,10 +8,10 @@ use Prim.Native.Nat.{ℕ, _*_, _^_, _≤_, _<_}
 use lib.ListN.{length, take}
 use Rattle.signal.specs.Cell.{sigCell, nodeOf, sigOf}
 use Rattle.gates.specs.Gate.{Gate, pins}
-use Rattle.gates.specs.Forms.{formCell, formed}
+use Rattle.gates.specs.Forms.{formCell, startCell, formed}
 use Rattle.network.specs.Net.{Net}
 use Rattle.network.specs.Sizes.{maxInputs, maxGates}
-use Rattle.network.specs.Record.{gateWidth, formAt, countAt, runAt, gateAt, gateCells, pinCells}
+use Rattle.network.specs.Record.{gateWidth, formAt, countAt, startAt, runAt, gateAt, gateCells, pinCells}
 use Rattle.network.specs.Cells.{Lent, validNode, countsOf}
 use Rattle.network.specs.between.Record.{HasRun}
 
@@ -47,6 +47,8 @@ pub record GateCells (inputs n : ℕ) (cells ps : List ℕ) (g : ℕ) : Type 0 w
   pub is : gateAt cells ps g ≡ some gate
   -- its form's number
   pub form : formAt cells g ≡ formCell gate
+  -- its start value
+  pub start : startAt cells g ≡ startCell gate
   -- its inputs are the run's
   pub run : pins gate ≡ map sigOf (runAt cells ps g)
   -- as many as the record says

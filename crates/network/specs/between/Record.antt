@@ -6,15 +6,16 @@ use mathlib.Core.List.{List, [], _∷_}
 use Prim.Native.Nat.{ℕ, suc, _+_, _*_, _^_, _<_, _≤_}
 use lib.ListN.{length, take, drop}
 use Rattle.lists.specs.between.Lists.{overwriteAt}
+use Rattle.signal.specs.Cell.{bitOf}
 use Rattle.gates.specs.Gate.{Gate, pins}
 use Rattle.gates.specs.between.Forms.{kindOf, kindNumber}
-use Rattle.gates.specs.between.Decode.{pinsIn, pinCount, kindOfGate, withPins}
+use Rattle.gates.specs.between.Decode.{pinsIn, pinCount, kindOfGate, startIn, withPins}
 use Rattle.gates.specs.declared.Gate as code
 use Rattle.gates.specs.declared.Gate.the-variants as G
 use Rattle.gates.specs.declared.Decoded.{Decoded}
 use Rattle.gates.specs.declared.Decoded.the-variants.{Bad}
 use Rattle.network.specs.Sizes.{maxPins}
-use Rattle.network.specs.Record.{gateWidth, recordCells, formAt, firstAt, countAt, runAt, hasRun, pinCells}
+use Rattle.network.specs.Record.{gateWidth, recordCells, formAt, firstAt, countAt, startAt, runAt, hasRun, pinCells}
 
 -- gate g's record
 abbrev pub recordAt : List ℕ → ℕ → List ℕ
@@ -26,7 +27,7 @@ withFirst at r = overwriteAt 1 (at ∷ []) r
 
 -- the same as the code's `Gate`, a Nary gate with the run that its record has: the first pin of a run without pins is the record's too
 unfoldable pub decodedAt : List ℕ → List ℕ → ℕ → Decoded
-decodedAt cells pinCells g = cond (hasRun cells pinCells g) (withPins (kindOf (formAt cells g)) (firstAt cells g) (runAt cells pinCells g)) Bad
+decodedAt cells pinCells g = cond (hasRun cells pinCells g) (withPins (kindOf (formAt cells g)) (firstAt cells g) (startAt cells g) (runAt cells pinCells g)) Bad
 
 -- ---- what functions tell each other of records
 
@@ -51,7 +52,7 @@ pub record HasRun (gates pins : List ℕ) (g : ℕ) : Type 0 where
 
 -- the record of a gate in hand, its pins starting at cell `at`
 abbrev pub handRecord : ℕ → code.Gate → List ℕ
-handRecord at x = recordCells (kindNumber (kindOfGate x)) at (pinCount x)
+handRecord at x = recordCells (kindNumber (kindOfGate x)) at (pinCount x) (bitOf (startIn x))
 
 -- a Nary gate's run starts at cell `at`
 abbrev pub RunFrom : ℕ → code.Gate → Type 0
@@ -59,7 +60,7 @@ RunFrom at (G.Binary t a b) = Unit {0}
 RunFrom at (G.Ternary t a b c) = Unit {0}
 RunFrom at (G.Nary t r) = r .first ≡ at
 RunFrom at (G.Buf a) = Unit {0}
-RunFrom at (G.Dff d e r) = Unit {0}
+RunFrom at (G.Dff d e r v) = Unit {0}
 
 -- a gate in hand can be laid as gate g, with its pins from cell `at` on
 pub record LayRoom (x : code.Gate) (g at : ℕ) (gates pinsIn : List ℕ) : Type 0 where

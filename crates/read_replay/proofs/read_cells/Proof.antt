@@ -11,7 +11,7 @@ abbrev ones : ℕ
 ones = 4294967295
 
 slice-aggregate-read-into : tie.Need-slice-aggregate-read-into
-slice-aggregate-read-into c = first-cells 3073 ones (omega arith)
+slice-aggregate-read-into c = first-cells 4097 ones (omega arith)
 
 slice-aggregate-read-into-2 : tie.Need-slice-aggregate-read-into-2
 slice-aggregate-read-into-2 c = first-cells 16385 ones (omega arith)
@@ -20,7 +20,7 @@ slice-aggregate-read-into-3 : tie.Need-slice-aggregate-read-into-3
 slice-aggregate-read-into-3 c = first-cells 257 ones (omega arith)
 
 slice-aggregate-read-into-4 : tie.Need-slice-aggregate-read-into-4
-slice-aggregate-read-into-4 c = first-cells 3073 ones (omega arith)
+slice-aggregate-read-into-4 c = first-cells 4097 ones (omega arith)
 
 slice-aggregate-read-into-5 : tie.Need-slice-aggregate-read-into-5
 slice-aggregate-read-into-5 c = first-cells 16385 ones (omega arith)

@@ -6,7 +6,7 @@ use Rattle.report_replay.proofs.replay_report.Statement.{statement}
 use Rattle.report_replay.proofs.replay_report.Tie as tie
 
 slice-aggregate-replay-lengths : tie.Need-slice-aggregate-replay-lengths
-slice-aggregate-replay-lengths c = first-cells 3073 4294967295 (omega arith)
+slice-aggregate-replay-lengths c = first-cells 4097 4294967295 (omega arith)
 
 slice-aggregate-replay-lengths-2 : tie.Need-slice-aggregate-replay-lengths-2
 slice-aggregate-replay-lengths-2 c = first-cells 16385 4294967295 (omega arith)
@@ -15,7 +15,7 @@ slice-aggregate-replay-lengths-3 : tie.Need-slice-aggregate-replay-lengths-3
 slice-aggregate-replay-lengths-3 c = first-cells 257 4294967295 (omega arith)
 
 slice-aggregate-replay-lengths-4 : tie.Need-slice-aggregate-replay-lengths-4
-slice-aggregate-replay-lengths-4 c = first-cells 3073 4294967295 (omega arith)
+slice-aggregate-replay-lengths-4 c = first-cells 4097 4294967295 (omega arith)
 
 slice-aggregate-replay-lengths-5 : tie.Need-slice-aggregate-replay-lengths-5
 slice-aggregate-replay-lengths-5 c = first-cells 16385 4294967295 (omega arith)

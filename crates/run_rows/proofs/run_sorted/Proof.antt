@@ -23,9 +23,19 @@ abbrev μ-loop : tie.MeasureT-loop
 μ-loop gates pins outputs rows out₀ inputs n slots tables flops bits₀ next₀ k width line at₀ to₀ out bits next at to =
     length rows - at
 
+-- the entry, from where the tables, the list and the bits are lent
+abbrev entry-tables : tie.After-tables Inv-loop μ-loop → tie.Start Inv-loop μ-loop
+entry-tables c = c .before .before .before .before .before .before .before
+
+abbrev entry-flops : tie.After-flops Inv-loop μ-loop → tie.Start Inv-loop μ-loop
+entry-flops c = entry-tables (c .before .before .before .before)
+
+abbrev entry-bits : tie.After-bits Inv-loop μ-loop → tie.Start Inv-loop μ-loop
+entry-bits c = entry-flops (c .before .before .before)
+
 -- where the loop starts: the entry, and what is laid out
 abbrev entry : tie.After-bits2 Inv-loop μ-loop → tie.Start Inv-loop μ-loop
-entry c = c .before .before .before .before .before .before .before .before .before .before .before .before .before .before .before .before
+entry c = entry-bits (c .before .before)
 
 abbrev slots : tie.After-bits2 Inv-loop μ-loop → List ℕ
 slots c = c .before .before .before .before .before .before .before .before .lay-tables .last .1 .1 .0
@@ -50,22 +60,24 @@ array-borrow-prefix-tables : tie.Need-array-borrow-prefix-tables Inv-loop μ-loo
 array-borrow-prefix-tables c = c .before .before .before .before .before .before .pre .0 .gates .fewGates
 
 slice-aggregate-lay-tables-2 : tie.Need-slice-aggregate-lay-tables-2 Inv-loop μ-loop
-slice-aggregate-lay-tables-2 c = sym (length-take-le {A = ℕ} _ (replicate 1024 0) (c .before .before .before .before .before .before .before .pre .0 .gates .fewGates))
+slice-aggregate-lay-tables-2 c = sym (length-take-le {A = ℕ} _ (replicate 1024 0) (entry-tables c .pre .0 .gates .fewGates))
 
 lay-tables-requires : tie.Need-lay-tables-requires Inv-loop μ-loop
 lay-tables-requires c κs =
-    let start = c .before .before .before .before .before .before .before in
+    let start = entry-tables c in
     let gates = start .pre .0 .gates in
     let long = length-take-le {A = ℕ} _ (replicate 1024 0) (gates .fewGates) in
     ((_, subst (λ (k : ℕ). NetCells (start .args .counts .inputs) k (start .args .gates .now) (start .args .pins .now)) (sym long) gates), omega (arith, long, gates .fewGates))
 
 list-flops-requires : tie.Need-list-flops-requires Inv-loop μ-loop
 list-flops-requires c κs =
-    let gates = c .before .before .before .before .before .before .before .before .before .before .before .pre .0 .gates in
+    let gates = entry-flops c .pre .0 .gates in
     record { few = gates .fewGates; records = λ g h. gates .each g h .has .cells; room = omega (arith, gates .fewGates, length-replicate {A = ℕ} 1024 0) }
 
 start-bits-requires : tie.Need-start-bits-requires Inv-loop μ-loop
-start-bits-requires c κs = record { few = c .before .before .before .before .before .before .before .before .before .before .before .before .before .before .pre .0 .gates .fewGates; size = refl }
+start-bits-requires c κs =
+    let gates = entry-bits c .pre .0 .gates in
+    record { few = gates .fewGates; records = λ g h. gates .each g h .has .cells; size = refl }
 
 add-width : tie.Need-add-width Inv-loop μ-loop
 add-width c = omega (arith, entry c .pre .0 .gates .fewInputs)

@@ -52,10 +52,12 @@ pub record ListRoom (cells : List ℕ) (n : ℕ) (flops : List ℕ) : Type 0 whe
   -- a cell for each
   pub room : n ≤ length flops
 
--- the bits of the constant and of n gates can be put
-pub record StartRoom (n : ℕ) (bits : List Bool) : Type 0 where
+-- n records, and the bits of the constant and of these gates can be put
+pub record StartRoom (cells : List ℕ) (n : ℕ) (bits : List Bool) : Type 0 where
   -- "1,024 gates"
   pub few : n ≤ 1024
+  -- each record
+  pub records : (g : ℕ) → g < n → RecordIn cells g
   -- as many slots as a table has
   pub size : length bits ≡ slotCount
 

@@ -2,6 +2,7 @@
 --   LaidOut          each gate's truth table and slots are laid out
 --   Flops            the list of the flip-flops
 --   Shown, Held      the table of bits has those of a row and of some gates; of the flip-flops alone, before a row
+--   Started          it has the start values, before the first clock
 --   RowSettled       what a row and the gates worked out for it leave
 --   Stepped          what a step of the flip-flops leaves
 --   Clocked          what a clock for each row leaves
@@ -11,6 +12,7 @@ use mathlib.Core.Bool.{Bool, true, false}
 use mathlib.Core.List.{List, []}
 use mathlib.Core.Option.{Option, none, some}
 use Prim.Native.Nat.{ℕ, _+_, _-_, _*_, _≤_, _<_}
+use lib.Dec.{eqb}
 use lib.ListN.{length, getD}
 use Rattle.lists.specs.Lists.{Bytes, zeros}
 use Rattle.refusals.specs.declared.Refusal.{Refusal}
@@ -21,7 +23,7 @@ use Rattle.gates.specs.between.Forms.{kindOf}
 use Rattle.network.specs.Net.{Net}
 use Rattle.network.specs.Settle.{settle, runFrom}
 use Rattle.network.specs.Cells.{cellNet}
-use Rattle.network.specs.Record.{formAt, runAt}
+use Rattle.network.specs.Record.{formAt, startAt, runAt}
 use Rattle.network.specs.between.Cells.{NetCells}
 use Rattle.gate_bits.specs.between.Slots.{slotCount, slotOr, Shows}
 use Rattle.gate_bits.specs.between.Tables.{kindTable, kindPad}
@@ -91,14 +93,10 @@ pub record Shown (row : List Bool) (val : ℕ → Bool) (K : ℕ → Type 0) (bi
 abbrev pub Held : List ℕ → ℕ → (ℕ → Bool) → List Bool → Type 0
 Held cells n held bits = Shown [] held (IsFlop cells n) bits
 
--- the bits of the constant and of n gates are zero
-pub record Started (n : ℕ) (bits : List Bool) : Type 0 where
-  -- as many slots as a table has
-  pub size : length bits ≡ slotCount
-  -- the constant
-  pub const : Shows bits Const false
-  -- the gates
-  pub gates : (g : ℕ) → g < n → Shows bits (Var g) false
+-- before the first clock
+pub record Started (cells : List ℕ) (n : ℕ) (bits : List Bool) : Type 0 where
+  -- the constant's bit at zero, and each of n gates' at its start value
+  pub shown : Shown [] (λ g. eqb (startAt cells g) 1) (λ g. g < n) bits
 
 -- r tells whether the line is a row; if so, the table has its bits
 abbrev pub RowTaken : Option (List Bool) → List Bool → Bool → Type 0

@@ -19,7 +19,7 @@ statement-at-requires : tie.Need-statement-at-requires Inv-loop μ-loop
 statement-at-requires c κs =
     let p = c .before .before .before .before .before .pre in
     let w = c .row-end .ensures in
-    ((w .low, w .high), p .inside (c .before .before .loop .at) (c .before .loop-test .taken))
+    (w .low, record { room = w .high; inside = λ i l. p .inside i (omega (arith, l, w .high)) })
 
 loop-less : tie.Need-loop-less Inv-loop μ-loop
 loop-less c = omega (arith, c .before .before .row-end .ensures .low, c .before .before .before .loop-test .taken)

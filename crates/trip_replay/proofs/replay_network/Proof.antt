@@ -6,7 +6,7 @@ use Rattle.trip_replay.proofs.replay_network.Statement.{statement}
 use Rattle.trip_replay.proofs.replay_network.Tie as tie
 
 slice-aggregate-trip-cells : tie.Need-slice-aggregate-trip-cells
-slice-aggregate-trip-cells c = first-cells 3076 0 (omega arith)
+slice-aggregate-trip-cells c = first-cells 4101 0 (omega arith)
 
 slice-aggregate-trip-cells-2 : tie.Need-slice-aggregate-trip-cells-2
 slice-aggregate-trip-cells-2 c = first-cells 16386 0 (omega arith)
