@@ -7,7 +7,7 @@ mod part;
 
 use inputs::Input;
 use networks::RunInput;
-use part::{Lent, NetworkAnswer, Part, RowsAnswer, TextAnswer, PLACES};
+use part::{Lent, NetworkAnswer, Part, RowsAnswer, TextAnswer, GATE_CELLS, GATE_CELLS_BEFORE, PLACES};
 use std::hint::black_box;
 use std::time::Instant;
 
@@ -17,6 +17,9 @@ struct Placed {
     times: [f64; 3],
 }
 
+// The cells and bytes lent, for each width of a record.
+struct Lents([Lent; 2]);
+
 // The calls, by their places among the times.
 const CALLS: [&str; 3] = ["reading", "writing", "running"];
 const RUNNING: usize = 2;
@@ -25,6 +28,17 @@ const RUNNING: usize = 2;
 struct Sums {
     sums: [Vec<f64>; 3],
     counts: [usize; 3],
+}
+
+impl Lents {
+    fn new() -> Lents {
+        Lents([GATE_CELLS_BEFORE, GATE_CELLS].map(Lent::of_width))
+    }
+
+    // Those of the width that a library takes.
+    fn of(&mut self, part: Part) -> &mut Lent {
+        &mut self.0[usize::from(part.gate_cells == GATE_CELLS)]
+    }
 }
 
 fn least<T>(best: &mut f64, f: impl FnOnce() -> T) -> T {
@@ -40,13 +54,14 @@ fn how_often(nanoseconds: usize, libraries: usize, limits: [usize; 2]) -> usize 
 }
 
 // All libraries by turns over one input; how many bytes are written, 0 where a network without gates or none is.
-fn measure(lent: &mut Lent, placed: &mut [Placed], input: &Input, runs: usize) -> usize {
+fn measure(lents: &mut Lents, placed: &mut [Placed], input: &Input, runs: usize) -> usize {
     let mut written = 0;
     for p in placed.iter_mut() {
         p.times = [f64::MAX; 3];
     }
     for _ in 0..runs {
         for p in placed.iter_mut() {
+            let lent = lents.of(p.part);
             let n: NetworkAnswer = least(&mut p.times[0], || lent.read(p.part, &input.text));
             let t: TextAnswer = least(&mut p.times[1], || lent.write(p.part, n));
             written = if n.gates > 0 && t.refused == 0 { t.length as usize } else { 0 };
@@ -56,20 +71,21 @@ fn measure(lent: &mut Lent, placed: &mut [Placed], input: &Input, runs: usize) -
 }
 
 // All libraries by turns over one network, and that they give the same rows; the number of its pins by that of the clocks.
-fn measure_run(lent: &mut Lent, placed: &mut [Placed], input: &RunInput, once: bool) -> usize {
-    let n = input.lay(placed[0].part, lent);
+fn measure_run(lents: &mut Lents, placed: &mut [Placed], input: &RunInput, once: bool) -> usize {
+    let n = placed.iter().map(|p| input.lay(p.part, lents.of(p.part))).last().expect("a library");
     let units = n.pins as usize * input.clocks;
     let calls = if once { 1 } else { clock::together(units) };
     let turns = if once { 1 } else { how_often(units * calls, placed.len(), [40, 5_000]) };
     let rows = input.rows(n.inputs);
     let mut first = vec![0; input.clocks * (n.outputs as usize + 1)];
-    lent.run(placed[0].part, n, &rows, &mut first);
+    lents.of(placed[0].part).run(placed[0].part, n, &rows, &mut first);
     let mut out = vec![0; first.len()];
     for p in placed.iter_mut() {
         p.times = [f64::MAX; 3];
     }
     let mut turn = || {
         for p in placed.iter_mut() {
+            let lent = lents.of(p.part);
             let mut answer = RowsAnswer::default();
             clock::least(&mut p.times[RUNNING], calls, || answer = black_box(lent.run(p.part, n, &rows, &mut out)));
             assert!(answer.refused == 0 && out == first, "{} is refused by {}, or its rows differ", input.name, answer.refused);
@@ -114,11 +130,11 @@ impl Sums {
 }
 
 fn compare_texts(placed: &mut [Placed], sums: &mut Sums, once: bool) {
-    let mut lent = Lent::new();
+    let mut lents = Lents::new();
     println!("input, bytes, and for each library ns a byte: the mean of {} places (least to greatest); the same for writing", PLACES.len());
     for input in inputs::inputs().iter().take(if once { 1 } else { usize::MAX }) {
         let runs = if once { 1 } else { how_often(input.text.len() * 10, placed.len(), [200, 5_000]) };
-        let written = measure(&mut lent, placed, input, runs);
+        let written = measure(&mut lents, placed, input, runs);
         print!("{}  {}", input.name, input.text.len());
         for (call, bytes) in [input.text.len(), written].into_iter().enumerate().filter(|(_, bytes)| *bytes > 0) {
             show(placed, call, bytes);
@@ -130,10 +146,10 @@ fn compare_texts(placed: &mut [Placed], sums: &mut Sums, once: bool) {
 }
 
 fn compare_runs(placed: &mut [Placed], sums: &mut Sums, once: bool) {
-    let mut lent = Lent::new();
+    let mut lents = Lents::new();
     println!("network, and for each library ns a pin and clock: the mean of {} places (least to greatest)", PLACES.len());
     for input in networks::runs().iter().take(if once { 1 } else { usize::MAX }) {
-        let units = measure_run(&mut lent, placed, input, once);
+        let units = measure_run(&mut lents, placed, input, once);
         print!("{}", input.name);
         show(placed, RUNNING, units);
         sums.add(placed, RUNNING);

@@ -126,7 +126,8 @@ fn measure(parts: &[Part], input: &Input) -> Measured {
             least(&mut rust[1], || counted_rust_write(&mut out, n));
         }
     }
-    // covers of two or more lines with output 0 are built otherwise here (docs/DIFFERENCES.md); only a file may have one
+    // covers of two or more lines with output 0 are built otherwise here, and start values are written (docs/DIFFERENCES.md); only a file may
+    // have such a cover or a latch that starts at one
     let same = w.refused == 0 && lent.out[..w.length as usize] == out[..];
     assert!(same || input.file || w.refused != 0 || rust[1] == f64::MAX, "the two texts of {} differ", input.name);
     let mean = |f: fn(&Times) -> f64| times.iter().map(f).sum::<f64>() / parts.len() as f64;

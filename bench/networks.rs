@@ -1,7 +1,7 @@
 // The networks that are run, and the rows that they are run for. Interlocks and the shift register are texts that are read; the others are
 // lent as they stand.
 use crate::inputs::Numbers;
-use crate::part::{Lent, NetworkAnswer, Part, GATE_CELLS};
+use crate::part::{Lent, NetworkAnswer, Part};
 use std::fmt::Write;
 
 // The numbers of the gate forms in use.
@@ -39,7 +39,7 @@ impl Gates {
     pub fn lay(&self, lent: &mut Lent) -> NetworkAnswer {
         lent.fill(0);
         let mut first = 0;
-        for (record, (form, signals)) in lent.gates.chunks_mut(GATE_CELLS).zip(&self.gates) {
+        for (record, (form, signals)) in lent.gates.chunks_mut(lent.gate_cells).zip(&self.gates) {
             record[..3].copy_from_slice(&[*form, first as u32, signals.len() as u32]);
             lent.pins[first..first + signals.len()].copy_from_slice(signals);
             first += signals.len();

@@ -43,12 +43,14 @@ pub type Run = unsafe extern "C" fn(
     u32, u32, u32, u32, *const u32, usize, *const u32, usize, *const u32, usize, *const u8, usize, *mut u8, usize,
 ) -> RowsAnswer;
 
-// The calls of one library at one place in memory; a library from before runs has no call for them.
+// The calls of one library at one place in memory, and the cells of a gate's record that it takes; a library from before runs has no call for
+// them.
 #[derive(Clone, Copy)]
 pub struct Part {
     pub read: Read,
     pub write: Write,
     pub run: Option<Run>,
+    pub gate_cells: usize,
 }
 
 // A function of a library by its name; null where there is none.
@@ -74,6 +76,7 @@ pub fn load(file: &str) -> Part {
             read: std::mem::transmute::<*mut c_void, Read>(symbol(library, "vumneath_read_blif")),
             write: std::mem::transmute::<*mut c_void, Write>(symbol(library, "vumneath_write_blif")),
             run: std::mem::transmute::<*mut c_void, Option<Run>>(find(library, "vumneath_run")),
+            gate_cells: if find(library, "vumneath_interface").is_null() { GATE_CELLS_BEFORE } else { GATE_CELLS },
         }
     }
 }
@@ -86,11 +89,13 @@ pub fn load_all(folder: &str) -> Vec<Part> {
     PLACES.iter().map(|bytes| load(&format!("{folder}/{bytes}.so"))).collect()
 }
 
-// The cells of one gate's record.
-pub const GATE_CELLS: usize = 3;
+// The cells of one gate's record; and in a library from before start values, which does not tell its interface.
+pub const GATE_CELLS: usize = 4;
+pub const GATE_CELLS_BEFORE: usize = 3;
 
 // The cells and bytes that a caller lends, of exactly the sizes that are asked for.
 pub struct Lent {
+    pub gate_cells: usize,
     pub gates: Vec<u32>,
     pub pins: Vec<u32>,
     pub outputs: Vec<u32>,
@@ -101,8 +106,13 @@ pub struct Lent {
 
 impl Lent {
     pub fn new() -> Lent {
-        let gates = vec![0; 1024 * GATE_CELLS];
-        Lent { work_gates: gates.clone(), gates, pins: vec![0; 16384], outputs: vec![0; 256], work_pins: vec![0; 16384], out: vec![0; 32768] }
+        Lent::of_width(GATE_CELLS)
+    }
+
+    // The same for records of so many cells.
+    pub fn of_width(gate_cells: usize) -> Lent {
+        let gates = vec![0; 1024 * gate_cells];
+        Lent { gate_cells, work_gates: gates.clone(), gates, pins: vec![0; 16384], outputs: vec![0; 256], work_pins: vec![0; 16384], out: vec![0; 32768] }
     }
 
     // The same word in every cell.

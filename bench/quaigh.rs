@@ -1,5 +1,5 @@
 // Quaigh's network of the lent cells.
-use crate::part::{Lent, NetworkAnswer, GATE_CELLS};
+use crate::part::{Lent, NetworkAnswer};
 use crate::{BinaryType, Gate, NaryType, Network, Signal, TernaryType};
 
 fn signal(cell: &u32) -> Signal {
@@ -33,7 +33,7 @@ fn gate(form: u32, pins: &[Signal]) -> Gate {
 pub fn network(lent: &Lent, n: NetworkAnswer) -> Network {
     let mut network = Network::new();
     network.add_inputs(n.inputs as usize);
-    for record in lent.gates.chunks(GATE_CELLS).take(n.gates as usize) {
+    for record in lent.gates.chunks(lent.gate_cells).take(n.gates as usize) {
         let (first, count) = (record[1] as usize, record[2] as usize);
         let pins: Vec<Signal> = lent.pins[first..first + count].iter().map(signal).collect();
         network.add(gate(record[0], &pins));

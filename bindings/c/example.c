@@ -1,5 +1,6 @@
 /* Reads a netlist from standard input, lists its gates and writes it back.
- * Usage: example < netlist.blif. Status: 0 with a text, 1 with a refusal. */
+ * Usage: example < netlist.blif. Status: 0 with a text, 1 with a refusal, 2 with a
+ * library of another interface than the header's. */
 #include "vumneath.h"
 
 #include <stdio.h>
@@ -30,11 +31,13 @@ static void print_gate(uint32_t g)
         fputs(i ? ", " : "", stdout);
         print_signal(pins[record[VUMNEATH_RECORD_FIRST] + i]);
     }
-    printf(")\n");
+    fputs(record[VUMNEATH_RECORD_START] ? ", start=1)\n" : ")\n", stdout);
 }
 
 int main(void)
 {
+    if (vumneath_interface() != VUMNEATH_INTERFACE)
+        return fprintf(stderr, "the library has the interface %u, not %d\n", vumneath_interface(), VUMNEATH_INTERFACE), 2;
     size_t length = fread(text, 1, sizeof text, stdin);
     vumneath_network net = vumneath_read_blif(text, length, gates, VUMNEATH_LEND_GATES, pins, VUMNEATH_LEND_PINS,
         outputs, VUMNEATH_LEND_OUTPUTS, work_gates, VUMNEATH_LEND_GATES, work_pins, VUMNEATH_LEND_PINS);

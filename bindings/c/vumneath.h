@@ -4,7 +4,7 @@
  * into a sorted network in cells that the caller lends; vumneath_write_blif turns a network in cells into such a text; vumneath_run runs a
  * sorted network over rows of 0 and 1. Link libvumneath.a (x86-64 Linux); it needs memcpy and memset and nothing else.
  *
- * The three functions
+ * The functions
  *   - always return: whatever the bytes and cells hold, the answer is a result or the number of a refusal;
  *   - use no heap, no file, no global state and no lock, so threads may call them at the same time with slices of their own;
  *   - need less than 40 KiB of stack (measured by the tests: 38 KiB for reading, 2 KiB for writing, 28 KiB for running);
@@ -26,6 +26,18 @@
 extern "C" {
 #endif
 
+/* The interface that this header describes. The number rises when a caller built for the one before would lend too few cells or read
+ * records wrongly. vumneath_interface answers the library's: where it is another number, make no other call. The shared library's SONAME,
+ * libvumneath.so.2, has the number too.
+ * Interface 1, up to version 0.5.0, had no such function, and three cells for a gate's record. A caller built for it gets refusal 1 from
+ * vumneath_read_blif, since it lends 3,072 cells for gates, and nothing is stored behind what it lends. A network that it hands over is
+ * refused with 20 where it has two gates or more. Where it has one, and the cell behind its record is lent, that cell is taken as the start
+ * value, and the answer may be that of another network. */
+#define VUMNEATH_INTERFACE 2
+
+/* The interface of the library. */
+uint32_t vumneath_interface(void);
+
 /* Sizes: what a text or a network has at most. */
 #define VUMNEATH_MAX_TEXT 32768    /* bytes of a text, read or written */
 #define VUMNEATH_MAX_INPUTS 256    /* inputs of a network */
@@ -34,13 +46,14 @@ extern "C" {
 #define VUMNEATH_MAX_PINS 16384    /* gate inputs of a network, all gates together */
 
 /* Cells to lend to vumneath_read_blif. More is fine; fewer is refusal 1. */
-#define VUMNEATH_GATE_CELLS 3      /* cells of one gate's record */
-#define VUMNEATH_LEND_GATES 3072   /* gates, and work_gates: a record for each of 1,024 gates */
+#define VUMNEATH_GATE_CELLS 4      /* cells of one gate's record */
+#define VUMNEATH_LEND_GATES 4096   /* gates, and work_gates: a record for each of 1,024 gates */
 #define VUMNEATH_LEND_PINS 16384   /* pins, and work_pins */
 #define VUMNEATH_LEND_OUTPUTS 256  /* outputs */
 
-/* Refusals of vumneath_read_blif. Of several that apply the answer is the lowest, except among 4 and 5 and among 7 to 10, which are asked
- * statement by statement, and among 12 and 13, which are asked cover by cover: there the earlier statement or cover decides. */
+/* Refusals of vumneath_read_blif; 34 below is one more, between 5 and 6 in the order. Of several that apply the answer is the first in the
+ * order, except among 4, 5 and 34 and among 7 to 10, which are asked statement by statement, and among 12 and 13, which are asked cover by
+ * cover: there the earlier statement or cover decides. */
 #define VUMNEATH_REFUSED_TOO_FEW_CELLS 1       /* too few cells are lent */
 #define VUMNEATH_REFUSED_TEXT_TOO_LONG 2       /* the text is over 32,768 bytes */
 #define VUMNEATH_REFUSED_HIGH_BYTE 3           /* the text has a byte of 128 or more */
@@ -70,6 +83,9 @@ extern "C" {
 #define VUMNEATH_REFUSED_WRONG_SHEET 32        /* a sheet line is missing, misformed or left over, or the sheet is over 40,960 bytes */
 #define VUMNEATH_REFUSED_NO_OUTPUT 33          /* the network has no output */
 
+/* One more refusal of vumneath_read_blif, asked with 4 and 5, of the statements behind .end and .exdc too. */
+#define VUMNEATH_REFUSED_WRONG_START 34        /* a latch's start value is not 0, 1, 2 or 3 */
+
 /* Signals. A signal is one cell: a constant, an input or a gate, as it is or inverted. Bit 0 is the inversion. Gates are numbered from 0
  * in the order of their records, inputs from 0 in the order in which the text names them. Input 0 is FFFFFFFE hexadecimal, input 1
  * FFFFFFFC, gate 0 is 2, gate 1 is 4; each plus 1 where it is inverted. */
@@ -86,14 +102,16 @@ extern "C" {
 #define VUMNEATH_GATE_NUMBER(s) ((uint32_t)(s) / 2 - 1)  /* v of a gate's signal, inverted or not */
 #define VUMNEATH_INPUT_NUMBER(s) (~(uint32_t)(s) / 2)    /* v of an input's signal, inverted or not */
 
-/* Gates. Gate g has the record gates[3 g], gates[3 g + 1], gates[3 g + 2]: its form, the place of its first pin in the pins, and its
- * number of pins. A pin is the signal that one of the gate's inputs takes. The runs of pins follow each other in gate order: gate 0
- * starts at pin 0, each further gate where the one before ends, and the last ends at the number of pins.
+/* Gates. Gate g has the record gates[4 g], gates[4 g + 1], gates[4 g + 2], gates[4 g + 3]: its form, the place of its first pin in the pins,
+ * its number of pins, and its start value. A pin is the signal that one of the gate's inputs takes. The runs of pins follow each other in gate
+ * order: gate 0 starts at pin 0, each further gate where the one before ends, and the last ends at the number of pins. The start value is 0 or
+ * 1 for a flip-flop and 0 for every other gate; another one is a case of refusal 20 in every call.
  * Reading gives flip-flops first, then every other gate behind the gates that it takes its inputs from. It uses the forms 7 to 9, 13 and
  * 14; writing and running take all 14. */
 #define VUMNEATH_RECORD_FORM 0   /* place of the form number in a record */
 #define VUMNEATH_RECORD_FIRST 1  /* place of the first pin */
 #define VUMNEATH_RECORD_COUNT 2  /* place of the number of pins */
+#define VUMNEATH_RECORD_START 3  /* place of the start value */
 
 #define VUMNEATH_AND_2 1   /* Binary And, 2 pins */
 #define VUMNEATH_XOR_2 2   /* Binary Xor, 2 pins */
@@ -110,7 +128,8 @@ extern "C" {
 #define VUMNEATH_BUF 13    /* Buf, 1 pin: the pin's value */
 #define VUMNEATH_DFF 14    /* Dff, a flip-flop, 3 pins: data, enable, reset */
 
-/* A flip-flop starts at zero. At each clock a reset of one makes it zero; else an enable of one makes it take its data; else it holds. */
+/* A flip-flop starts at its start value. At each clock a reset of one makes it zero; else an enable of one makes it take its data; else it
+ * holds. */
 #define VUMNEATH_DFF_DATA 0    /* place of the data among a flip-flop's pins */
 #define VUMNEATH_DFF_ENABLE 1  /* place of the enable: constant one where the text has a .latch */
 #define VUMNEATH_DFF_RESET 2   /* place of the reset: constant zero where the text has a .latch */
@@ -118,11 +137,12 @@ extern "C" {
 /* refused is 0 on success, else the refusal's number; the counts are then 0 */
 typedef struct { uint32_t refused, inputs, gates, pins, outputs; } vumneath_network;
 
-/* Reads a text. A latch's type, control and start value are ignored: every flip-flop starts at zero and takes its data at each clock. The
- * file DIFFERENCES.md, which is installed as share/doc/vumneath/DIFFERENCES.md, lists each place where a text is read otherwise than BLIF
- * has it. On success the counts are those of the network; gates, pins and outputs hold it from their starts, with zero in every further
- * cell. work_gates and work_pins are used for working and are all zero afterwards. After a refusal all cells of the five slices are zero.
- * The text is only read, and nothing points into it afterwards. */
+/* Reads a text. Where .latch has three words behind it the third is the start value, where it has five or more the fifth, and else it is 0;
+ * 2 and 3, which are BLIF's for any value and for an unknown one, are read as 0. A latch's type and control are ignored: every flip-flop takes
+ * its data at each clock. The file DIFFERENCES.md, which is installed as share/doc/vumneath/DIFFERENCES.md, lists each place where a text is
+ * read otherwise than BLIF has it. On success the counts are those of the network; gates, pins and outputs hold it from their starts, with
+ * zero in every further cell. work_gates and work_pins are used for working and are all zero afterwards. After a refusal all cells of the five
+ * slices are zero. The text is only read, and nothing points into it afterwards. */
 vumneath_network vumneath_read_blif(const uint8_t *text, size_t text_len,
     uint32_t *gates, size_t gates_len, uint32_t *pins, size_t pins_len, uint32_t *outputs, size_t outputs_len,
     uint32_t *work_gates, size_t work_gates_len, uint32_t *work_pins, size_t work_pins_len);
@@ -140,7 +160,7 @@ vumneath_text vumneath_write_blif(uint32_t inputs, uint32_t gate_count, uint32_t
 /* refused is 0 on success, else the refusal's number; the length is then 0 */
 typedef struct { uint32_t refused; size_t length; } vumneath_rows;
 
-/* Runs a network, given as to vumneath_write_blif, for one clock after the other, from all flip-flops at zero. rows has a row for each
+/* Runs a network, given as to vumneath_write_blif, for one clock after the other, from the flip-flops' start values. rows has a row for each
  * clock: a character 0 or 1 for each input, in order, and an LF. out gets a row for each clock: a character 0 or 1 for each output, in
  * order, and an LF. The outputs are those before the flip-flops step at that clock. There may be any number of rows, none too; out has to
  * have a byte for each output and each LF, which is rows_len / (inputs + 1) * (output_count + 1) bytes, and may be longer.

@@ -12,14 +12,16 @@ import os
 import pickle
 import re
 import string
+import types
 import unittest
+import unittest.mock
 
 import vumneath
-from vumneath import ONE, ZERO, Gate, Network, Refusal, Signal
+from vumneath import GATE_CELLS, MAX_GATES, MAX_OUTPUTS, MAX_PINS, ONE, ZERO, Gate, Network, Refusal, Signal
 
 HERE = os.path.dirname(os.path.realpath(__file__))
 GUARD = 16
-ENOUGH = (3072, 16384, 256, 3072, 16384)
+ENOUGH = (MAX_GATES * GATE_CELLS, MAX_PINS, MAX_OUTPUTS, MAX_GATES * GATE_CELLS, MAX_PINS)
 GOOD = b".model m\n.inputs a b c\n.outputs y q\n.names a b c y\n11- 1\n0-1 1\n.latch y q 0\n.end\n"
 
 
@@ -47,7 +49,7 @@ def read_guarded(text, sizes=ENOUGH):
     """What reading answers, in the notation of the stored answers; 'harmed' where another cell was changed or is not zero."""
     lent = [Guarded(ctypes.c_uint32, n) for n in sizes]
     answer = vumneath.read_cells((ctypes.c_uint8 * len(text)).from_buffer_copy(text), *(each.part for each in lent))
-    used = (answer.gates * 3, answer.pins, answer.outputs, 0, 0)
+    used = (answer.gates * GATE_CELLS, answer.pins, answer.outputs, 0, 0)
     if not all(each.unharmed(n) for each, n in zip(lent, used)):
         return "harmed"
     if answer.refused:
@@ -182,7 +184,7 @@ class Calls(unittest.TestCase):
     def test_short(self):
         for i in range(5):
             self.assertEqual(read_guarded(GOOD, [n - (kind == i) for kind, n in enumerate(ENOUGH)]), "refused=1\n")
-        cells = [[13, 0, 1], [0xFFFFFFFE], [2]]
+        cells = [[13, 0, 1, 0], [0xFFFFFFFE], [2]]
         text = write_guarded((1, 1, 1, 1), cells, 32768)
         length = len(text) - len(b"length=NNN\n")
         self.assertEqual(write_guarded((1, 1, 1, 1), cells, length), text)
@@ -403,7 +405,7 @@ class Runs(unittest.TestCase):
         self.assertRaises(TypeError, Network(0, [], [2]).run, [])
 
     def test_lent(self):
-        counts, cells, rows = (1, 1, 1, 2), [[13, 0, 1], [0xFFFFFFFE], [2, 3]], b"1\n0\n"
+        counts, cells, rows = (1, 1, 1, 2), [[13, 0, 1, 0], [0xFFFFFFFE], [2, 3]], b"1\n0\n"
         for room in range(10):
             self.assertEqual(run_guarded(counts, cells, rows, room), b"refused=31\n" if room < 6 else b"length=6\n10\n01\n")
         for kind in range(3):
@@ -413,12 +415,117 @@ class Runs(unittest.TestCase):
             self.assertEqual(run_guarded(counts, one_more, rows, 6), b"length=6\n10\n01\n")
         self.assertEqual(run_guarded((2**32 + 1, 1, 1, 2), cells, rows, 6), b"refused=20\n")
 
-    def test_interlock(self):
-        files = []
-        for name in ("lock.blif", "lock.rows", "lock.rows.out"):
-            with open(os.path.join(HERE, "../netlists", name), "rb") as file:
-                files.append(file.read())
-        self.assertEqual(vumneath.read(files[0]).run(files[1]), files[2])
+    def test_interlocks(self):
+        for name in ("lock", "locked"):
+            files = []
+            for kind in ("blif", "rows", "rows.out"):
+                with open(os.path.join(HERE, "../netlists", f"{name}.{kind}"), "rb") as file:
+                    files.append(file.read())
+            network = vumneath.read(files[0])
+            self.assertEqual(network.run(files[1]), files[2])
+            self.assertEqual(vumneath.read(vumneath.write(network)).run(files[1]), files[2])
+
+
+def latch(words):
+    """A text with a latch that has these words behind its names."""
+    return f".inputs d\n.outputs q\n.latch d q{words}\n".encode()
+
+
+class Starts(unittest.TestCase):
+    ZERO = ("", " 0", " 2", " 3", " re clk", " re 1", " 1 1", " re clk 0", " re clk 2", " re clk 3", " re clk 0 1", " 1 1 0 1 1")
+    ONE = (" 1", " re clk 1", " as NIL 1", " re clk 1 0", " 4 4 1", "\t1 ", " 1# 4", " \\\n1")
+    WRONG = (" 4", " re", " clk", " 00", " 01", " 11", " -1", " one", " re clk 4", " re clk x", " re clk 10", " 1 1 4 1")
+
+    def test_words(self):
+        for words, start in [(words, 0) for words in self.ZERO] + [(words, 1) for words in self.ONE]:
+            network = vumneath.read(latch(words))
+            self.assertEqual(network.gates, [Gate("Dff", (i(0), ONE, ZERO), start)], words)
+            self.assertIn(f"gates e 0 3 {start}\n", read_guarded(latch(words)))
+            self.assertEqual(network.run(b"0\n1\n0\n"), b"1\n0\n1\n" if start else b"0\n0\n1\n", words)
+            text = vumneath.write(network)
+            self.assertIn(b"\n.latch i0 x0 %d\n" % start, text)
+            self.assertEqual(vumneath.read(text).gates[0], network.gates[0])
+        for words in self.WRONG:
+            self.assertEqual(read_guarded(latch(words)), "refused=34\n", words)
+            with self.assertRaises(Refusal) as raised:
+                vumneath.read(latch(words))
+            self.assertEqual(str(raised.exception), "refused=34: a latch's start value is not 0, 1, 2 or 3")
+
+    def test_order(self):
+        wrong = b".latch d q 4\n"
+        for text, wanted in (
+            (wrong, 34), (wrong + b"\x80", 3), (wrong + b".model\n", 34), (b".model\n" + wrong, 4), (wrong + b".gate\n", 34),
+            (b".gate\n" + wrong, 5), (b".end\n" + wrong, 34), (b".inputs a a\n" + wrong, 34), (b".latch d q 1\n", 11),
+            (b".model m\n.end\n" + wrong, 34), (b".model m\n.end\n.latch d q 1\n", 0), (b".exdc\n" + wrong, 34),
+            (b".inputs" + b"".join(b" n%d" % v for v in range(257)) + b"\n" + wrong, 34),
+            (wrong + b" " * (32768 - len(wrong)), 34), (wrong + b" " * (32769 - len(wrong)), 2),
+        ):
+            self.assertEqual(number(vumneath.read, text), wanted, text[:40])
+        self.assertEqual(number(vumneath.report, wrong, b"part=a\nrows=1\n\n"), 34)
+        self.assertEqual(number(vumneath.report, wrong, b""), 32)
+
+    def test_line(self):
+        starts = [int(g % 3 == 0 or g % 7 == 0) for g in range(100)]
+        network = Network(0, [Gate("Dff", (x(g - 1) if g else ZERO, ONE, ZERO), start) for g, start in enumerate(starts)], [x(99)])
+        wanted = [[start] for start in starts[::-1]] + [[0]]
+        self.assertEqual(network.run([[]] * 101), wanted)
+        self.assertEqual(vumneath.read(vumneath.write(network)).run([[]] * 101), wanted)
+
+    def test_reports(self):
+        for start, accepted in ((0, 2), (1, 3), (2, 2), (3, 2)):
+            netlist = b".outputs q\n.latch d q %d\n.names q d\n0 1\n" % start
+            self.assertEqual(vumneath.report(netlist, b"part=a\nrows=5\n\n\n\n\n\n"), ("a", 5, accepted, 5 - accepted))
+
+    def test_gates(self):
+        pins = (i(0), ONE, ZERO)
+        self.assertEqual(Gate("Dff", pins), Gate("Dff", pins, 0))
+        self.assertEqual([str(Gate("Dff", pins, start)) for start in (0, 1)], ["Dff(i0, 1, 0)", "Dff(i0, 1, 0, start=1)"])
+        for start in (1, True):
+            self.assertIn(b"\n.flop D=i0 Q=x0 init=1 E=i1\n", vumneath.write(Network(2, [Gate("Dff", (i(0), i(1), ZERO), start)], [])))
+
+    def test_not_a_network(self):
+        pins = {"Binary": (i(0),) * 2, "Buf": (i(0),)}
+        for form in vumneath.FORMS:
+            for start in (0, 1, 2, 3, -1, 2**31, 2**32 - 1, 2**32, 2**32 + 1):
+                network = Network(1, [Gate(form, pins.get(form.split()[0], (i(0), ONE, ZERO)), start)], [x(0)])
+                wanted = 0 if 0 <= start <= (form == "Dff") else 20
+                self.assertEqual([number(vumneath.write, network), number(network.run, b"0\n")], [wanted] * 2, (form, start))
+        details = (
+            (Gate("Buf", (i(0),), 1), "gate 0, Buf, has the start value 1, where only 0 is possible"),
+            (Gate("Dff", (i(0), ONE, ZERO), 2), "gate 0, Dff, has the start value 2, where 0 or 1 is possible"),
+            (Gate("Dff", (i(0), ONE, ZERO), -1), "gate 0, Dff, has the start value -1, where 0 or 1 is possible"),
+        )
+        for gate, detail in details:
+            with self.assertRaises(Refusal) as raised:
+                vumneath.write(Network(1, [gate], []))
+            self.assertEqual(raised.exception.detail, detail)
+        for start in ("1", None, 0.5):
+            said = f"^the start value of gate 0 is no whole number but {start!r}$"
+            self.assertRaisesRegex(TypeError, said, vumneath.write, Network(1, [Gate("Buf", (ONE,), start)], []))
+
+
+class Interface(unittest.TestCase):
+    def test_one_interface(self):
+        with open(os.path.join(HERE, "../c/vumneath.h"), encoding="ascii") as file:
+            self.assertIn(f"\n#define VUMNEATH_INTERFACE {vumneath.INTERFACE}\n", file.read())
+        self.assertEqual(vumneath._library.vumneath_interface(), vumneath.INTERFACE)
+
+    def test_other_libraries(self):
+        said = "^FILE has {}, and this module is for the interface 2: .* installs both together$"
+        for library, found in (
+            (types.SimpleNamespace(vumneath_interface=lambda: 3), "the interface 3"),
+            (types.SimpleNamespace(vumneath_interface=lambda: 1), "the interface 1"),
+            (types.SimpleNamespace(), "no function vumneath_interface"),
+        ):
+            with unittest.mock.patch("ctypes.CDLL", return_value=library):
+                self.assertRaisesRegex(ImportError, said.format(found), vumneath._checked, "FILE")
+
+    def test_caller_of_interface_1(self):
+        self.assertEqual(read_guarded(latch(" 0"), (3072, MAX_PINS, MAX_OUTPUTS, 3072, MAX_PINS)), "refused=1\n")
+        for n in (1, 2, 3, 1024):
+            cells = [[cell for g in range(n) for cell in (13, g, 1)], [1] * n, []]
+            self.assertEqual(write_guarded((0, n, n, 0), cells, 32768), b"refused=20\n")
+            self.assertEqual(run_guarded((0, n, n, 0), cells, b"", 0), b"refused=20\n")
 
 
 class Reports(unittest.TestCase):

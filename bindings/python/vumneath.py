@@ -16,8 +16,14 @@ b'.names gnd'
 Traceback (most recent call last):
 vumneath.Refusal: refused=11: an output, a latch's input or a cover's input is not defined
 
-The library is libvumneath.so: the file that VUMNEATH_LIB names, else the one in lib/ of the prefix that this module was installed
-into, else the one that tests/bindings leaves in the repository.
+A flip-flop starts at the value that its .latch says, and a run begins there:
+
+>>> turning = read(b".outputs q\\n.latch d q 1\\n.names q d\\n0 1\\n")
+>>> str(turning.gates[0]), turning.gates[0].start, turning.run(b"\\n\\n\\n")
+('Dff(x1, 1, 0, start=1)', 1, b'1\\n0\\n1\\n')
+
+The library is libvumneath.so.2: the file that VUMNEATH_LIB names, else the one in lib/ of the prefix that this module was installed
+into, else the one that tests/bindings leaves in the repository. A library of another interface than INTERFACE is an ImportError.
 """
 
 import ctypes
@@ -26,7 +32,10 @@ import os
 import re
 from typing import Iterable, List, NamedTuple, Optional, Tuple, Union
 
-__version__ = "0.5.0"
+__version__ = "0.6.0"
+
+# The interface of the library that this module is for; the C header says when the number rises.
+INTERFACE = 2
 
 MAX_TEXT = 32768
 MAX_INPUTS = 256
@@ -35,7 +44,7 @@ MAX_GATES = 1024
 MAX_PINS = 16384
 MAX_SHEET = 40960
 MAX_COMMANDS = 128
-GATE_CELLS = 3
+GATE_CELLS = 4
 
 # Each refusal: its number, its name, its sentence.
 _REFUSALS = (
@@ -61,6 +70,7 @@ _REFUSALS = (
     (31, "WrongRows", "a row has the wrong length, another character or no LF, or the output rows do not fit"),
     (32, "WrongSheet", "a sheet line is missing, misformed or left over, or the sheet is over 40,960 bytes"),
     (33, "NoOutput", "the network has no output"),
+    (34, "WrongStart", "a latch's start value is not 0, 1, 2 or 3"),
 )
 REFUSALS = {number: sentence for number, _, sentence in _REFUSALS}
 _NAMES = {number: name for number, name, _ in _REFUSALS}
@@ -144,13 +154,16 @@ ONE = Signal(1)
 
 
 class Gate(NamedTuple):
-    """A gate: one of FORMS, and the signals of its inputs. Those of a Dff are data, enable and reset."""
+    """A gate: one of FORMS, the signals of its inputs, and its start value. The inputs of a Dff are data, enable and reset, and its start
+    value is 0 or 1; that of every other gate is 0."""
 
     form: str
     pins: Tuple[Signal, ...]
+    start: int = 0
 
     def __str__(self) -> str:
-        return f"{self.form.split()[-1]}({', '.join(map(str, self.pins))})"
+        start = [f"start={self.start}"] if self.start else []
+        return f"{self.form.split()[-1]}({', '.join([*map(str, self.pins), *start])})"
 
 
 class Network(NamedTuple):
@@ -161,8 +174,8 @@ class Network(NamedTuple):
     outputs: List[Signal]
 
     def run(self, rows: Union[bytes, Iterable[Iterable[int]]]) -> Union[bytes, List[List[int]]]:
-        """Runs the network for one clock after the other, from all flip-flops at zero. There is a row for each clock, and there may be any
-        number of them.
+        """Runs the network for one clock after the other, from the flip-flops' start values. There is a row for each clock, and there may be
+        any number of them.
 
         A bytes-like object of one dimension is the text of the rows: a character 0 or 1 for each input, in order, and an LF. The answer is
         such a text, of a row of outputs for each clock. Anything else is taken as rows of bits, 0 or 1 or a bool for each input, and the
@@ -215,15 +228,30 @@ class RowsAnswer(ctypes.Structure):
     _fields_ = [("refused", ctypes.c_uint32), ("length", ctypes.c_size_t)]
 
 
+def _checked(path: str) -> ctypes.CDLL:
+    """The library of a file, if it has the interface of this module. One of interface 1 does not tell its own."""
+    library = ctypes.CDLL(path)
+    try:
+        tell = library.vumneath_interface
+    except AttributeError:
+        found = "no function vumneath_interface"
+    else:
+        tell.argtypes, tell.restype = [], ctypes.c_uint32
+        if tell() == INTERFACE:
+            return library
+        found = f"the interface {tell()}"
+    raise ImportError(f"{path} has {found}, and this module is for the interface {INTERFACE}: ./install PREFIX installs both together")
+
+
 def _load() -> ctypes.CDLL:
-    here = os.path.dirname(os.path.realpath(__file__))
+    here, name = os.path.dirname(os.path.realpath(__file__)), f"libvumneath.so.{INTERFACE}"
     named = os.environ.get("VUMNEATH_LIB")
     near = [os.path.join(here, "../../../lib"), os.path.join(here, "../../target/bindings/installed/lib")]
-    paths = [named] if named else [os.path.normpath(os.path.join(folder, "libvumneath.so")) for folder in near]
+    paths = [named] if named else [os.path.normpath(os.path.join(folder, name)) for folder in near]
     for path in paths:
         if os.path.isfile(path):
-            return ctypes.CDLL(path)
-    raise ImportError(f"no shared library at {' or '.join(paths)}: ./install PREFIX makes PREFIX/lib/libvumneath.so; set VUMNEATH_LIB to it")
+            return _checked(path)
+    raise ImportError(f"no shared library at {' or '.join(paths)}: ./install PREFIX makes PREFIX/lib/{name}; set VUMNEATH_LIB to it")
 
 
 _library = _load()
@@ -243,9 +271,9 @@ def read_cells(text, gates, pins, outputs, work_gates, work_pins) -> NetworkAnsw
     return _library.vumneath_read_blif(*(part for array in lent for part in (array, len(array))))
 
 
-def _fitting(counts):
-    """Counts for the library; one that 32 bits do not hold becomes the largest that they do, which is refused as well."""
-    return [n if 0 <= n < 2**32 else 2**32 - 1 for n in counts]
+def _fitting(numbers):
+    """Counts or start values for the library; one that 32 bits do not hold becomes the largest that they do, which is refused as well."""
+    return [n if 0 <= n < 2**32 else 2**32 - 1 for n in numbers]
 
 
 def write_cells(counts, gates, pins, outputs, out) -> TextAnswer:
@@ -272,14 +300,15 @@ def _bytes_of(text, call: str) -> bytes:
 
 def read(text: bytes) -> Network:
     """Reads a BLIF text: all bytes of a bytes-like object. Flip-flops come first, then every other gate behind those that it takes its
-    inputs from. A latch's type, control and start value are ignored: every flip-flop starts at zero."""
+    inputs from. Where .latch has three words behind it the third is the start value, where it has five or more the fifth, and else it is
+    0; 2 and 3 are read as 0, and any other word there is refused with 34. A latch's type and control are ignored."""
     data = _bytes_of(text, "read")
     lent = [(ctypes.c_uint32 * n)() for n in (MAX_GATES * GATE_CELLS, MAX_PINS, MAX_OUTPUTS, MAX_GATES * GATE_CELLS, MAX_PINS)]
     answer = read_cells((ctypes.c_uint8 * len(data)).from_buffer_copy(data), *lent)
     if answer.refused:
         raise Refusal(answer.refused)
     records = [lent[0][g * GATE_CELLS : (g + 1) * GATE_CELLS] for g in range(answer.gates)]
-    gates = [Gate(FORMS[form - 1], tuple(map(Signal, lent[1][first : first + n]))) for form, first, n in records]
+    gates = [Gate(FORMS[form - 1], tuple(map(Signal, lent[1][first : first + n])), start) for form, first, n, start in records]
     return Network(answer.inputs, gates, [Signal(cell) for cell in lent[2][: answer.outputs]])
 
 
@@ -317,6 +346,9 @@ def _wrong_with(network: Network) -> str:
         wanted = _PIN_COUNTS.get(gate.form.split()[0])
         if wanted is not None and len(gate.pins) != wanted:
             return f"gate {v}, {gate.form}, has {len(gate.pins)} pins and not {wanted}"
+        if not 0 <= gate.start <= (gate.form == "Dff"):
+            possible = "0 or 1" if gate.form == "Dff" else "only 0"
+            return f"gate {v}, {gate.form}, has the start value {gate.start}, where {possible} is possible"
     users = [(f"gate {v}", gate.pins) for v, gate in enumerate(network.gates)] + [("an output", network.outputs)]
     for user, signals in users:
         for signal in signals:
@@ -352,7 +384,8 @@ def _lend_network(network: Network):
     for v, gate in enumerate(network.gates):
         if gate.form not in FORMS:
             raise ValueError(f"gate {v} has the form {gate.form!r}, which is none of vumneath.FORMS: {', '.join(FORMS)}")
-        records += [FORMS.index(gate.form) + 1, len(pins), len(gate.pins)]
+        start = _number_of(gate.start, f"the start value of gate {v}")
+        records += [FORMS.index(gate.form) + 1, len(pins), len(gate.pins), *_fitting([start])]
         pins += _lend(gate.pins, f"gate {v}, pin")
     lent = [(ctypes.c_uint32 * len(part))(*part) for part in (records, pins, _lend(network.outputs, "output"))]
     inputs = _number_of(network.inputs, "the number of inputs")
@@ -367,7 +400,8 @@ def _refuse(number: int, network: Network) -> None:
 
 def write(network: Network) -> bytes:
     """Writes a network, read or made by the caller, as a BLIF text. What is no network is refused with 20, and the refusal's detail says
-    why. A form that is none of FORMS and a cell over 32 bits are a ValueError; a pin that is no Signal is a TypeError."""
+    why. A form that is none of FORMS and a cell over 32 bits are a ValueError; a pin that is no Signal and a start value that is no whole
+    number are a TypeError."""
     counts, lent = _lend_network(network)
     out = (ctypes.c_uint8 * MAX_TEXT)()
     answer = write_cells(counts, *lent, out)
@@ -467,7 +501,7 @@ def _sheet_of(text: bytes) -> Tuple[str, int, bytes]:
 
 def report(netlist: bytes, sheet: bytes) -> Report:
     """The report for a pass log, as the program passreport gives it for the files netlist.blif and sheet.txt: runs the commands of a sheet
-    on a netlist, from all flip-flops at zero, and counts the rows at which the first output is 1 and those at which it is 0.
+    on a netlist, from the flip-flops' start values, and counts the rows at which the first output is 1 and those at which it is 0.
 
     A sheet is the line part= with 1 to 16 ASCII letters or digits, the line rows= with a number from 1 to 128 without leading zeros, and so
     many command rows: a character 0 or 1 for each input of the netlist, in order. An LF ends each line, and nothing stands behind the last.

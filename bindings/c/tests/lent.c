@@ -113,7 +113,8 @@ vumneath_network read_lent(const struct lent *text, const struct cells5 *lent)
 
 void check_left(vumneath_network net, const struct cells5 *lent, unsigned long place)
 {
-    check(net.refused <= VUMNEATH_REFUSED_COMBINATIONAL_LOOP, "a reader's refusal is 1 to 14", place);
+    bool known = net.refused <= VUMNEATH_REFUSED_COMBINATIONAL_LOOP || net.refused == VUMNEATH_REFUSED_WRONG_START;
+    check(known, "a reader's refusal is 1 to 14 or 34", place);
     if (net.refused)
         check(!net.inputs && !net.gates && !net.pins && !net.outputs, "counts are zero after a refusal", place);
     check(net.inputs <= VUMNEATH_MAX_INPUTS, "inputs are within the sizes", place);
@@ -157,6 +158,77 @@ vumneath_rows run_lent(const struct network *net, const struct lent *rows, const
     check_defined(&ran.length, sizeof ran.length, "a run's length is defined");
     check_defined(out->part, out->bytes, "the slice of a run is defined");
     return ran;
+}
+
+size_t record_cell(size_t gate, size_t place)
+{
+    return gate * VUMNEATH_GATE_CELLS + place;
+}
+
+size_t lay_records(uint32_t *to, const struct gate *gates, size_t count)
+{
+    uint32_t first = 0;
+    memset(to, 0, record_cell(count, 0) * sizeof *to);
+    for (size_t g = 0; g < count; g++) {
+        to[record_cell(g, VUMNEATH_RECORD_FORM)] = gates[g].form;
+        to[record_cell(g, VUMNEATH_RECORD_FIRST)] = first;
+        to[record_cell(g, VUMNEATH_RECORD_COUNT)] = gates[g].pins;
+        to[record_cell(g, VUMNEATH_RECORD_START)] = gates[g].start;
+        first += gates[g].pins;
+    }
+    return record_cell(count, 0);
+}
+
+struct lent lend_records(const struct gate *gates, size_t count, size_t more)
+{
+    struct lent lent = lend(record_cell(count + more, 0) * sizeof(uint32_t), 0);
+    for (size_t i = lay_records(cells(&lent), gates, count); i < cell_count(&lent); i++)
+        cells(&lent)[i] = 99;
+    return lent;
+}
+
+struct gate gate_of(uint32_t form, uint32_t start)
+{
+    bool two = form == VUMNEATH_AND_2 || form == VUMNEATH_XOR_2, one = form == VUMNEATH_BUF;
+    return (struct gate){ form, one ? 1 : two ? 2 : 3, start };
+}
+
+struct network network_of(const struct gate *gates, uint32_t count)
+{
+    struct network net = { 1, count, 0, 1, lend_records(gates, count, 0), { 0 }, lend(sizeof(uint32_t), 0) };
+    for (uint32_t g = 0; g < count; g++)
+        net.pin_count += gates[g].pins;
+    net.pins = lend(net.pin_count * sizeof(uint32_t), 0);
+    uint32_t *pin = cells(&net.pins);
+    for (uint32_t g = 0; g < count; pin += gates[g++].pins) {
+        for (uint32_t p = 0; p < gates[g].pins; p++)
+            pin[p] = VUMNEATH_INPUT(0);
+        if (gates[g].form == VUMNEATH_DFF) {
+            pin[VUMNEATH_DFF_ENABLE] = VUMNEATH_ONE;
+            pin[VUMNEATH_DFF_RESET] = VUMNEATH_ZERO;
+        }
+    }
+    cells(&net.outputs)[0] = VUMNEATH_GATE(count - 1);
+    return net;
+}
+
+uint32_t refused_by_write(const struct network *net)
+{
+    struct lent out = lend(VUMNEATH_MAX_TEXT, 0xa5);
+    vumneath_text text = write_lent(net, &out);
+    check(all_zero(&out, text.length) && (text.refused == 0 || text.length == 0), "bytes behind the text are zero", text.refused);
+    take_back(&out, 0);
+    return text.refused;
+}
+
+uint32_t refused_by_run(const struct network *net)
+{
+    const struct lent no_rows = { NULL, NULL, 0 };
+    struct lent out = lend(VUMNEATH_MAX_TEXT, 0xa5);
+    vumneath_rows ran = run_lent(net, &no_rows, &out);
+    check(all_zero(&out, 0) && ran.length == 0, "no rows leave zeros", ran.refused);
+    take_back(&out, 0);
+    return ran.refused;
 }
 
 void take_back_network(struct network *net, unsigned long place)

@@ -53,10 +53,27 @@ uint32_t read_checked(const void *text, size_t length, struct sizes5 sizes, unsi
 /* A network for the writer and for a run. */
 struct network { uint32_t inputs, gate_count, pin_count, output_count; struct lent gates, pins, outputs; };
 
+/* A gate of a network by hand. */
+struct gate { uint32_t form, pins, start; };
+
+/* The place of a cell of a gate's record. */
+size_t record_cell(size_t gate, size_t place);
+/* Stores the records of gates one behind the other, their runs of pins from pin 0 on; the answer is how many cells they take. */
+size_t lay_records(uint32_t *to, const struct gate *gates, size_t count);
+/* A buffer with the records of gates, and behind them the cells of so many gates more, all 99. */
+struct lent lend_records(const struct gate *gates, size_t count, size_t more);
+/* A gate of a form, with as many pins as it can have, three where it can have any number. */
+struct gate gate_of(uint32_t form, uint32_t start);
+/* A network of these gates: every pin is input 0, but a flip-flop's enable is one and its reset zero; the output is the last gate. */
+struct network network_of(const struct gate *gates, uint32_t count);
+
 /* Writes a network into a buffer that is undefined to valgrind, and checks that it and the answer are defined then. */
 vumneath_text write_lent(const struct network *net, const struct lent *out);
 /* Runs a network in the same way. */
 vumneath_rows run_lent(const struct network *net, const struct lent *rows, const struct lent *out);
+/* The refusals of writing a network, and of running it for no rows. */
+uint32_t refused_by_write(const struct network *net);
+uint32_t refused_by_run(const struct network *net);
 void take_back_network(struct network *net, unsigned long place);
 
 /* A file's bytes. Ends the test where it cannot be read. */
@@ -82,6 +99,8 @@ void replay_runs(const char *networks, const char *answers, unsigned long step);
 void call_reads(void);
 void call_writes(void);
 void call_runs(void);
+void call_starts(void);
+void call_interface(void);
 void measure_stack(const char *texts);
 
 #endif

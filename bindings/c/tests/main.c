@@ -1,4 +1,5 @@
-/* The test of the C functions: stored texts, networks and rows with their answers, calls by hand, and the stack in use.
+/* The test of the C functions: stored texts, networks and rows with their answers, calls by hand, what a caller of the interface before gets,
+ * and the stack in use.
  * Usage: test FOLDER_OF_CRATES [STEP]
  * With a STEP, as for memcheck, it takes each STEPth stored one, lends blocks without guard bytes, measures no stack, and tells how many
  * buffers that were undefined before a call were found defined after it.
@@ -31,6 +32,8 @@ int main(int argc, char **argv)
     call_reads();
     call_writes();
     call_runs();
+    call_starts();
+    call_interface();
     if (argc == 2)
         measure_stack(path(list, argv[1], "read_replay/stdin"));
     else

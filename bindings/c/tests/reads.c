@@ -58,10 +58,12 @@ static size_t replay_text(const struct lent *answers, size_t at, const uint8_t *
 /* The list's last answers: the text of no bytes, each time with one slice a cell short; a text too long, with no cells at all. */
 static void replay_short(const struct lent *answers)
 {
-    static const struct sizes5 short_by_one[] = {
-        { 3071, 16384, 256, 3072, 16384 }, { 3072, 16383, 256, 3072, 16384 }, { 3072, 16384, 255, 3072, 16384 },
-        { 3072, 16384, 256, 3071, 16384 }, { 3072, 16384, 256, 3072, 16383 },
-    };
+    struct sizes5 short_by_one[] = { enough, enough, enough, enough, enough };
+    short_by_one[0].gates--;
+    short_by_one[1].pins--;
+    short_by_one[2].outputs--;
+    short_by_one[3].work_gates--;
+    short_by_one[4].work_pins--;
     static const struct sizes5 none = { 0, 0, 0, 0, 0 };
     static const uint8_t longest[VUMNEATH_MAX_TEXT + 1];
     char *printed;

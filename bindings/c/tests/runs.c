@@ -98,13 +98,11 @@ static bool gives(const struct network *net, const char *rows, const char *wante
 /* A network of so many gates, whose pins are still to be set; every gate has as many. */
 static struct network uniform(uint32_t inputs, uint32_t gates, uint32_t form, uint32_t pins, uint32_t outputs)
 {
-    struct network net = { inputs, gates, gates * pins, outputs, lend(gates * 3 * sizeof(uint32_t), 0),
+    struct gate all[VUMNEATH_MAX_GATES];
+    for (uint32_t g = 0; g < gates; g++)
+        all[g] = (struct gate){ form, pins, 0 };
+    struct network net = { inputs, gates, gates * pins, outputs, lend_records(all, gates, 0),
         lend((size_t)gates * pins * sizeof(uint32_t), 0), lend(outputs * sizeof(uint32_t), 0) };
-    for (uint32_t g = 0; g < gates; g++) {
-        cells(&net.gates)[3 * g + VUMNEATH_RECORD_FORM] = form;
-        cells(&net.gates)[3 * g + VUMNEATH_RECORD_FIRST] = g * pins;
-        cells(&net.gates)[3 * g + VUMNEATH_RECORD_COUNT] = pins;
-    }
     for (uint32_t i = 0; i < outputs; i++)
         cells(&net.outputs)[i] = gates ? VUMNEATH_GATE(gates - 1) : VUMNEATH_ZERO;
     return net;
@@ -113,7 +111,7 @@ static struct network uniform(uint32_t inputs, uint32_t gates, uint32_t form, ui
 /* x0 = And(i0, i1), x1 = Dff(x3, 1, 0), x2 = Xor(x0, x1), x3 = Or(x2, !i1), with the cells of one gate, one pin and one output more. */
 static struct network good_network(void)
 {
-    static const uint32_t gates[] = { 1, 0, 2, 14, 2, 3, 2, 5, 2, 8, 7, 2, 99, 99, 99 };
+    static const struct gate gates[] = { { VUMNEATH_AND_2, 2, 0 }, { VUMNEATH_DFF, 3, 0 }, { VUMNEATH_XOR_2, 2, 0 }, { VUMNEATH_OR, 2, 0 } };
     static const uint32_t pins[] = {
         VUMNEATH_INPUT(0), VUMNEATH_INPUT(1), VUMNEATH_GATE(3), VUMNEATH_ONE, VUMNEATH_ZERO, VUMNEATH_GATE(0), VUMNEATH_GATE(1),
         VUMNEATH_GATE(2), VUMNEATH_INPUT(1) | VUMNEATH_INVERTED, VUMNEATH_GATE(99),
@@ -121,7 +119,7 @@ static struct network good_network(void)
     static const uint32_t outputs[] = {
         VUMNEATH_GATE(3), VUMNEATH_GATE(1) | VUMNEATH_INVERTED, VUMNEATH_INPUT(0), VUMNEATH_ONE, VUMNEATH_GATE(99),
     };
-    struct network net = { 2, 4, 9, 4, lend_copy(gates, sizeof gates), lend_copy(pins, sizeof pins), lend_copy(outputs, sizeof outputs) };
+    struct network net = { 2, 4, 9, 4, lend_records(gates, 4, 1), lend_copy(pins, sizeof pins), lend_copy(outputs, sizeof outputs) };
     return net;
 }
 
@@ -316,15 +314,15 @@ static void call_order(void)
 static void call_damaged(void)
 {
     static const uint32_t others[] = {
-        0, 1, 2, 3, 13, 14, 15, 256, 1024, 16384, 0x55555556, 0x7fffffff, 0x80000000, 0xfffffffa, 0xffffffff,
+        0, 1, 2, 3, 13, 14, 15, 256, 1024, 16384, 0x40000001, 0x55555556, 0x7fffffff, 0x80000000, 0xfffffffa, 0xffffffff,
     };
-    const size_t kinds = sizeof others / sizeof *others;
+    const size_t kinds = sizeof others / sizeof *others, pins = record_cell(4, 0), outputs = pins + 9, behind = outputs + 4;
     struct network net = good_network();
     uint32_t *const counts[] = { &net.gate_count, &net.pin_count, &net.output_count, &net.inputs };
-    for (size_t i = 0; i < 29 * kinds; i++) {
+    for (size_t i = 0; i < (behind + 4) * kinds; i++) {
         size_t place = i / kinds;
-        uint32_t *cell = place < 12 ? cells(&net.gates) + place : place < 21 ? cells(&net.pins) + place - 12
-            : place < 25 ? cells(&net.outputs) + place - 21 : counts[place - 25];
+        uint32_t *cell = place < pins ? cells(&net.gates) + place : place < outputs ? cells(&net.pins) + place - pins
+            : place < behind ? cells(&net.outputs) + place - outputs : counts[place - behind];
         uint32_t kept = *cell;
         *cell = others[i % kinds];
         run_checked(&net, good_rows, sizeof good_rows - 1, ROOM, NULL, i);
@@ -334,7 +332,7 @@ static void call_damaged(void)
     for (size_t i = 0; i < 3; i++) {
         struct network less = net;
         struct lent *slice = i == 0 ? &less.gates : i == 1 ? &less.pins : &less.outputs;
-        *slice = lend_copy(slices[i]->part, slices[i]->bytes - (i == 0 ? 3 : 1) * sizeof(uint32_t));
+        *slice = lend_copy(slices[i]->part, slices[i]->bytes - (i == 0 ? VUMNEATH_GATE_CELLS : 1) * sizeof(uint32_t));
         check(gives(&less, good_rows, good_answer), "exactly enough cells", i);
         slice->bytes -= sizeof(uint32_t);
         check(run_string(&less, good_rows) == VUMNEATH_REFUSED_NOT_A_NETWORK, "a cell short is 20 in a run", i);

@@ -38,12 +38,13 @@ static void *call_all(void *write)
 /* Writes the network that is in the cells: an Xor of 11 inputs, a flip-flop with enable and reset, inverters for each input. */
 static void *call_write(void *unused)
 {
+    static const struct gate gates[] = { { VUMNEATH_DFF, 3, 0 }, { VUMNEATH_XOR, 11, 0 } };
     uint32_t *gate = cells(&lent.gates), *pin = cells(&lent.pins);
-    memcpy(gate, (uint32_t[]){ VUMNEATH_DFF, 0, 3, VUMNEATH_XOR, 3, 11 }, 6 * sizeof *gate);
+    size_t length = lay_records(gate, gates, 2);
     for (uint32_t i = 0; i < 14; i++)
         pin[i] = VUMNEATH_INPUT(i + 200) | VUMNEATH_INVERTED;
     cells(&lent.outputs)[0] = VUMNEATH_GATE(1) | VUMNEATH_INVERTED;
-    vumneath_text text = vumneath_write_blif(256, 2, 14, 1, gate, 6, pin, 14, cells(&lent.outputs), 1, out, sizeof out);
+    vumneath_text text = vumneath_write_blif(256, 2, 14, 1, gate, length, pin, 14, cells(&lent.outputs), 1, out, sizeof out);
     check(text.refused == 0, "the network for the stack's measure is written", text.refused);
     return unused;
 }
@@ -52,13 +53,14 @@ static void *call_write(void *unused)
 static void *call_run(void *unused)
 {
     static const uint8_t rows[] = "0\n1\n";
+    static const struct gate gates[] = { { VUMNEATH_DFF, 3, 1 }, { VUMNEATH_MUX, 3, 0 }, { VUMNEATH_XOR, 100, 0 } };
     uint32_t *gate = cells(&lent.gates), *pin = cells(&lent.pins);
-    memcpy(gate, (uint32_t[]){ VUMNEATH_DFF, 0, 3, VUMNEATH_MUX, 3, 3, VUMNEATH_XOR, 6, 100 }, 9 * sizeof *gate);
+    size_t length = lay_records(gate, gates, 3);
     memcpy(pin, (uint32_t[]){ VUMNEATH_GATE(2), VUMNEATH_ONE, VUMNEATH_ZERO }, 3 * sizeof *pin);
     for (uint32_t i = 3; i < 106; i++)
         pin[i] = i % 3 ? VUMNEATH_GATE(0) : VUMNEATH_INPUT(0);
     cells(&lent.outputs)[0] = VUMNEATH_GATE(1);
-    vumneath_rows ran = vumneath_run(1, 3, 106, 1, gate, 9, pin, 106, cells(&lent.outputs), 1, rows, sizeof rows - 1, out, sizeof out);
+    vumneath_rows ran = vumneath_run(1, 3, 106, 1, gate, length, pin, 106, cells(&lent.outputs), 1, rows, sizeof rows - 1, out, sizeof out);
     check(ran.refused == 0, "the network for the stack's measure is run", ran.refused);
     return unused;
 }

@@ -61,18 +61,23 @@ void replay_writes(const char *networks, const char *stored, unsigned long step)
 }
 
 /* x0 = Dff(x3, i1, !i0), x1 = Xor(i0, !i1), x2 = Mux(x0, x1, 1), x3 = Or(x1, !x2); outputs x3, !x2. */
-static const uint32_t good_gates[] = { 14, 0, 3, 2, 3, 2, 6, 5, 3, 8, 8, 2 };
+static const struct gate good_gates[] = { { VUMNEATH_DFF, 3, 0 }, { VUMNEATH_XOR_2, 2, 0 }, { VUMNEATH_MUX, 3, 0 }, { VUMNEATH_OR, 2, 0 } };
 static const uint32_t good_pins[] = {
     VUMNEATH_GATE(3), VUMNEATH_INPUT(1), VUMNEATH_INPUT(0) | VUMNEATH_INVERTED, VUMNEATH_INPUT(0), VUMNEATH_INPUT(1) | 1,
     VUMNEATH_GATE(0), VUMNEATH_GATE(1), VUMNEATH_ONE, VUMNEATH_GATE(1), VUMNEATH_GATE(2) | VUMNEATH_INVERTED,
 };
 static const uint32_t good_outputs[] = { VUMNEATH_GATE(3), VUMNEATH_GATE(2) | VUMNEATH_INVERTED };
 
+/* The cells of the network above. */
+enum { GATES = 4 * VUMNEATH_GATE_CELLS, PINS = 10, OUTPUTS = 2 };
+
 /* The network above with fewer cells of each kind than it has, if asked. */
 static struct network good_network(size_t gates, size_t pins, size_t outputs)
 {
+    uint32_t records[GATES];
     struct network net = { 2, 4, 10, 2, { 0 }, { 0 }, { 0 } };
-    net.gates = lend_copy(good_gates, gates * sizeof(uint32_t));
+    lay_records(records, good_gates, 4);
+    net.gates = lend_copy(records, gates * sizeof(uint32_t));
     net.pins = lend_copy(good_pins, pins * sizeof(uint32_t));
     net.outputs = lend_copy(good_outputs, outputs * sizeof(uint32_t));
     return net;
@@ -91,11 +96,12 @@ static uint32_t write_good(size_t gates, size_t pins, size_t outputs)
 static void call_damaged(void)
 {
     static const uint32_t others[] = { 0, 1, 2, 3, 13, 14, 15, 256, 1024, 16384, 0x7fffffff, 0x80000000, 0xfffffffa, 0xffffffff };
-    const size_t kinds = sizeof others / sizeof *others;
-    struct network net = good_network(12, 10, 2);
-    for (size_t i = 0; i < 24 * kinds; i++) {
+    const size_t kinds = sizeof others / sizeof *others, behind = GATES + PINS;
+    struct network net = good_network(GATES, PINS, OUTPUTS);
+    for (size_t i = 0; i < (behind + OUTPUTS) * kinds; i++) {
         size_t place = i / kinds;
-        uint32_t *cell = place < 12 ? cells(&net.gates) + place : place < 22 ? cells(&net.pins) + place - 12 : cells(&net.outputs) + place - 22;
+        uint32_t *cell = place < GATES ? cells(&net.gates) + place : place < behind ? cells(&net.pins) + place - GATES
+            : cells(&net.outputs) + place - behind;
         uint32_t kept = *cell, length;
         *cell = others[i % kinds];
         write_checked(net, VUMNEATH_MAX_TEXT, &length, i);
@@ -107,8 +113,8 @@ static void call_damaged(void)
 /* Each count too large, up to the largest 32-bit number. */
 static void call_counts(void)
 {
-    static const uint32_t others[] = { 11, 257, 1025, 16385, 0x55555556, 0x80000000, 0xffffffff };
-    struct network net = good_network(12, 10, 2);
+    static const uint32_t others[] = { 11, 257, 1025, 16385, 0x40000001, 0x55555556, 0x80000000, 0xffffffff };
+    struct network net = good_network(GATES, PINS, OUTPUTS);
     uint32_t *const counts[] = { &net.gate_count, &net.pin_count, &net.output_count, &net.inputs }, length;
     for (size_t i = 0; i < 4 * sizeof others / sizeof *others; i++) {
         uint32_t *count = counts[i % 4], kept = *count;
@@ -124,9 +130,8 @@ static void call_counts(void)
 static uint32_t write_wide(uint32_t form, uint32_t short_names, uint32_t long_names, size_t room, uint32_t *length)
 {
     uint32_t count = short_names + long_names;
-    struct network net = { 11, 1, count, 1, lend(3 * sizeof(uint32_t), 0), lend(count * sizeof(uint32_t), 0), lend(sizeof(uint32_t), 0) };
-    cells(&net.gates)[VUMNEATH_RECORD_FORM] = form;
-    cells(&net.gates)[VUMNEATH_RECORD_COUNT] = count;
+    struct gate gate = { form, count, 0 };
+    struct network net = { 11, 1, count, 1, lend_records(&gate, 1, 0), lend(count * sizeof(uint32_t), 0), lend(sizeof(uint32_t), 0) };
     cells(&net.outputs)[0] = VUMNEATH_GATE(0);
     for (uint32_t i = 0; i < count; i++)
         cells(&net.pins)[i] = i < short_names ? VUMNEATH_INPUT(0) : VUMNEATH_INPUT(10);
@@ -156,12 +161,11 @@ static void call_longest(void)
 static void call_largest(void)
 {
     uint32_t length;
-    struct network net = { 256, 1024, 1024, 256, lend(3072 * sizeof(uint32_t), 0), lend(4096, 0), lend(1024, 0) };
-    for (uint32_t g = 0; g < 1024; g++) {
-        cells(&net.gates)[3 * g] = VUMNEATH_BUF;
-        cells(&net.gates)[3 * g + 1] = g;
-        cells(&net.gates)[3 * g + 2] = 1;
-    }
+    struct gate gates[1024];
+    for (uint32_t g = 0; g < 1024; g++)
+        gates[g] = (struct gate){ VUMNEATH_BUF, 1, 0 };
+    struct network net = { 256, 1024, 1024, 256, lend_records(gates, 1024, 0), lend(1024 * sizeof(uint32_t), 0),
+        lend(256 * sizeof(uint32_t), 0) };
     check(write_checked(net, VUMNEATH_MAX_TEXT, &length, 0) == 0, "the largest counts are written", 0);
     net.gate_count = 1023;
     check(write_checked(net, VUMNEATH_MAX_TEXT, &length, 0) == VUMNEATH_REFUSED_NOT_A_NETWORK, "pins that no gate has are 20", 0);
@@ -187,10 +191,10 @@ void call_writes(void)
 {
     unsigned long before = checks;
     call_null();
-    check(write_good(12, 10, 2) == 0, "slices with exactly enough cells", 0);
-    check(write_good(11, 10, 2) == VUMNEATH_REFUSED_NOT_A_NETWORK, "a gate cell short", 0);
-    check(write_good(12, 9, 2) == VUMNEATH_REFUSED_NOT_A_NETWORK, "a pin cell short", 0);
-    check(write_good(12, 10, 1) == VUMNEATH_REFUSED_NOT_A_NETWORK, "an output cell short", 0);
+    check(write_good(GATES, PINS, OUTPUTS) == 0, "slices with exactly enough cells", 0);
+    check(write_good(GATES - 1, PINS, OUTPUTS) == VUMNEATH_REFUSED_NOT_A_NETWORK, "a gate cell short", 0);
+    check(write_good(GATES, PINS - 1, OUTPUTS) == VUMNEATH_REFUSED_NOT_A_NETWORK, "a pin cell short", 0);
+    check(write_good(GATES, PINS, OUTPUTS - 1) == VUMNEATH_REFUSED_NOT_A_NETWORK, "an output cell short", 0);
     call_damaged();
     call_counts();
     call_longest();

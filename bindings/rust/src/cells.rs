@@ -1,9 +1,12 @@
-//! The three functions of the library over lent slices: the boundary, and the only unsafe code of this crate.
+//! The functions of the library over lent slices: the boundary, and the only unsafe code of this crate.
 //!
 //! How a network lies in cells is told in the C header, `vumneath.h`. No function here asks for anything: slices of any lengths
-//! and contents get an answer. Each needs less than 40 KiB of stack.
+//! and contents get an answer. Each needs less than 40 KiB of stack. Each but [`interface`] panics where the library that is linked has
+//! another interface than this crate, since it would take records otherwise.
 #![allow(unsafe_code)]
 
+/// The interface of the library that this crate is for; the C header says when the number rises.
+pub const INTERFACE: u32 = 2;
 /// Bytes of a text, at most.
 pub const MAX_TEXT: usize = 32768;
 /// Inputs of a network, at most.
@@ -14,8 +17,8 @@ pub const MAX_OUTPUTS: usize = 256;
 pub const MAX_GATES: usize = 1024;
 /// Gate inputs of a network, at most.
 pub const MAX_PINS: usize = 16384;
-/// Cells of one gate's record: form number, first pin, number of pins.
-pub const GATE_CELLS: usize = 3;
+/// Cells of one gate's record: form number, first pin, number of pins, start value.
+pub const GATE_CELLS: usize = 4;
 
 /// What reading answers: `refused` is 0 on success, else the refusal's number, and the counts are then 0.
 #[repr(C)]
@@ -58,6 +61,8 @@ pub struct Counts {
 }
 
 extern "C" {
+    fn vumneath_interface() -> u32;
+
     fn vumneath_read_blif(
         text: *const u8,
         text_len: usize,
@@ -106,7 +111,22 @@ extern "C" {
     ) -> RowsAnswer;
 }
 
-/// Reads a text into lent cells. It wants 3,072 cells for gates, 16,384 for pins, 256 for outputs and as many again as working
+/// The interface of the library that is linked. Where it is not [`INTERFACE`], the other functions panic.
+pub fn interface() -> u32 {
+    // SAFETY: the function takes nothing and answers a number.
+    unsafe { vumneath_interface() }
+}
+
+/// Panics where the library that is linked has another interface than this crate.
+fn check_interface() {
+    let linked = interface();
+    assert!(
+        linked == INTERFACE,
+        "libvumneath.a has the interface {linked}, and this crate is for {INTERFACE}: ./install PREFIX installs both together"
+    );
+}
+
+/// Reads a text into lent cells. It wants 4,096 cells for gates, 16,384 for pins, 256 for outputs and as many again as working
 /// gates and pins; fewer is refusal 1. Cells beyond the counts, and all cells after a refusal, are zero.
 pub fn read_blif(
     text: &[u8],
@@ -116,6 +136,7 @@ pub fn read_blif(
     work_gates: &mut [u32],
     work_pins: &mut [u32],
 ) -> NetworkAnswer {
+    check_interface();
     // SAFETY: each pointer comes with the length of its own slice, and borrowing keeps the six apart.
     unsafe {
         vumneath_read_blif(
@@ -138,6 +159,7 @@ pub fn read_blif(
 /// Writes a network as a text into a lent slice. Any counts and cells may be given; what is no network is refusal 20. Bytes
 /// behind the text, and all bytes after a refusal, are zero.
 pub fn write_blif(counts: Counts, gates: &[u32], pins: &[u32], outputs: &[u32], out: &mut [u8]) -> TextAnswer {
+    check_interface();
     // SAFETY: each pointer comes with the length of its own slice, and borrowing keeps the output apart from the others.
     unsafe {
         vumneath_write_blif(
@@ -157,10 +179,11 @@ pub fn write_blif(counts: Counts, gates: &[u32], pins: &[u32], outputs: &[u32], 
     }
 }
 
-/// Runs a sorted network over rows, one for each clock, into a lent slice. A row is a character 0 or 1 for each input and an LF; the
-/// slice gets one for each clock, a character 0 or 1 for each output and an LF. Any counts, cells and rows may be given. Bytes behind the
-/// rows, and all bytes after a refusal, are zero.
+/// Runs a sorted network over rows, one for each clock, from the flip-flops' start values, into a lent slice. A row is a character 0 or 1
+/// for each input and an LF; the slice gets one for each clock, a character 0 or 1 for each output and an LF. Any counts, cells and rows may
+/// be given. Bytes behind the rows, and all bytes after a refusal, are zero.
 pub fn run(counts: Counts, gates: &[u32], pins: &[u32], outputs: &[u32], rows: &[u8], out: &mut [u8]) -> RowsAnswer {
+    check_interface();
     // SAFETY: each pointer comes with the length of its own slice, and borrowing keeps the output apart from the others.
     unsafe {
         vumneath_run(

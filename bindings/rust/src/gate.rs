@@ -31,7 +31,7 @@ pub enum NaryType {
     Xnor,
 }
 
-/// A gate with its inputs. It prints as `And(i0, !x2)`.
+/// A gate with its inputs. It prints as `And(i0, !x2)`, and a flip-flop that starts at one as `Dff(x3, 1, 0, start=1)`.
 #[derive(Clone, Debug, PartialEq, Eq, Hash)]
 pub enum Gate {
     /// A gate of two inputs.
@@ -42,8 +42,8 @@ pub enum Gate {
     Nary(Vec<Signal>, NaryType),
     /// The value of one input.
     Buf(Signal),
-    /// A flip-flop that starts at zero: data, enable, reset. Reset comes before enable.
-    Dff([Signal; 3]),
+    /// A flip-flop: data, enable, reset; and its start value, where true is one. Reset comes before enable.
+    Dff([Signal; 3], bool),
 }
 
 impl Gate {
@@ -51,7 +51,7 @@ impl Gate {
     pub fn pins(&self) -> &[Signal] {
         match self {
             Gate::Binary(pins, _) => pins,
-            Gate::Ternary(pins, _) | Gate::Dff(pins) => pins,
+            Gate::Ternary(pins, _) | Gate::Dff(pins, _) => pins,
             Gate::Nary(pins, _) => pins,
             Gate::Buf(pin) => std::slice::from_ref(pin),
         }
@@ -59,7 +59,12 @@ impl Gate {
 
     /// Whether it is no flip-flop.
     pub fn is_comb(&self) -> bool {
-        !matches!(self, Gate::Dff(_))
+        !matches!(self, Gate::Dff(..))
+    }
+
+    /// The start value: that of a flip-flop, and false of every other gate.
+    pub fn start(&self) -> bool {
+        matches!(self, Gate::Dff(_, true))
     }
 
     /// The form number, 1 to 14, that stands in the gate's record.
@@ -78,12 +83,16 @@ impl Gate {
             Gate::Nary(_, NaryType::Xor) => 11,
             Gate::Nary(_, NaryType::Xnor) => 12,
             Gate::Buf(_) => 13,
-            Gate::Dff(_) => 14,
+            Gate::Dff(..) => 14,
         }
     }
 
-    /// The gate of a form number and its inputs; none where there is no such form or it cannot have so many inputs.
-    pub fn from_form(form: u32, pins: &[Signal]) -> Option<Gate> {
+    /// The gate of a record: its form number, its inputs and its start value; none where there is no such form, or where it cannot have
+    /// so many inputs or this start value.
+    pub fn from_form(form: u32, pins: &[Signal], start: u32) -> Option<Gate> {
+        if start > u32::from(form == 14) {
+            return None;
+        }
         let two = || pins.try_into().ok();
         let three = || pins.try_into().ok();
         let any = |kind| Some(Gate::Nary(pins.to_vec(), kind));
@@ -101,7 +110,7 @@ impl Gate {
             11 => any(NaryType::Xor),
             12 => any(NaryType::Xnor),
             13 => <[Signal; 1]>::try_from(pins).ok().map(|[pin]| Gate::Buf(pin)),
-            14 => Some(Gate::Dff(three()?)),
+            14 => Some(Gate::Dff(three()?, start == 1)),
             _ => None,
         }
     }
@@ -126,6 +135,7 @@ impl Gate {
 impl fmt::Display for Gate {
     fn fmt(&self, f: &mut fmt::Formatter<'_>) -> fmt::Result {
         let pins: Vec<String> = self.pins().iter().map(Signal::to_string).collect();
-        write!(f, "{}({})", self.name(), pins.join(", "))
+        let start = if self.start() { ", start=1" } else { "" };
+        write!(f, "{}({}{start})", self.name(), pins.join(", "))
     }
 }

@@ -24,7 +24,20 @@
 //! # Ok::<(), Refusal>(())
 //! ```
 //!
-//! [`cells`] has the three functions over slices that the caller lends, for programs that want no heap.
+//! A flip-flop starts at the value that its `.latch` says, and a run begins there:
+//!
+//! ```
+//! use vumneath::{Gate, Network, Refusal, Signal};
+//!
+//! let turning = Network::read(b".outputs q\n.latch d q 1\n.names q d\n0 1\n")?;
+//! assert_eq!(turning.gates()[0], Gate::Dff([Signal::from_var(1), Signal::one(), Signal::zero()], true));
+//! assert_eq!(turning.run(b"\n\n\n")?, b"1\n0\n1\n");
+//! assert_eq!(Network::read(b".latch d q 4\n"), Err(Refusal::WrongStart));
+//! # Ok::<(), Refusal>(())
+//! ```
+//!
+//! [`cells`] has the functions over slices that the caller lends, for programs that want no heap. [`interface`] is the interface of the
+//! library that is linked; where it is not [`INTERFACE`], every call panics.
 #![deny(unsafe_code)]
 #![warn(missing_docs)]
 
@@ -35,6 +48,7 @@ mod refusal;
 mod report;
 mod signal;
 
+pub use cells::{interface, INTERFACE};
 pub use gate::{BinaryType, Gate, NaryType, TernaryType};
 pub use network::Network;
 pub use refusal::Refusal;

@@ -66,12 +66,13 @@ impl Network {
         Network { inputs, gates, outputs }
     }
 
-    /// Reads a BLIF text. Flip-flops come first, then every other gate behind those that it takes its inputs from. A latch's type,
-    /// control and start value are ignored: every flip-flop starts at zero.
+    /// Reads a BLIF text. Flip-flops come first, then every other gate behind those that it takes its inputs from. Where `.latch` has three
+    /// words behind it the third is the start value, where it has five or more the fifth, and else it is zero; 2 and 3 are read as zero. A
+    /// latch's type and control are ignored.
     ///
     /// # Errors
     ///
-    /// The refusals from 2 to 14.
+    /// The refusals from 2 to 14, and 34.
     pub fn read(text: &[u8]) -> Result<Network, Refusal> {
         let mut gates = vec![0; MAX_GATES * GATE_CELLS];
         let mut pins = vec![0; MAX_PINS];
@@ -81,8 +82,9 @@ impl Network {
         let answer = cells::read_blif(text, &mut gates, &mut pins, &mut outputs, &mut work_gates, &mut work_pins);
         Refusal::of(answer.refused)?;
         let gates = gates[..answer.gates as usize * GATE_CELLS].chunks(GATE_CELLS).map(|record| {
-            let (first, length) = (record[1] as usize, record[2] as usize);
-            Gate::from_form(record[0], &signals(&pins[first..first + length])).expect("the reader leaves records of gates")
+            let [form, first, length, start] = <[u32; GATE_CELLS]>::try_from(record).expect("a record has as many cells");
+            let pins = signals(&pins[first as usize..][..length as usize]);
+            Gate::from_form(form, &pins, start).expect("the reader leaves records of gates")
         });
         let outputs = signals(&outputs[..answer.outputs as usize]);
         Ok(Network { inputs: answer.inputs, gates: gates.collect(), outputs })
@@ -102,8 +104,8 @@ impl Network {
         Ok(text)
     }
 
-    /// Runs the network for one clock after the other, from all flip-flops at zero. There is a row for each clock, and there may be any
-    /// number of them: a character 0 or 1 for each input, in order, and an LF. The answer has such a row of outputs for each clock. A
+    /// Runs the network for one clock after the other, from the flip-flops' start values. There is a row for each clock, and there may be
+    /// any number of them: a character 0 or 1 for each input, in order, and an LF. The answer has such a row of outputs for each clock. A
     /// network that was read can be run; one of the caller's has to be sorted, with flip-flops of the enable one and the reset zero.
     ///
     /// ```
@@ -153,7 +155,7 @@ impl Network {
     fn lent(&self) -> Lent {
         let (mut gates, mut pins) = (Vec::new(), Vec::new());
         for gate in &self.gates {
-            gates.extend([gate.form(), count(pins.len()), count(gate.pins().len())]);
+            gates.extend([gate.form(), count(pins.len()), count(gate.pins().len()), u32::from(gate.start())]);
             pins.extend(raw_cells(gate.pins()));
         }
         let outputs = raw_cells(&self.outputs);

@@ -56,6 +56,7 @@ refusals! {
     WrongRows = 31, "a row has the wrong length, another character or no LF, or the output rows do not fit";
     WrongSheet = 32, "a sheet line is missing, misformed or left over, or the sheet is over 40,960 bytes";
     NoOutput = 33, "the network has no output";
+    WrongStart = 34, "a latch's start value is not 0, 1, 2 or 3";
 }
 
 impl Refusal {
@@ -75,7 +76,7 @@ impl Refusal {
         }
     }
 
-    /// The number: 1 to 14 of reading, 20 to 22 of writing, 20 and 29 to 31 of running, 2 to 14 and 31 to 33 of a report.
+    /// The number: 1 to 14 and 34 of reading, 20 to 22 of writing, 20 and 29 to 31 of running, 2 to 14 and 31 to 34 of a report.
     pub const fn number(self) -> u32 {
         self as u32
     }

@@ -61,7 +61,7 @@ fn sheet_of(text: &[u8]) -> Option<Sheet<'_>> {
 }
 
 /// The report for a pass log, as the program `passreport` gives it for the files netlist.blif and sheet.txt: runs the commands of a sheet
-/// on a netlist, from all flip-flops at zero, and counts the rows at which the first output is 1 and those at which it is 0.
+/// on a netlist, from the flip-flops' start values, and counts the rows at which the first output is 1 and those at which it is 0.
 ///
 /// A sheet is the line `part=` with 1 to 16 ASCII letters or digits, the line `rows=` with a number from 1 to 128 without leading zeros,
 /// and so many command rows: a character 0 or 1 for each input of the netlist, in order. An LF ends each line, and nothing stands behind

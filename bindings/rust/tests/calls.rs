@@ -2,8 +2,8 @@
 mod common;
 
 use common::{read, write, ENOUGH};
-use vumneath::cells::Counts;
-use vumneath::{BinaryType, Gate, NaryType, Network, Refusal, Signal, TernaryType};
+use vumneath::cells::{Counts, GATE_CELLS};
+use vumneath::{interface, BinaryType, Gate, NaryType, Network, Refusal, Signal, TernaryType, INTERFACE};
 
 const GOOD: &[u8] = b".model m\n.inputs a b c\n.outputs y q\n.names a b c y\n11- 1\n0-1 1\n.latch y q 0\n.end\n";
 
@@ -53,7 +53,7 @@ fn all_forms() -> Network {
     for kind in [NaryType::And, NaryType::Or, NaryType::Nand, NaryType::Nor, NaryType::Xor, NaryType::Xnor] {
         gates.push(Gate::Nary(vec![a, b, c, Signal::one()], kind));
     }
-    gates.extend([Gate::Buf(b), Gate::Dff([a, b, c])]);
+    gates.extend([Gate::Buf(b), Gate::Dff([a, b, c], false)]);
     Network::new(2, gates, vec![Signal::from_var(12), !c, Signal::zero()])
 }
 
@@ -62,7 +62,7 @@ fn networks_of_the_caller() {
     let network = all_forms();
     for (gate, form) in network.gates().iter().zip(1..) {
         assert_eq!(gate.form(), form);
-        assert_eq!(Gate::from_form(form, gate.pins()).as_ref(), Some(gate));
+        assert_eq!(Gate::from_form(form, gate.pins(), 0).as_ref(), Some(gate));
     }
     let text = String::from_utf8(network.write().unwrap()).unwrap();
     assert!(text.contains(".flop D=i0 Q=x13 init=0 E=i1_n R=x13\n"), "{text}");
@@ -77,13 +77,13 @@ fn networks_of_the_caller() {
 #[test]
 fn exactly_enough_and_one_short() {
     let counts = Counts { inputs: 1, gates: 1, pins: 1, outputs: 1 };
-    let (gates, pins, outputs) = ([13, 0, 1], [0xffff_fffe], [2]);
+    let (gates, pins, outputs) = ([13, 0, 1, 0], [0xffff_fffe], [2]);
     let (answer, text) = write(counts, [&gates, &pins, &outputs], 32768);
     assert_eq!((answer.refused, answer.length as usize), (0, text.len()));
     let number = |gates: &[u32], pins: &[u32], outputs: &[u32], room| write(counts, [gates, pins, outputs], room).0.refused;
     assert_eq!(number(&gates, &pins, &outputs, text.len()), 0);
     assert_eq!(number(&gates, &pins, &outputs, text.len() - 1), 22);
-    assert_eq!(number(&gates[..2], &pins, &outputs, text.len()), 20);
+    assert_eq!(number(&gates[..GATE_CELLS - 1], &pins, &outputs, text.len()), 20);
     assert_eq!(number(&gates, &[], &outputs, text.len()), 20);
     assert_eq!(number(&gates, &pins, &[], text.len()), 20);
 }
@@ -105,6 +105,14 @@ fn signals() {
     );
 }
 
+/// The interface of this crate, of the library and of the C header.
+#[test]
+fn one_interface() {
+    let header = std::fs::read_to_string(concat!(env!("CARGO_MANIFEST_DIR"), "/../c/vumneath.h")).unwrap();
+    let stated = header.lines().find_map(|line| line.strip_prefix("#define VUMNEATH_INTERFACE "));
+    assert_eq!((stated, interface()), (Some(INTERFACE.to_string().as_str()), INTERFACE));
+}
+
 /// The refusals are the constants of the C header, as they are named there.
 #[test]
 fn refusals_of_the_header() {
@@ -121,5 +129,5 @@ fn refusals_of_the_header() {
     }
     assert_eq!(found, Refusal::ALL);
     assert_eq!(Refusal::of(0), Ok(()));
-    assert_eq!([0, 15, 19, 28, 34, u32::MAX].map(Refusal::from_number), [None; 6]);
+    assert_eq!([0, 15, 19, 28, 35, u32::MAX].map(Refusal::from_number), [None; 6]);
 }

@@ -2,7 +2,7 @@
 mod common;
 
 use common::{read_notation, run, stored, write, List, ENOUGH, ONE_MORE};
-use vumneath::cells::Counts;
+use vumneath::cells::{Counts, MAX_TEXT};
 use vumneath::{report, Network};
 
 /// The stored answers from the first one on; before it a program shows what it tells of cells that are not as they must be.
@@ -32,7 +32,7 @@ fn stored_texts() {
         sizes[kind] -= 1;
         said += &read_notation(b"", sizes);
     }
-    said += &read_notation(&[0; 32769], [0; 5]);
+    said += &read_notation(&[0; MAX_TEXT + 1], [0; 5]);
     let wanted = String::from_utf8(answers("read_replay/stdout", "text 0\n")).unwrap();
     assert_eq!(said.lines().count(), wanted.lines().count());
     for (place, (line, stored)) in said.lines().zip(wanted.lines()).enumerate() {

@@ -2,7 +2,7 @@
 mod common;
 
 use common::run;
-use vumneath::cells::Counts;
+use vumneath::cells::{Counts, GATE_CELLS};
 use vumneath::{BinaryType, Gate, NaryType, Network, Refusal, Signal, TernaryType};
 
 const ROWS: &[u8] = b"00\n01\n11\n11\n10\n";
@@ -17,7 +17,7 @@ fn i(v: u32) -> Signal {
 }
 
 fn flop(data: Signal) -> Gate {
-    Gate::Dff([data, Signal::one(), Signal::zero()])
+    Gate::Dff([data, Signal::one(), Signal::zero()], false)
 }
 
 /// x0 = And(i0, i1), x1 = Dff(x3, 1, 0), x2 = Xor(x0, x1), x3 = Or(x2, !i1).
@@ -138,7 +138,7 @@ fn order_of_refusals() {
         assert_eq!(by_bits, with(b"1\n"));
         [with(ROWS), with(b""), by_bits]
     };
-    let other = |enable, reset| move |gates: &mut Vec<Gate>| gates[1] = Gate::Dff([x(3), enable, reset]);
+    let other = |enable, reset| move |gates: &mut Vec<Gate>| gates[1] = Gate::Dff([x(3), enable, reset], false);
     let buf = |signal| move |gates: &mut Vec<Gate>| gates[2] = Gate::Buf(signal);
     assert_eq!(refusals(&|_| ()), [0, 0, 31]);
     assert_eq!(refusals(&buf(i(1))), [0, 0, 31]);
@@ -161,7 +161,7 @@ fn order_of_refusals() {
 fn smallest_refused() {
     let refused = |gates, rows: &[u8]| Network::new(0, gates, vec![]).run(rows).unwrap_err().number();
     assert_eq!(refused(vec![Gate::Buf(x(0))], b""), 29);
-    assert_eq!(refused(vec![Gate::Dff([Signal::zero(); 3])], b""), 30);
+    assert_eq!(refused(vec![Gate::Dff([Signal::zero(); 3], false)], b""), 30);
     assert_eq!(refused(vec![], b"0"), 31);
 }
 
@@ -169,7 +169,7 @@ fn smallest_refused() {
 #[test]
 fn lent_slices() {
     let counts = Counts { inputs: 1, gates: 1, pins: 1, outputs: 2 };
-    let (gates, pins, outputs) = ([13, 0, 1], [0xffff_fffe], [2, 3]);
+    let (gates, pins, outputs) = ([13, 0, 1, 0], [0xffff_fffe], [2, 3]);
     let number =
         |gates: &[u32], pins: &[u32], outputs: &[u32], room| run(counts, [gates, pins, outputs], b"1\n0\n", room).0.refused;
     for room in [6, 7, 100] {
@@ -178,16 +178,20 @@ fn lent_slices() {
     for room in 0..6 {
         assert_eq!(number(&gates, &pins, &outputs, room), 31);
     }
-    assert_eq!(number(&gates[..2], &pins, &outputs, 6), 20);
+    assert_eq!(number(&gates[..GATE_CELLS - 1], &pins, &outputs, 6), 20);
     assert_eq!(number(&gates, &[], &outputs, 6), 20);
     assert_eq!(number(&gates, &pins, &outputs[..1], 6), 20);
-    assert_eq!(number(&[13, 0, 1, 99], &[0xffff_fffe, 99], &[2, 3, 99], 6), 0);
+    assert_eq!(number(&[13, 0, 1, 0, 99], &[0xffff_fffe, 99], &[2, 3, 99], 6), 0);
 }
 
-/// The interlock of the examples.
+/// The interlocks of the examples, as they are read and once more written and read.
 #[test]
-fn interlock() {
-    let file = |name| std::fs::read(format!("{}/../netlists/{name}", env!("CARGO_MANIFEST_DIR"))).unwrap();
-    let network = Network::read(&file("lock.blif")).unwrap();
-    assert_eq!(network.run(&file("lock.rows")).unwrap(), file("lock.rows.out"));
+fn interlocks() {
+    for name in ["lock", "locked"] {
+        let file = |kind| std::fs::read(format!("{}/../netlists/{name}.{kind}", env!("CARGO_MANIFEST_DIR"))).unwrap();
+        let network = Network::read(&file("blif")).unwrap();
+        assert_eq!(network.run(&file("rows")).unwrap(), file("rows.out"));
+        let back = Network::read(&network.write().unwrap()).unwrap();
+        assert_eq!(back.run(&file("rows")).unwrap(), file("rows.out"));
+    }
 }

@@ -10,8 +10,9 @@ const GUARD_BYTE: u8 = 0x5c;
 
 /// Cells of each kind: gates, pins, outputs, working gates, working pins.
 pub type Sizes = [usize; 5];
-pub const ENOUGH: Sizes = [3072, 16384, 256, 3072, 16384];
-pub const ONE_MORE: Sizes = [3073, 16385, 257, 3073, 16385];
+pub const ENOUGH: Sizes = [GATES, cells::MAX_PINS, cells::MAX_OUTPUTS, GATES, cells::MAX_PINS];
+pub const ONE_MORE: Sizes = [ENOUGH[0] + 1, ENOUGH[1] + 1, ENOUGH[2] + 1, ENOUGH[3] + 1, ENOUGH[4] + 1];
+const GATES: usize = cells::MAX_GATES * cells::GATE_CELLS;
 
 /// Cells that are all ones between guards.
 fn guarded(count: usize) -> Vec<u32> {
