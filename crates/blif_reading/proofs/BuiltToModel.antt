@@ -8,10 +8,10 @@ use native.Mathlib.Omega.{arith}
 use native.Mathlib.Nat.{zero-add, add-zero}
 use lib.ListN.{length, getElem?}
 use Rattle.lists.specs.Lists.{optional}
-use Rattle.signal.specs.Signal.{Node, Const, Input, Var, Signal, oneS, zeroS}
+use Rattle.signal.specs.Signal.{Signal, oneS, zeroS}
 use Rattle.gates.specs.Gate.{Gate}
 use Rattle.network.specs.Net.{GateIs}
-use Rattle.network.specs.Clock.{Clock, sigBit}
+use Rattle.network.specs.Clock.{Clock, nodeBit, sigBit}
 use Rattle.blif_meaning.specs.Model.{Line, LatchDef, Block, Latch, Cover, Model, target, blockBit, coverBit, BlifClock}
 use Rattle.blif_reading.specs.Build.{lineGate, lineGates, blockGate, newGates, blockGates, allNewGates, build}
 use Rattle.blif_meaning.specs.WellFormed.{Closed, GoodBlock}
@@ -64,21 +64,16 @@ module _ {Name : Type 0} (m : Model Name) (signalOf : Name → Signal) where
 
 module _ {Name : Type 0} (m : Model Name) (signalOf : Name → Signal) (ok : Looks m signalOf) (closed : Closed m)
     (good : (b : Block Name) → List·Memᴰ b (m .blocks) → GoodBlock b) where
-  abbrev gateOr : (ℕ → Bool) → Node → Bool
-  gateOr f Const = false
-  gateOr f (Input i) = false
-  gateOr f (Var g) = f g
-
   -- a flip-flop built for a latch and the latch hold the same
   abbrev pub HoldsBack : (ℕ → Bool) → (Name → Bool) → Type 0
   HoldsBack heldN heldB = Holds m signalOf ok closed good heldB heldN
 
   -- what the flip-flops hold, by the names of their latches
   abbrev pub heldBy : (ℕ → Bool) → Name → Bool
-  heldBy heldN y = gateOr heldN (signalOf y .node)
+  heldBy heldN y = nodeBit [] heldN (signalOf y .node)
 
   pub heldBy-holds : (heldN : ℕ → Bool) → HoldsBack heldN (heldBy heldN)
-  heldBy-holds heldN j l e = sym (ap (λ (s : Signal). gateOr heldN (s .node)) (ok .blockAt j (Latch l) e))
+  heldBy-holds heldN j l e = sym (ap (λ (s : Signal). nodeBit [] heldN (s .node)) (ok .blockAt j (Latch l) e))
 
   module _ (heldN nextN : ℕ → Bool) (heldB : Name → Bool) (row out : List Bool) (h : HoldsBack heldN heldB) (c : Clock (build signalOf m) heldN row out nextN) where
     abbrev σ : Signal → Bool

@@ -80,18 +80,13 @@ module _ {Name : Type 0} (name : Signal → Name) where
       abbrev pub HoldsName : (ℕ → Bool) → (Name → Bool) → Type 0
       HoldsName heldN heldB = (g : ℕ) (s : FlipFlop) → GateIs net g (Dff s) → heldB (gateName name g) ≡ heldN g
 
-      abbrev gateOr : (ℕ → Bool) → Node → Bool
-      gateOr f Const = false
-      gateOr f (Input i) = false
-      gateOr f (Var g) = f g
-
       -- bits by the names of the gates
       byName : (ℕ → Bool) → Name → Bool
-      byName f y = gateOr f (unname y .node)
+      byName f y = nodeBit [] f (unname y .node)
 
       by-gate : (f : ℕ → Bool) (g : ℕ) → byName f (gateName name g) ≡ f g
       unfolding byName
-      by-gate f g = ap (λ (s : Signal). gateOr f (s .node)) (back (plain (Var g)))
+      by-gate f g = ap (λ (s : Signal). nodeBit [] f (s .node)) (back (plain (Var g)))
 
       module _ (heldN nextN : ℕ → Bool) (heldB : Name → Bool) (row out : List Bool) (h : HoldsName heldN heldB) (c : Clock net heldN row out nextN) where
         abbrev ε : Name → Bool
