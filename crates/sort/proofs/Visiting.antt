@@ -12,7 +12,7 @@ use Rattle.lists.proofs.Counting.{hit-or, once-short, length-table, getD-table}
 use Rattle.network.specs.Sizes.{maxGates}
 use Rattle.sort_order.specs.Order.{Graph, uses, pushed, lowered, kept, countsAfter, stackAfter, walk, recorded, useCount}
 use Rattle.sort_order.specs.between.Walk.{ValidGraph, WalkState}
-use Rattle.sort.specs.between.Steps.{gateIns, fromTop, Lowered, Walks, GatesMarked, Ready, Visited, Begins, Recorded}
+use Rattle.sort.specs.between.Steps.{gateIns, fromTop, topGate, Lowered, Walks, GatesMarked, Ready, Visited, Begins, Recorded}
 use Rattle.sort_order.proofs.Walk.{budget, good-lower, next-below, good-pop, good-all, budget-all, top-low, top-fresh, uses-comb, uses-flop}
 use Rattle.sort_order.proofs.WalkEnds.{good-start, budget-start}
 use Rattle.sort.proofs.Stack.{length-fromTop}
@@ -55,7 +55,7 @@ walk-empty G (suc k) c done = refl
 
 -- ---- one visit
 
-pub fromTop-pop : (top : ℕ) (st : List ℕ) → 0 < top → fromTop top st ≡ getD st (top - 1) 0 ∷ fromTop (top - 1) st
+pub fromTop-pop : (top : ℕ) (st : List ℕ) → 0 < top → fromTop top st ≡ topGate st top ∷ fromTop (top - 1) st
 fromTop-pop zero st p = absurd (omega arith)
 fromTop-pop (suc k) st p =
     let e : suc k - 1 ≡ k = omega arith in
@@ -69,33 +69,33 @@ mark-comb : (b : Bool) (r x : ℕ) → x ≡ cond b r 1 → x ≡ 0 → b ≡ tr
 mark-comb true r x e h = refl
 mark-comb false r x e h = absurd (omega arith)
 
-module _ (G : Graph) (valid : ValidGraph G) (few : G .size ≤ maxGates) (c m st : List ℕ) (top : ℕ) (o : List ℕ) (at : ℕ) (p : 0 < top) (r : Ready G c m st top o at) where
-  pub top-good : WalkState G c (getD st (top - 1) 0 ∷ fromTop (top - 1) st) (r .done) []
+module _ {G : Graph} (valid : ValidGraph G) (few : G .size ≤ maxGates) {c m st : List ℕ} {top : ℕ} {o : List ℕ} {at : ℕ} (p : 0 < top) (r : Ready G c m st top o at) where
+  pub top-good : WalkState G c (topGate st top ∷ fromTop (top - 1) st) (r .done) []
   top-good = rw (fromTop-pop top st p) at (r .good)
 
   pub top-few : top ≤ G .size
   top-few = omega (arith, stack-short G c (fromTop top st) (r .done) [] (r .good), length-fromTop top st)
 
-  pub v-below : getD st (top - 1) 0 < G .size
-  v-below = top-low G valid c (fromTop (top - 1) st) (r .done) (getD st (top - 1) 0) top-good .0
+  pub v-below : topGate st top < G .size
+  v-below = top-low G valid c (fromTop (top - 1) st) (r .done) (topGate st top) top-good .0
 
-  pub v-flop : (getD m (getD st (top - 1) 0) 0 ≡ 0 → ⊥) → G .comb (getD st (top - 1) 0) ≡ false
+  pub v-flop : (getD m (topGate st top) 0 ≡ 0 → ⊥) → G .comb (topGate st top) ≡ false
   v-flop z =
-      mark-flop (G .comb (getD st (top - 1) 0)) (occ (getD st (top - 1) 0) (r .done)) (getD m (getD st (top - 1) 0) 0)
-      (r .marked .each (getD st (top - 1) 0) v-below)
-      (top-fresh G valid c (fromTop (top - 1) st) (r .done) (getD st (top - 1) 0) top-good .1)
+      mark-flop (G .comb (topGate st top)) (occ (topGate st top) (r .done)) (getD m (topGate st top) 0)
+      (r .marked .each (topGate st top) v-below)
+      (top-fresh G valid c (fromTop (top - 1) st) (r .done) (topGate st top) top-good .1)
       z
 
-  pub v-comb : getD m (getD st (top - 1) 0) 0 ≡ 0 → G .comb (getD st (top - 1) 0) ≡ true
+  pub v-comb : getD m (topGate st top) 0 ≡ 0 → G .comb (topGate st top) ≡ true
   v-comb z =
-      mark-comb (G .comb (getD st (top - 1) 0)) (occ (getD st (top - 1) 0) (r .done)) (getD m (getD st (top - 1) 0) 0)
-      (r .marked .each (getD st (top - 1) 0) v-below)
+      mark-comb (G .comb (topGate st top)) (occ (topGate st top) (r .done)) (getD m (topGate st top) 0)
+      (r .marked .each (topGate st top) v-below)
       z
 
-  pub visited-skip : (getD m (getD st (top - 1) 0) 0 ≡ 0 → ⊥) → Visited G (getD st (top - 1) 0) c m st top o at c m st (top - 1) o at
+  pub visited-skip : (getD m (topGate st top) 0 ≡ 0 → ⊥) → Visited G (topGate st top) c m st top o at c m st (top - 1) o at
   visited-skip z =
       let e = v-flop z in
-      let u = uses-flop G (getD st (top - 1) 0) e in
+      let u = uses-flop G (topGate st top) e in
       record {
         lowered = record { counts = rw u; stack = rw u };
         marks = rw e;
@@ -104,25 +104,25 @@ module _ (G : Graph) (valid : ValidGraph G) (few : G .size ≤ maxGates) (c m st
       }
 
   -- the gate is recorded
-  v-good : getD m (getD st (top - 1) 0) 0 ≡ 0 → WalkState G c (fromTop (top - 1) st) (getD st (top - 1) 0 ∷ r .done) (G .ins (getD st (top - 1) 0))
+  v-good : getD m (topGate st top) 0 ≡ 0 → WalkState G c (fromTop (top - 1) st) (topGate st top ∷ r .done) (G .ins (topGate st top))
   v-good z =
-      let v = getD st (top - 1) 0 in
+      let v = topGate st top in
       let e = v-comb z in
       let f : kept (G .comb v) v (r .done) ≡ v ∷ r .done = rw e in
       rw (f, uses-comb G v e) at (good-pop G valid c (fromTop (top - 1) st) (r .done) v top-good)
 
-  pub at-pos : getD m (getD st (top - 1) 0) 0 ≡ 0 → 1 ≤ at
-  at-pos z = omega (arith, done-short G c (fromTop (top - 1) st) (getD st (top - 1) 0 ∷ r .done) (G .ins (getD st (top - 1) 0)) (v-good z), r .room)
+  pub at-pos : getD m (topGate st top) 0 ≡ 0 → 1 ≤ at
+  at-pos z = omega (arith, done-short G c (fromTop (top - 1) st) (topGate st top ∷ r .done) (G .ins (topGate st top)) (v-good z), r .room)
 
-  pub visit-walks : (pins : List ℕ) → G .ins (getD st (top - 1) 0) ≡ gateIns pins → getD m (getD st (top - 1) 0) 0 ≡ 0 → Walks c (fromTop (top - 1) st) pins
-  visit-walks pins e z = record { graph = G; done = getD st (top - 1) 0 ∷ r .done; few = few; good = rw e at (v-good z) }
+  pub visit-walks : (pins : List ℕ) → G .ins (topGate st top) ≡ gateIns pins → getD m (topGate st top) 0 ≡ 0 → Walks c (fromTop (top - 1) st) pins
+  visit-walks pins e z = record { graph = G; done = topGate st top ∷ r .done; few = few; good = rw e at (v-good z) }
 
-  pub visited-comb : (pins c′ st′ : List ℕ) (top′ : ℕ) → G .ins (getD st (top - 1) 0) ≡ gateIns pins → getD m (getD st (top - 1) 0) 0 ≡ 0
+  pub visited-comb : (pins c′ st′ : List ℕ) (top′ : ℕ) → G .ins (topGate st top) ≡ gateIns pins → getD m (topGate st top) 0 ≡ 0
       → Lowered (gateIns pins) c (fromTop (top - 1) st) c′ (fromTop top′ st′)
-      → Visited G (getD st (top - 1) 0) c m st top o at c′ (set m (getD st (top - 1) 0) 1) st′ top′ (set o (at - 1) (getD st (top - 1) 0)) (at - 1)
+      → Visited G (topGate st top) c m st top o at c′ (set m (topGate st top) 1) st′ top′ (set o (at - 1) (topGate st top)) (at - 1)
   visited-comb pins c′ st′ top′ q z l =
       let e = v-comb z in
-      let u : gateIns pins ≡ uses G (getD st (top - 1) 0) = sym (uses-comb G (getD st (top - 1) 0) e ∙ q) in
+      let u : gateIns pins ≡ uses G (topGate st top) = sym (uses-comb G (topGate st top) e ∙ q) in
       record {
         lowered = rw u at l;
         marks = rw e;
@@ -137,13 +137,23 @@ drop-set-here o i v l =
     drop-cons (set o i v) i 0 (rw length-set l)
     ∙ (rw (getD-set-same o i v 0 l, drop-set-lt (suc i) o i v (omega arith)))
 
+-- What holds before each visit. The order's cells, which were o₀:
+--     0          at                    G .size
+--     | as in o₀ | the gates recorded  | as in o₀
 pub record Walking (G : Graph) (o₀ c m st : List ℕ) (top : ℕ) (o : List ℕ) (at : ℕ) : Type 0 where
+  -- counts, marks and stack fit the gates recorded
   pub ready : Ready G c m st top o at
+  -- the order keeps its length
   pub same : length o ≡ length o₀
+  -- the gates recorded stand from `at` on
   pub laid : drop at o ≡ ready .done ++ drop (G .size) o₀
+  -- before them nothing has changed
   pub front : take at o ≡ take at o₀
+  -- so many pops
   pub left : ℕ
+  -- are enough from here
   pub enough : budget G c (fromTop top st) ≤ left
+  -- and record what the whole walk records
   pub leads : walk G left c (fromTop top st) (ready .done) ≡ recorded G
 
 marked-next : (G : Graph) (v : ℕ) (done m : List ℕ) (b : Bool) → G .comb v ≡ b → v < length m → occ v done ≡ 0 → GatesMarked G done m → GatesMarked G (kept b v done) (cond b (set m v 1) m)
@@ -181,25 +191,25 @@ front-next o₀ o at v true e =
     ∙ ap (take (at - 1)) e
     ∙ take-take (at - 1) at o₀ (omega arith)
 
-module _ (G : Graph) (valid : ValidGraph G) (few : G .size ≤ maxGates) (o₀ c m st : List ℕ) (top : ℕ) (o : List ℕ) (at : ℕ) (p : 0 < top) (w : Walking G o₀ c m st top o at)
-    (c′ m′ st′ : List ℕ) (top′ : ℕ) (o′ : List ℕ) (at′ : ℕ) (x : Visited G (getD st (top - 1) 0) c m st top o at c′ m′ st′ top′ o′ at′) where
+module _ {G : Graph} (valid : ValidGraph G) (few : G .size ≤ maxGates) {o₀ c m st : List ℕ} {top : ℕ} {o : List ℕ} {at : ℕ} (p : 0 < top) (w : Walking G o₀ c m st top o at)
+    {c′ m′ st′ : List ℕ} {top′ : ℕ} {o′ : List ℕ} {at′ : ℕ} (x : Visited G (topGate st top) c m st top o at c′ m′ st′ top′ o′ at′) where
   abbrev now-done : List ℕ
-  now-done = kept (G .comb (getD st (top - 1) 0)) (getD st (top - 1) 0) (w .ready .done)
+  now-done = kept (G .comb (topGate st top)) (topGate st top) (w .ready .done)
 
-  popped : WalkState G c (fromTop (top - 1) st) now-done (uses G (getD st (top - 1) 0))
-  popped = good-pop G valid c (fromTop (top - 1) st) (w .ready .done) (getD st (top - 1) 0) (top-good G valid few c m st top o at p (w .ready))
+  popped : WalkState G c (fromTop (top - 1) st) now-done (uses G (topGate st top))
+  popped = good-pop G valid c (fromTop (top - 1) st) (w .ready .done) (topGate st top) (top-good valid few p (w .ready))
 
   next-good : WalkState G c′ (fromTop top′ st′) now-done []
-  next-good = rw (x .lowered .counts, x .lowered .stack) (good-all G (uses G (getD st (top - 1) 0)) c (fromTop (top - 1) st) now-done popped)
+  next-good = rw (x .lowered .counts, x .lowered .stack) (good-all G (uses G (topGate st top)) c (fromTop (top - 1) st) now-done popped)
 
   pub next-budget : budget G c (fromTop top st) ≡ suc (budget G c′ (fromTop top′ st′))
   next-budget =
-      let b = budget-all G (uses G (getD st (top - 1) 0)) c (fromTop (top - 1) st) now-done popped in
+      let b = budget-all G (uses G (topGate st top)) c (fromTop (top - 1) st) now-done popped in
       rw (fromTop-pop top st p, x .lowered .counts, x .lowered .stack) (omega arith)
 
-  comb-pos : G .comb (getD st (top - 1) 0) ≡ true → 1 ≤ at
+  comb-pos : G .comb (topGate st top) ≡ true → 1 ≤ at
   comb-pos e =
-      let v = getD st (top - 1) 0 in
+      let v = topGate st top in
       let f : now-done ≡ v ∷ w .ready .done = rw e in
       let g : WalkState G c (fromTop (top - 1) st) (v ∷ w .ready .done) (uses G v) = rw f at popped in
       omega (arith, done-short G c (fromTop (top - 1) st) (v ∷ w .ready .done) (uses G v) g, w .ready .room)
@@ -207,7 +217,7 @@ module _ (G : Graph) (valid : ValidGraph G) (few : G .size ≤ maxGates) (o₀ c
   next-ready : length c′ ≡ length c → length m′ ≡ length m → length st′ ≡ length st → length o′ ≡ length o → Ready G c′ m′ st′ top′ o′ at′
   next-ready kc km ks ko =
       let l = w .ready .long in
-      let v = getD st (top - 1) 0 in
+      let v = topGate st top in
       record {
         done = now-done;
         long = record { counts = kc ∙ l .counts; marks = km ∙ l .marks; stack = ks ∙ l .stack; order = omega (arith, l .order) };
@@ -215,8 +225,8 @@ module _ (G : Graph) (valid : ValidGraph G) (few : G .size ≤ maxGates) (o₀ c
         marked =
             rw (x .marks)
             (marked-next G v (w .ready .done) m (G .comb v) refl
-            (omega (arith, v-below G valid few c m st top o at p (w .ready), l .marks))
-            (top-fresh G valid c (fromTop (top - 1) st) (w .ready .done) v (top-good G valid few c m st top o at p (w .ready)) .1)
+            (omega (arith, v-below valid few p (w .ready), l .marks))
+            (top-fresh G valid c (fromTop (top - 1) st) (w .ready .done) v (top-good valid few p (w .ready)) .1)
             (w .ready .marked));
         room = rw (x .place) (room-next (G .size) at v (w .ready .done) (G .comb v) comb-pos (w .ready .room));
       }
@@ -232,12 +242,12 @@ module _ (G : Graph) (valid : ValidGraph G) (few : G .size ≤ maxGates) (o₀ c
   next-laid : drop at′ o′ ≡ now-done ++ drop (G .size) o₀
   next-laid =
       rw (x .place, x .order)
-      (laid-next G o₀ o at (getD st (top - 1) 0) (w .ready .done) (G .comb (getD st (top - 1) 0)) comb-pos (omega (arith, w .ready .room, w .ready .long .order)) (w .laid))
+      (laid-next G o₀ o at (topGate st top) (w .ready .done) (G .comb (topGate st top)) comb-pos (omega (arith, w .ready .room, w .ready .long .order)) (w .laid))
 
   pub walking-next : length c′ ≡ length c → length m′ ≡ length m → length st′ ≡ length st → length o′ ≡ length o → Walking G o₀ c′ m′ st′ top′ o′ at′
   unfolding next-ready
   walking-next kc km ks ko =
-      let v = getD st (top - 1) 0 in
+      let v = topGate st top in
       let n = next-leads (w .left) refl in
       record {
         ready = next-ready kc km ks ko;
@@ -251,9 +261,9 @@ module _ (G : Graph) (valid : ValidGraph G) (few : G .size ≤ maxGates) (o₀ c
 
 -- ---- the start and the end of all visits
 
-pub walking-start : (G : Graph) (valid : ValidGraph G) (o c m st : List ℕ) (top : ℕ) → Begins G c m st top o → G .size ≤ maxGates → Walking G o c m st top o (G .size)
+pub walking-start : {G : Graph} → ValidGraph G → {o c m st : List ℕ} {top : ℕ} → Begins G c m st top o → G .size ≤ maxGates → Walking G o c m st top o (G .size)
 unfolding recorded
-walking-start G valid o c m st top b few =
+walking-start {G} valid {o} {c} {m} {st} {top} b few =
     let long : G .size ≤ length c = omega (arith, b .long .counts) in
     let same : (v : ℕ) → v < G .size → getD c v 0 ≡ useCount G v = λ v _. b .counted .each v in
     let e = b .first in

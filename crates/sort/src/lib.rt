@@ -6,8 +6,8 @@ use network::gate_pins;
 use signal::Signal;
 ghost use mathlib.Core.Path.{_≡_};
 ghost use mathlib.Core.List.{List, map};
-ghost use Prim.Native.Nat.{ℕ, _+_, _-_, _*_, _≤_, _<_};
-ghost use lib.ListN.{length, getD, take, replicate};
+ghost use Prim.Native.Nat.{ℕ, _+_, _*_, _≤_, _<_};
+ghost use lib.ListN.{length, take, replicate};
 ghost use Rattle.lists.specs.Lists.{overwrite};
 ghost use Rattle.lists.specs.between.Lists.{overwriteAt};
 ghost use Rattle.signal.specs.between.Cell.{remapCell};
@@ -20,7 +20,7 @@ ghost use Rattle.sort_order.specs.Sorted.{sorted};
 ghost use Rattle.sort.specs.between.Into.{sortOutcome, sortInto, sortLent};
 ghost use Rattle.sort_order.specs.between.Sortable.{Sortable};
 ghost use Rattle.sort.specs.between.Steps.{gateNamed, gateIns, formComb, usesAt, cellGraph, Cells, Raised, Countable, Counted};
-ghost use Rattle.sort.specs.between.Steps.{fromTop, Lowered, Lowers, Walks, FlopsPlaced, Started, Ready, Visited, Begins, Recorded, ordered};
+ghost use Rattle.sort.specs.between.Steps.{fromTop, topGate, Lowered, Lowers, Walks, FlopsPlaced, Started, Ready, Visited, Begins, Recorded, ordered};
 ghost use Rattle.sort.specs.between.Steps.{Numbers, PlacesTable, RoomFor, GateMoved, Movable, Moved, RenumberedCells};
 
 // Sorted, with the pins in use; or a combinational loop.
@@ -207,11 +207,11 @@ fn visit(
     place: Place,
 ) -> Place
     requires { ⌜ Cells (now gates) (now pins) (length (now order)) ⌝ }
-    requires { ⌜ (0 < place .top) × Ready (cellGraph (now gates) (now pins) (length (now order))) (now counts) (now marks) (now stack)
-        (place .top) (now order) (place .at) ⌝ }
+    requires { ⌜ 0 < place .top ⌝ }
+    requires { ⌜ Ready (cellGraph (now gates) (now pins) (length (now order))) (now counts) (now marks) (now stack) (place .top) (now order) (place .at) ⌝ }
     ensures { λ r.
         ⌜ Visited (cellGraph (now (gates .entry)) (now (pins .entry)) (length (now (order .entry))))
-        (getD (now (stack .entry)) (place .top - 1) 0) (now (counts .entry)) (now (marks .entry)) (now (stack .entry)) (place .top)
+        (topGate (now (stack .entry)) (place .top)) (now (counts .entry)) (now (marks .entry)) (now (stack .entry)) (place .top)
         (now (order .entry)) (place .at)
         (now (counts .exit)) (now (marks .exit)) (now (stack .exit)) (r .top) (now (order .exit)) (r .at) ⌝ }
 {

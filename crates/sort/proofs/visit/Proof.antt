@@ -1,86 +1,84 @@
 -- `visit` records the gate at the top of the stack and lowers what it uses. Assumes nothing.
 use mathlib.Core.Path.{sym, ap, _∙_}
-use Prim.Native.Nat.{_-_, _≤_, _<_}
+use Prim.Native.Nat.{_≤_, _<_}
 use native.Mathlib.Omega.{arith}
-use lib.ListN.{length, getD}
+use lib.ListN.{length}
 use borrow.Author.Needs.{needs}
 use denote.Ref.{now}
 use Rattle.network.specs.Sizes.{maxGates}
-use Rattle.sort.specs.between.Steps.{cellGraph, gateIns}
+use Rattle.sort.specs.between.Steps.{gateIns, topGate}
 use Rattle.sort.proofs.Visiting.{top-few, v-below, at-pos, visited-skip, visit-walks, visited-comb}
 use Rattle.sort.proofs.visit.Statement.{statement}
 use Rattle.sort.proofs.visit.Tie as tie
 
 -- what is known of the gate at the top
-known : (s : tie.Start) → (s .args .place .top ≤ length (s .args .order .now)) × (getD (s .args .stack .now) (s .args .place .top - 1) 0 < length (s .args .order .now))
+known : (s : tie.Start) → (s .args .place .top ≤ length (s .args .order .now)) × (topGate (s .args .stack .now) (s .args .place .top) < length (s .args .order .now))
     × (length (s .args .order .now) ≤ maxGates)
 known s =
-    let a = s .args in
     let h = s .pre .0 in
-    let G = cellGraph (a .gates .now) (a .pins .now) (length (a .order .now)) in (
-      top-few G (h .valid) (h .few) _ _ _ _ _ _ (s .pre .1 .0) (s .pre .1 .1),
-      v-below G (h .valid) (h .few) _ _ _ _ _ _ (s .pre .1 .0) (s .pre .1 .1),
-      h .few,
-    )
+    (top-few (h .valid) (h .few) (s .pre .1 .0) (s .pre .1 .1), v-below (h .valid) (h .few) (s .pre .1 .0) (s .pre .1 .1), h .few)
+
+-- the entry, from where the top is taken, read, tested, and found combinational
+abbrev entry : tie.After-struct-known → tie.Start
+entry c = c .before .before .before .before .before .before .before
+
+abbrev entry-read : tie.After-slice-known5 → tie.Start
+entry-read c = entry (c .before)
+
+abbrev entry-test : tie.After-slice-known6 → tie.Start
+entry-test c = entry-read (c .before)
+
+abbrev entry-comb : tie.After-struct-known2 → tie.Start
+entry-comb c = entry-test (c .before .before)
 
 mul-v : tie.Need-mul-v
-mul-v c = omega (arith, known (c .before .before .before .before .before .before .before))
+mul-v c = omega (arith, known (entry c))
 
 slice-read-v : tie.Need-slice-read-v
-slice-read-v c = let s = c .before .before .before .before .before .before .before .before in omega (arith, known s, s .pre .1 .0, s .pre .1 .1 .long)
+slice-read-v c = let s = entry-read c in omega (arith, known s, s .pre .1 .0, s .pre .1 .1 .long)
 
 cast-v : tie.Need-cast-v
-cast-v c = omega (arith, known (c .before .before .before .before .before .before .before .before))
+cast-v c = omega (arith, known (entry-read c))
 
 slice-read-if1 : tie.Need-slice-read-if1
-slice-read-if1 c = let s = c .before .before .before .before .before .before .before .before .before in omega (arith, known s, s .pre .1 .1 .long)
+slice-read-if1 c = let s = entry-test c in omega (arith, known s, s .pre .1 .1 .long)
 
 returns : tie.Need-returns
 returns c =
-    let s = c .before .before .before .before .before .before .before .before .before .before in
-    visited-skip _ (s .pre .0 .valid) (s .pre .0 .few) _ _ _ _ _ _ (s .pre .1 .0) (s .pre .1 .1) (c .if1 .taken)
+    let s = entry-test (c .before) in
+    visited-skip (s .pre .0 .valid) (s .pre .0 .few) (s .pre .1 .0) (s .pre .1 .1) (c .if1 .taken)
 
 sub-at : tie.Need-sub-at
-sub-at c =
-    let s = c .before .before .before .before .before .before .before .before .before .before .before in
-    at-pos _ (s .pre .0 .valid) (s .pre .0 .few) _ _ _ _ _ _ (s .pre .1 .0) (s .pre .1 .1) (c .before .if1 .left)
+sub-at c = let s = entry-comb c in at-pos (s .pre .0 .valid) (s .pre .0 .few) (s .pre .1 .0) (s .pre .1 .1) (c .before .if1 .left)
 
 slice-write-marks : tie.Need-slice-write-marks
-slice-write-marks c =
-    let before = c .before .before .before .before .before .before .before .before .before .before .before in
-    let s = before in omega (arith, known s, s .pre .1 .1 .long)
+slice-write-marks c = let s = entry-comb c in omega (arith, known s, s .pre .1 .1 .long)
 
 cast-order : tie.Need-cast-order
-cast-order c = omega (arith, known (c .before .before .before .before .before .before .before .before .before .before .before))
+cast-order c = omega (arith, known (entry-comb c))
 
 slice-write-order : tie.Need-slice-write-order
-slice-write-order c =
-    let s = c .before .before .before .before .before .before .before .before .before .before .before in
-    omega (arith, sub-at c, s .pre .1 .1 .room, s .pre .1 .1 .long .order)
+slice-write-order c = let s = entry-comb c in omega (arith, sub-at c, s .pre .1 .1 .room, s .pre .1 .1 .long .order)
 
 gate-pins-requires : tie.Need-gate-pins-requires
-gate-pins-requires c κs =
-    let s = c .before .before .before .before .before .before .before .before .before .before .before in
-    s .pre .0 .runs _ (known s .1)
+gate-pins-requires c κs = let s = entry-comb c in s .pre .0 .runs _ (known s .1)
 
 lower-uses-requires : tie.Need-lower-uses-requires
 lower-uses-requires c κs =
-    let before = c .before .before .before .before .before .before .before .before .before .before .before .before .before .before in
-    let s = before in
-    let l = s .pre .1 .1 .long in
-    let G = cellGraph (s .args .gates .now) (s .args .pins .now) (length (s .args .order .now)) in (
+    let g = c .before .before in
+    let s = entry-comb (g .before) in
+    let l = s .pre .1 .1 .long in (
       (l .counts, l .stack),
-      visit-walks G (s .pre .0 .valid) (s .pre .0 .few) _ _ _ _ _ _ (s .pre .1 .0) (s .pre .1 .1) _
-          (sym (ap gateIns (c .before .before .gate-pins .ensures) ∙ s .pre .0 .inputs _ (known s .1))) (c .before .before .before .before .if1 .left),
+      visit-walks (s .pre .0 .valid) (s .pre .0 .few) (s .pre .1 .0) (s .pre .1 .1) _
+          (sym (ap gateIns (g .gate-pins .ensures) ∙ s .pre .0 .inputs _ (known s .1))) (g .before .before .if1 .left),
     )
 
 returns-2 : tie.Need-returns-2
 returns-2 c =
     let a = c .before .before .before .before in
     let g = a .before .before .before in
-    let s = g .before .before .before .before .before .before .before .before .before .before .before .before in
-    let G = cellGraph (s .args .gates .now) (s .args .pins .now) (length (s .args .order .now)) in
-    visited-comb G (s .pre .0 .valid) (s .pre .0 .few) _ _ _ _ _ _ (s .pre .1 .0) (s .pre .1 .1) (now (g .gate-pins .result)) _ _ _
+    let s = entry-comb (g .before) in
+    visited-comb (s .pre .0 .valid) (s .pre .0 .few) (s .pre .1 .0) (s .pre .1 .1) (now (g .gate-pins .result)) _ _ _
     (sym (ap gateIns (g .gate-pins .ensures) ∙ s .pre .0 .inputs _ (known s .1))) (g .before .before .if1 .left) (a .lower-uses .ensures)
 
 pub visit-spec : {M : Type 1} → statement M

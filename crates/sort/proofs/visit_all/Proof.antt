@@ -18,7 +18,7 @@ abbrev μ-loop : tie.MeasureT-loop
 loop-holds : tie.Need-loop-holds Inv-loop μ-loop
 loop-holds c =
     let p = c .before .before .before .before .before .before .pre in
-    walking-start _ (p .0 .valid) _ _ _ _ _ (p .1) (p .0 .few)
+    walking-start (p .0 .valid) (p .1) (p .0 .few)
 
 visit-requires : tie.Need-visit-requires Inv-loop μ-loop
 visit-requires c κs =
@@ -28,27 +28,23 @@ visit-requires c κs =
 
 loop-less : tie.Need-loop-less Inv-loop μ-loop
 loop-less c =
-    let before = c .before .before .before .before .before .before .before .before in
-    let a = before in
+    let a = c .before .before .before .before .before .before .before .before in
     let t = a .before .before .before .before .before in
     let s = t .before .before .before .before .before .before .before .before .before in
-    let G = cellGraph (s .args .gates .now) (s .args .pins .now) (length (s .args .order .now)) in
     let w = t .before .before .loop .inv in
     omega (
       arith,
-      next-budget G (s .pre .0 .valid) (s .pre .0 .few) _ _ _ _ _ _ _ (omega (arith, t .if1 .taken)) w _ _ _ _ _ _ (rw (w .same) at (a .visit .ensures)),
+      next-budget (s .pre .0 .valid) (s .pre .0 .few) (omega (arith, t .if1 .taken)) w (rw (w .same) at (a .visit .ensures)),
     )
 
 loop-again : tie.Need-loop-again Inv-loop μ-loop
 loop-again c =
-    let before = c .before .before .before .before .before .before .before .before in
-    let a = before in
+    let a = c .before .before .before .before .before .before .before .before in
     let t = a .before .before .before .before .before in
     let s = t .before .before .before .before .before .before .before .before .before in
-    let G = cellGraph (s .args .gates .now) (s .args .pins .now) (length (s .args .order .now)) in
     let w = t .before .before .loop .inv in
     let k = a .visit .kept .1 .1 in
-    walking-next G (s .pre .0 .valid) (s .pre .0 .few) _ _ _ _ _ _ _ (omega (arith, t .if1 .taken)) w _ _ _ _ _ _ (rw (w .same) at (a .visit .ensures))
+    walking-next (s .pre .0 .valid) (s .pre .0 .few) (omega (arith, t .if1 .taken)) w (rw (w .same) at (a .visit .ensures))
     (k .0) (k .1 .0) (k .1 .1 .0) (k .1 .1 .1 .0)
 
 same-length : tie.Need-same-length Inv-loop μ-loop

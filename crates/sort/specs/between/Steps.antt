@@ -94,6 +94,10 @@ abbrev pub fromTop : ℕ → List ℕ → List ℕ
 fromTop zero l = []
 fromTop (suc k) l = getD l k 0 ∷ fromTop k l
 
+-- the gate at the top of a stack
+abbrev pub topGate : List ℕ → ℕ → ℕ
+topGate st top = getD st (top - 1) 0
+
 -- what lowering the counts of the gates ds leaves of the counts and of the stack
 pub record Lowered (ds c st c′ st′ : List ℕ) : Type 0 where
   -- the counts fell in order
