@@ -248,6 +248,26 @@ pub fn smallest() -> Vec<Plain> {
     ]
 }
 
+// Networks that use one gate, as itself or inverted, by every pin that there may be.
+pub fn most_used() -> Vec<Plain> {
+    const PINS: usize = 16384;
+    let uses = |g: u32, n: usize| -> Vec<Signal> { (0..n).map(|k| Signal::from_var(g) ^ (k % 3 == 1)).collect() };
+    let nothing = || Node::new(7, vec![]);
+    let net = |gates: Vec<Node>| Plain { inputs: 1, outputs: vec![Signal::from_var(0), Signal::from_var(gates.len() as u32 - 1)], gates };
+    let share = |k: u32| PINS / 1023 + (PINS % 1023 > k as usize) as usize;
+    let many = (0..1023).map(|k| Node::new(7 + k % 6, uses(1023, share(k))));
+    vec![
+        // by one gate
+        net(vec![Node::new(8, uses(1, PINS)), nothing()]),
+        // the last of 1,024 gates by all the others
+        net(many.chain([nothing()]).collect()),
+        // three of the pins are a flip-flop's, whose inputs are no uses
+        net(vec![Node::new(9, uses(2, PINS - 3)), Node::new(14, uses(2, 3)), nothing()]),
+        // by itself
+        net(vec![Node::new(7, uses(0, PINS))]),
+    ]
+}
+
 // Networks that the part refuses: with one input, gate, pin or output more than it takes, or another start value.
 pub fn refused() -> Vec<Plain> {
     let i = Signal::from_input(0);

@@ -126,6 +126,8 @@ fn pins() -> Vec<(u32, String)> {
         (6, ".inputs a\n.outputs y\n".to_string() + &cover(143, 112)),
         // 1,024 gates and 16,384 pins at once, every column a literal, with output 0
         (0, ".inputs a b\n.outputs y\n.names a b a b a b a b a b a b a b y\n".to_string() + &lines("10101010101010 0", 1023)),
+        // one gate used 89 * 180 times, with (0 + 1) * (0 + 2) + (89 + 1) * (180 + 2) pins counted
+        (0, ".outputs y\n.names a\n".to_string() + again(".names", "a", 180).trim_end() + " y\n" + &lines(&("10".repeat(90) + " 1"), 89)),
     ]
 }
 

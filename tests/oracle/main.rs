@@ -44,7 +44,7 @@ mod variants;
 mod writes;
 pub use network::{BinaryType, Gate, NaryType, Network, Signal, TernaryType};
 
-use generate::{filled, make, refused, smallest, Numbers, Plain, Shape};
+use generate::{filled, make, most_used, refused, smallest, Numbers, Plain, Shape};
 use std::panic::{catch_unwind, AssertUnwindSafe};
 use variants::{order, starts, Mistake, MISTAKES, START_MISTAKES};
 
@@ -174,6 +174,7 @@ fn sort_list(seed: u64, count: usize) -> (Vec<u8>, Vec<u8>) {
     for k in 0..count {
         nets.push(random(&mut r, k, count));
     }
+    nets.extend(most_used());
     let refused = refused();
     let mut given = words(&[(nets.len() + refused.len()) as u32]);
     let mut wanted = SORT_TOLD.to_string();

@@ -8,20 +8,25 @@ pub enum Mistake {
     LowestFirst,
     FlopDataCounts,
     RepeatsOnce,
+    RepeatsTwice, // a repeat is counted twice over, and lowered once
     Forwards,
     FlopsLast,
     LeftAlone,
     PoppedFlopLowers,
+    Bits(u32), // a count has so many bits
 }
 
-pub const MISTAKES: [Mistake; 7] = [
+pub const MISTAKES: [Mistake; 10] = [
     Mistake::LowestFirst,
     Mistake::FlopDataCounts,
     Mistake::RepeatsOnce,
+    Mistake::RepeatsTwice,
     Mistake::Forwards,
     Mistake::FlopsLast,
     Mistake::LeftAlone,
     Mistake::PoppedFlopLowers,
+    Mistake::Bits(8),
+    Mistake::Bits(14),
 ];
 
 // The new order as old numbers; nothing at a loop.
@@ -46,11 +51,14 @@ pub fn order(net: &Plain, m: Mistake) -> Option<Vec<usize>> {
         }
         v
     };
+    let held = |count: i64| if let Mistake::Bits(k) = m { count & ((1 << k) - 1) } else { count };
     let mut counts = vec![0i64; n];
     for g in 0..n {
         if comb(g) || m == Mistake::FlopDataCounts {
-            for d in used(g) {
-                counts[d] += 1;
+            let uses = used(g);
+            for (k, d) in uses.iter().enumerate() {
+                let again = m == Mistake::RepeatsTwice && uses[..k].contains(d);
+                counts[*d] = held(counts[*d] + 1 + again as i64);
             }
         }
     }
@@ -73,7 +81,7 @@ pub fn order(net: &Plain, m: Mistake) -> Option<Vec<usize>> {
             recorded.push(v);
         }
         for d in used(v) {
-            counts[d] -= 1;
+            counts[d] = held(counts[d] - 1);
             if counts[d] == 0 {
                 stack.push(d);
             }

@@ -7,7 +7,7 @@ use mathlib.Core.Logic.{_⊎_, inl, inr, ⊎-elim}
 use mathlib.Core.List.{List, [], _∷_, _++_, map, List·Memᴰ, List·Memᴰ·head, List·Memᴰ·tail}
 use mathlib.Core.Path.{_≡_, refl, sym, ap, _∙_}
 use borrow.Author.Tests.{eq-eqb, ne-eqb}
-use lib.ListN.{length, getD, length-map, set}
+use lib.ListN.{length, getD, take, drop, length-map, set, take-append-drop}
 use lib.Seq.{getD-set-same, getD-set-other}
 use Rattle.lists.specs.Lists.{hit, occ, sumOf, sumTo, range}
 use Rattle.lists.proofs.Places.{getD-place}
@@ -32,6 +32,9 @@ hit-or v x = go (ℕ-discrete v x)
     go (yes e) = inl (e, hit-eq e)
     go (no e) = inr (e, hit-ne e)
 
+pub hit-le : (v x : ℕ) → hit v x ≤ 1
+hit-le v x = ⊎-elim (λ w. omega (arith, w .1)) (λ w. omega (arith, w .1)) (hit-or v x)
+
 -- a cell changed by a function, read at any place
 pub set-hit : (f : ℕ → ℕ) (c : List ℕ) (d v : ℕ) → d < length c
     → ((hit v d ≡ 1) × (getD (set c d (f (getD c d 0))) v 0 ≡ f (getD c v 0))) ⊎ ((hit v d ≡ 0) × (getD (set c d (f (getD c d 0))) v 0 ≡ getD c v 0))
@@ -41,9 +44,20 @@ set-hit f c d v l =
     (λ w. inr (w .1, getD-set-other c d v (f (getD c d 0)) 0 (w .0)))
     (hit-or v d)
 
+-- where one cell falls, none rises
+pub getD-set-le : (c : List ℕ) (d v x : ℕ) → x ≤ getD c d 0 → getD (set c d x) v 0 ≤ getD c v 0
+getD-set-le [] d v x h = omega arith
+getD-set-le (y ∷ c) zero zero x h = h
+getD-set-le (y ∷ c) zero (suc v) x h = omega arith
+getD-set-le (y ∷ c) (suc d) zero x h = omega arith
+getD-set-le (y ∷ c) (suc d) (suc v) x h = getD-set-le c d v x h
+
 pub occ-append : (v : ℕ) (a b : List ℕ) → occ v (a ++ b) ≡ occ v a + occ v b
 occ-append v [] b = omega arith
 occ-append v (x ∷ a) b = omega (arith, occ-append v a b)
+
+pub occ-take-le : (v i : ℕ) (l : List ℕ) → occ v (take i l) ≤ occ v l
+occ-take-le v i l = omega (arith, occ-append v (take i l) (drop i l), ap (occ v) (take-append-drop i l))
 
 pub sum-append : {A : Type 0} (f : A → ℕ) (a b : List A) → sumOf f (a ++ b) ≡ sumOf f a + sumOf f b
 sum-append f [] b = omega arith

@@ -113,8 +113,8 @@ impl Signal {
         self.a
     }
 
-    // The signal with its gate's new signal out of t, which holds one for each gate.
-    pub fn remap_order(self, t: &[u32]) -> Signal
+    // The signal with its gate's new number out of t, which holds one for each gate.
+    pub fn remap_order(self, t: &[u16]) -> Signal
         ensures { λ r. ⌜ r .a ≡ remapCell (now (t .entry)) (self .a) ⌝ }
     {
         if !self.is_var() {
@@ -124,7 +124,7 @@ impl Signal {
         if v >= t.len() {
             return self;
         }
-        let to = Signal { a: t[v] };
+        let to = Self::from_var(t[v] as u32);
         to.xor(self.is_inverted())
     }
 

@@ -3,7 +3,7 @@ use mathlib.Core.Path.{_≡_, refl, sym, ap, ap₂, _∙_, subst}
 use mathlib.Core.Bool.{Bool, true, false}
 use mathlib.Core.List.{List, [], _∷_, _++_, map, List·Memᴰ, List·Memᴰ·head, List·Memᴰ·tail, Memᴰ·map}
 use mathlib.Core.Option.{Option, none, some}
-use Prim.Native.Nat.{ℕ, _+_, _-_, _*_, _^_, _≤_, _<_}
+use Prim.Native.Nat.{ℕ, _+_, _*_, _^_, _≤_, _<_}
 use native.Mathlib.Omega.{arith}
 use lib.ListN.{length, getD, getElem?, take, drop, length-map}
 use lib.Seq.{length-take-le, take-at}
@@ -11,10 +11,9 @@ use Rattle.lists.specs.Lists.{occ, overwrite}
 use Rattle.lists.proofs.Counting.{getD-occ, mem-occ}
 use Rattle.lists.proofs.FirstPlace.{place, place-at}
 use Rattle.lists.proofs.Places.{place-lt, getD-place, map-on, map-map, run-getD}
-use Rattle.signal.specs.Signal.{Node, Const, Input, Var, Signal, plain, remap}
+use Rattle.signal.specs.Signal.{Node, Const, Input, Var, Signal, remap}
 use Rattle.signal.specs.Cell.{sigCell, nodeOf, sigOf}
-use Rattle.signal.specs.between.Cell.{gateCell, remapCell}
-use Rattle.signal.proofs.Cells.{signal-again, gate-cell}
+use Rattle.signal.specs.between.Cell.{remapCell}
 use Rattle.signal.proofs.Remap.{Renames, remap-cell}
 use Rattle.gates.specs.Gate.{Buf, Gate, Comb, Dff, pins}
 use Rattle.gates.specs.Forms.{formCell}
@@ -168,14 +167,12 @@ module _ (n : Counts) (gs ps os : List ℕ) {a b : ℕ} (s : Sortable (lent n gs
   -- ---- cells renumbered by the table
 
   module _ (t : List ℕ) (tab : PlacesTable l (length l) t) where
-    renames : (v : ℕ) → v < n .gates → (v < length t) × (π v < 2 ^ 30 - 1) × (sigOf (getD t v 0) ≡ plain (Var (π v)))
+    renames : (v : ℕ) → v < n .gates → (v < length t) × (getD t v 0 ≡ π v)
     renames v h =
         let m : List·Memᴰ v l = order-orders net (s .valid) l is-order .every v (subst (λ (k : ℕ). v < k) (sym (net-size n gs ps os)) h) in
         let p : getElem? l (π v) ≡ some v = place-of l v m in
         let q : π v < length l = place-lt l (π v) v p in
-        let r : π v < 2 ^ 30 - 1 = omega (arith, q, order-length, s .few) in
-        let c : getD t v 0 ≡ gateCell (π v) = ap (λ (k : ℕ). getD t k 0) (sym (getD-place 0 l (π v) v p)) ∙ tab .each (π v) q in
-        (omega (arith, tab .long, s .few), r, ap sigOf (c ∙ gate-cell (π v) r) ∙ signal-again (plain (Var (π v))) r)
+        (omega (arith, tab .long, s .few), ap (λ (k : ℕ). getD t k 0) (sym (getD-place 0 l (π v) v p)) ∙ tab .each (π v) q)
 
     node-renames : (m : Node) → ValidNode net m → Renames t π m
     node-renames Const v = tt

@@ -10,7 +10,7 @@ use Rattle.lists.specs.Lists.{overwrite}
 use Rattle.lists.specs.between.Lists.{overwriteAt}
 use Rattle.lists.proofs.Places.{drop-next}
 use Rattle.lists.proofs.Tests.{below-next}
-use Rattle.signal.specs.between.Cell.{gateCell, remapCell}
+use Rattle.signal.specs.between.Cell.{remapCell}
 use Rattle.network.specs.Sizes.{maxGates}
 use Rattle.network.specs.Record.{gateWidth, runAt}
 use Rattle.network.specs.between.Record.{recordAt, withFirst}
@@ -20,7 +20,7 @@ use Rattle.lists.proofs.OverAt.{length-overwriteAt, overwriteAt-nil, overwrite-
 
 -- ---- the translation table
 
--- the first i numbers of the order have their signal
+-- the first i numbers of the order have their place
 pub record Tabling (o t : List ℕ) (i : ℕ) : Type 0 where
   pub within : i ≤ length o
   pub tabled : PlacesTable o i t
@@ -28,7 +28,7 @@ pub record Tabling (o t : List ℕ) (i : ℕ) : Type 0 where
 pub tabling-start : {o t : List ℕ} → length t ≡ maxGates → Tabling o t 0
 tabling-start e = record { within = omega arith; tabled = record { long = e; each = λ i h. absurd (omega arith) } }
 
-pub tabling-next : {o t : List ℕ} {i g x : ℕ} → Numbers o → i < length o → g ≡ getD o i 0 → x ≡ gateCell i → Tabling o t i → Tabling o (set t g x) (i + 1)
+pub tabling-next : {o t : List ℕ} {i g x : ℕ} → Numbers o → i < length o → g ≡ getD o i 0 → x ≡ i → Tabling o t i → Tabling o (set t g x) (i + 1)
 tabling-next {o} {t} {i} {g} {x} n l e q h =
     let b : g < length t = omega (arith, n .below i l, h .tabled .long) in
     record {
@@ -37,7 +37,7 @@ tabling-next {o} {t} {i} {g} {x} n l e q h =
           record {
             long = length-set t g x ∙ h .tabled .long;
             each =
-                below-next (λ k. getD (set t g x) (getD o k 0) 0 ≡ gateCell k) i
+                below-next (λ k. getD (set t g x) (getD o k 0) 0 ≡ k) i
                 (λ j w.
                 let ne : getD o j 0 ≡ g → ⊥ = λ z. let s : j ≡ i = n .distinct j i (omega arith) l (z ∙ e) in omega arith in
                 getD-set-other t g (getD o j 0) x 0 ne ∙ h .tabled .each j w)

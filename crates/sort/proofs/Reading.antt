@@ -5,10 +5,12 @@ use mathlib.Core.List.{List, map, []}
 use mathlib.Core.Option.{some}
 use Prim.Native.Nat.{ℕ, zero, suc, _*_, _≤_, _<_}
 use native.Mathlib.Omega.{arith}
-use lib.ListN.{length, getElem?, take}
-use Rattle.lists.specs.Lists.{optional}
+use lib.ListN.{length, getElem?, take, length-map}
+use Rattle.lists.specs.Lists.{sumTo, optional}
+use Rattle.lists.proofs.Counting.{sum-cong}
+use Rattle.lists.proofs.Places.{getD-place}
 use Rattle.signal.specs.Cell.{sigOf}
-use Rattle.gates.specs.Gate.{Gate, pins, isComb}
+use Rattle.gates.specs.Gate.{Buf, Gate, Comb, pins, isComb}
 use Rattle.gates.specs.between.Forms.{kindOf}
 use Rattle.gates.specs.between.Decode.{kindComb}
 use Rattle.gates.proofs.Forms.{comb-number}
@@ -17,14 +19,13 @@ use Rattle.network.specs.declared.Counts.{Counts}
 use Rattle.network.specs.Cells.{cellGates, lent, netOf}
 use Rattle.network.specs.Record.{gateWidth, runAt, gateAt, pinCells}
 use Rattle.network.specs.between.Record.{HasRun}
-use Rattle.sort_order.specs.Order.{Graph, useCount}
 use Rattle.sort_order.specs.Sorted.{gateNums, graph}
 use Rattle.sort_order.specs.between.Sortable.{Sortable}
 use Rattle.sort_order.specs.between.Walk.{ValidGraph}
-use Rattle.sort.specs.between.Steps.{gateIns, formComb, cellComb, cellIns, cellGraph, Cells}
+use Rattle.sort.specs.between.Steps.{gateIns, formComb, cellComb, cellIns, cellGraph, pinsUsed, Cells}
 use Rattle.sort.proofs.Naming.{ins-nums}
 use Rattle.sort_order.proofs.Sorting.{graph-valid}
-use Rattle.sort_order.proofs.Keeps.{uses-within}
+use Rattle.sort_order.proofs.Keeps.{pinsAt, length-pinCells}
 
 -- ---- a gate that can be read
 
@@ -73,6 +74,21 @@ module _ (n : Counts) (gs ps os : List ℕ) where
         let r = s .readable g l in
         run-nums gs ps g (r .0) (r .1) ∙ sym (ap (optional (λ (x : Gate). gateNums (pins x)) []) (cell-gate gs ps (n .gates) g (r .0) l (r .1)))
 
+    run-count : (g : ℕ) → g < n .gates → pinsAt (cellGates gs ps 0 (n .gates)) g ≡ length (runAt gs ps g)
+    run-count g l =
+        let r = s .readable g l in
+        ap (λ (x : Gate). length (pins x)) (getD-place (Comb Buf []) (cellGates gs ps 0 (n .gates)) g (r .0) (cell-gate gs ps (n .gates) g (r .0) l (r .1)))
+        ∙ ap length (gate-is gs ps g (r .0) (r .1) .all-pins)
+        ∙ length-map (runAt gs ps g) sigOf
+
+    -- the pins in use are the network's
+    net-pins : length (pinCells (netOf (lent n gs ps os) .gates)) ≡ pinsUsed gs ps (n .gates)
+    net-pins =
+        ap (λ (xs : List Gate). length (pinCells xs)) net-gates
+        ∙ length-pinCells (cellGates gs ps 0 (n .gates))
+        ∙ ap (λ (k : ℕ). sumTo k (pinsAt (cellGates gs ps 0 (n .gates)))) (cell-count gs ps (n .gates))
+        ∙ sum-cong (n .gates) (pinsAt (cellGates gs ps 0 (n .gates))) (λ g. length (runAt gs ps g)) run-count
+
     pub sortable-cells : Cells gs ps (n .gates)
     sortable-cells =
         record {
@@ -81,10 +97,7 @@ module _ (n : Counts) (gs ps os : List ℕ) where
           combs = cell-comb;
           inputs = cell-ins;
           valid = subst ValidGraph graph-cells (graph-valid (netOf (lent n gs ps os)) (s .valid));
-          counted = λ v.
-              let u : useCount (cellGraph gs ps (n .gates)) v ≤ length (pinCells (netOf (lent n gs ps os) .gates)) =
-              subst (λ (G : Graph). useCount G v ≤ length (pinCells (netOf (lent n gs ps os) .gates))) graph-cells (uses-within (netOf (lent n gs ps os)) v) in
-              omega (arith, u, s .fewPins);
+          fewPins = omega (arith, s .fewPins, net-pins);
         }
 
 pub gates-room : {gs ps : List ℕ} {n : ℕ} → Cells gs ps n → n * gateWidth ≤ length gs

@@ -17,9 +17,9 @@ use Rattle.signal.specs.between.Cell.{gateNumber}
 use Rattle.network.specs.Sizes.{maxGates}
 use Rattle.sort_order.specs.Order.{Graph, lowered, pushed, countsAfter, stackAfter}
 use Rattle.sort_order.specs.between.Walk.{WalkState}
-use Rattle.sort.specs.between.Steps.{gateNamed, gateIns, fromTop, Walks, Lowers, Lowered}
+use Rattle.sort.specs.between.Steps.{gateNamed, gateIns, fromTop, Rises, Walks, Lowers, Lowered}
 use Rattle.sort_order.proofs.Walk.{good-lower, next-below, next-count, next-fresh}
-use Rattle.sort.proofs.Naming.{named-gate, named-none, named-own}
+use Rattle.sort.proofs.Naming.{named-gate, named-none, named-own, rises-none, rises-then}
 
 pub length-fromTop : (k : ℕ) (l : List ℕ) → length (fromTop k l) ≡ k
 length-fromTop zero l = refl
@@ -123,17 +123,19 @@ pub record Lowering (pins c₀ st₀ : List ℕ) (top : ℕ) (c st : List ℕ) (
   pub walks : Walks c (fromTop t st) (drop i pins)
   pub counts : countsAfter (gateIns (drop i pins)) c ≡ countsAfter (gateIns pins) c₀
   pub stack : stackAfter (gateIns (drop i pins)) c (fromTop t st) ≡ stackAfter (gateIns pins) c₀ (fromTop top st₀)
+  -- no count rose
+  pub rises : Rises 0 c₀ c
 
 pub lowering-start : {pins c st : List ℕ} {top : ℕ} → length c ≡ maxGates → length st ≡ maxGates → Walks c (fromTop top st) pins → Lowering pins c st top c st top 0
-lowering-start lc ls w = record { within = omega arith; counts-long = lc; stack-long = ls; walks = w; counts = refl; stack = refl }
+lowering-start lc ls w = record { within = omega arith; counts-long = lc; stack-long = ls; walks = w; counts = refl; stack = refl; rises = rises-none }
 
 module _ {pins c₀ st₀ : List ℕ} {top : ℕ} {c st : List ℕ} {t i : ℕ} (l : i < length pins) (h : Lowering pins c₀ st₀ top c st t i) where
   pub lowering-asks : Lowers (getD pins i 0) c t
   lowering-asks = rw (length-fromTop t st) at (walks-next c (fromTop t st) (getD pins i 0) (drop (i + 1) pins) (rw (drop-next pins i 0 l) at (h .walks)))
 
   pub lowering-next : {c′ st′ : List ℕ} {t′ : ℕ} → length c′ ≡ length c → length st′ ≡ length st
-      → Lowered (gateNamed (getD pins i 0)) c (fromTop t st) c′ (fromTop t′ st′) → Lowering pins c₀ st₀ top c′ st′ t′ (i + 1)
-  lowering-next {c′} {st′} {t′} kc ks e =
+      → Lowered (gateNamed (getD pins i 0)) c (fromTop t st) c′ (fromTop t′ st′) → Rises 0 c c′ → Lowering pins c₀ st₀ top c′ st′ t′ (i + 1)
+  lowering-next {c′} {st′} {t′} kc ks e u =
       let s = getD pins i 0 in
       let r = gateIns (drop (i + 1) pins) in
       let q : gateIns (drop i pins) ≡ gateNamed s ++ r = ap gateIns (drop-next pins i 0 l) in
@@ -144,10 +146,11 @@ module _ {pins c₀ st₀ : List ℕ} {top : ℕ} {c st : List ℕ} {t i : ℕ} 
         walks = walks-after c (fromTop t st) s (drop (i + 1) pins) c′ (fromTop t′ st′) (rw (drop-next pins i 0 l) at (h .walks)) e;
         counts = rw (e .counts) (sym (countsAfter-append (gateNamed s) r c) ∙ (rw q at (h .counts)));
         stack = rw (e .counts, e .stack) (sym (stackAfter-append (gateNamed s) r c (fromTop t st)) ∙ (rw q at (h .stack)));
+        rises = rises-then (h .rises) u;
       }
 
 pub lowering-done : {pins c₀ st₀ : List ℕ} {top : ℕ} {c st : List ℕ} {t i : ℕ} → length pins ≤ i → Lowering pins c₀ st₀ top c st t i
-    → Lowered (gateIns pins) c₀ (fromTop top st₀) c (fromTop t st)
+    → Lowered (gateIns pins) c₀ (fromTop top st₀) c (fromTop t st) × Rises 0 c₀ c
 lowering-done {pins} {i = i} l h =
     let e : drop i pins ≡ [] = drop-of-length-le pins l in
-    record { counts = rw e at (h .counts); stack = rw e at (h .stack) }
+    (record { counts = rw e at (h .counts); stack = rw e at (h .stack) }, h .rises)

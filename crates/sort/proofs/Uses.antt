@@ -10,9 +10,10 @@ use Rattle.lists.specs.Lists.{occ, sumTo}
 use Rattle.lists.proofs.Counting.{front-le}
 use Rattle.network.specs.Sizes.{maxGates}
 use Rattle.network.specs.Record.{runAt}
-use Rattle.sort_order.specs.Order.{Graph, uses, useCount}
-use Rattle.sort.specs.between.Steps.{gateIns, formComb, usesAt, cellGraph, Cells, Raised, Countable, Counted}
+use Rattle.sort_order.specs.Order.{uses, useCount}
+use Rattle.sort.specs.between.Steps.{gateIns, formComb, usesAt, cellGraph, pinsUsed, Cells, Within, Rises, Raised, Countable, Counted}
 use Rattle.sort_order.proofs.Walk.{uses-ins}
+use Rattle.sort.proofs.Naming.{within-rises}
 
 pub getD-zeros : (k v : ℕ) → getD {A = ℕ} (replicate k 0) v 0 ≡ 0
 getD-zeros zero v = refl
@@ -34,32 +35,47 @@ pub graph-uses : {gates pins : List ℕ} {n g : ℕ} → Cells gates pins n → 
 unfolding usesAt uses
 graph-uses {g = g} h l = rw (h .combs g l, h .inputs g l)
 
--- the counts of the uses of the first k gates
-pub record CountedTo (G : Graph) (c : List ℕ) (k : ℕ) : Type 0 where
-  pub within : k ≤ G .size
+-- the uses of the first k gates of n are counted
+pub record CountedTo (gates pins : List ℕ) (n : ℕ) (c : List ℕ) (k : ℕ) : Type 0 where
+  pub within : k ≤ n
   pub long : length c ≡ maxGates
-  pub each : (v : ℕ) → getD c v 0 ≡ sumTo k (λ g. occ v (uses G g))
+  -- each count is how often these gates use its gate
+  pub each : (v : ℕ) → getD c v 0 ≡ sumTo k (λ g. occ v (uses (cellGraph gates pins n) g))
+  -- and none passes the pins of these gates
+  pub fits : Within (pinsUsed gates pins k) c
 
-pub counted-start : {G : Graph} {c : List ℕ} → c ≡ replicate maxGates 0 → CountedTo G c 0
-counted-start e = record { within = omega arith; long = rw e (length-replicate {A = ℕ} maxGates 0); each = λ v. rw e (getD-zeros maxGates v) }
-
-pub counted-asks : {gates pins : List ℕ} {n : ℕ} {c : List ℕ} {k : ℕ} → Cells gates pins n → k < n → CountedTo (cellGraph gates pins n) c k
-    → Countable (usesAt gates pins k) c
-unfolding useCount
-counted-asks {gates} {pins} {n} {c} {k} h l q =
-    let G = cellGraph gates pins n in
-    rw (graph-uses h l)
+pub counted-start : {gates pins : List ℕ} {n : ℕ} {c : List ℕ} → c ≡ replicate maxGates 0 → CountedTo gates pins n c 0
+counted-start e =
     record {
-      index = λ v p. omega (arith, h .few, q .long, h .valid k v l (uses-ins G k v p .1));
-      small = λ v. omega (arith, q .each v, h .counted v, front-le (λ g. occ v (uses G g)) n (suc k) l);
+      within = omega arith;
+      long = rw e (length-replicate {A = ℕ} maxGates 0);
+      each = λ v. rw e (getD-zeros maxGates v);
+      fits = record { each = λ v. rw e (omega (arith, getD-zeros maxGates v)) };
     }
 
-pub counted-next : {gates pins : List ℕ} {n : ℕ} {c c′ : List ℕ} {k : ℕ} → Cells gates pins n → k < n → CountedTo (cellGraph gates pins n) c k
-    → length c′ ≡ length c → Raised (usesAt gates pins k) c c′ → CountedTo (cellGraph gates pins n) c′ (k + 1)
-counted-next h l q e r = record { within = omega arith; long = e ∙ q .long; each = λ v. rw add-one (omega (arith, q .each v, r .each v, ap (occ v) (graph-uses h l))) }
+module _ {gates pins : List ℕ} {n : ℕ} {c : List ℕ} {k : ℕ} (h : Cells gates pins n) (l : k < n) (q : CountedTo gates pins n c k) where
+  pub counted-asks : Countable (usesAt gates pins k) (length (runAt gates pins k)) c
+  counted-asks =
+      let G = cellGraph gates pins n in
+      rw (graph-uses h l)
+      record {
+        index = λ v p. omega (arith, h .few, q .long, h .valid k v l (uses-ins G k v p .1));
+        room = λ v. omega (arith, q .fits .each v, h .fewPins, front-le (λ g. length (runAt gates pins g)) n (suc k) l);
+      }
 
-pub counted-done : {G : Graph} {c : List ℕ} {k : ℕ} → G .size ≤ k → CountedTo G c k → Counted G c
+  pub counted-next : {c′ : List ℕ} → length c′ ≡ length c → Raised (usesAt gates pins k) c c′ → Rises (length (runAt gates pins k)) c c′ → CountedTo gates pins n c′ (k + 1)
+  counted-next e r s =
+      rw add-one
+      record {
+        within = l;
+        long = e ∙ q .long;
+        each = λ v. omega (arith, q .each v, r .each v, ap (occ v) (graph-uses h l));
+        fits = within-rises (q .fits) s;
+      }
+
+pub counted-done : {gates pins : List ℕ} {n : ℕ} {c : List ℕ} {k : ℕ} → n ≤ k → CountedTo gates pins n c k
+    → Counted (cellGraph gates pins n) c × Within (pinsUsed gates pins n) c
 unfolding useCount
-counted-done {G} {c} {k} l h =
-    let e : k ≡ G .size = omega (arith, h .within) in
-    record { each = λ v. rw e at (h .each v) }
+counted-done {n = n} {k = k} l h =
+    let e : k ≡ n = omega (arith, h .within) in
+    (record { each = λ v. rw e at (h .each v) }, rw e at (h .fits))

@@ -19,7 +19,7 @@ ghost use Rattle.sort_order.specs.Order.{sortOrder};
 ghost use Rattle.sort_order.specs.Sorted.{sorted};
 ghost use Rattle.sort.specs.between.Into.{sortOutcome, sortInto, sortLent};
 ghost use Rattle.sort_order.specs.between.Sortable.{Sortable};
-ghost use Rattle.sort.specs.between.Steps.{gateNamed, gateIns, formComb, usesAt, cellGraph, Cells, Raised, Countable, Counted};
+ghost use Rattle.sort.specs.between.Steps.{gateNamed, gateIns, formComb, usesAt, cellGraph, pinsUsed, Cells, Within, Rises, Raised, Countable, Counted};
 ghost use Rattle.sort.specs.between.Steps.{fromTop, topGate, Lowered, Lowers, Walks, FlopsPlaced, Started, Ready, Visited, Begins, Recorded, ordered};
 ghost use Rattle.sort.specs.between.Steps.{Numbers, PlacesTable, RoomFor, GateMoved, Movable, Moved, RenumberedCells};
 
@@ -49,10 +49,19 @@ fn is_comb(gates: &[u32], g: usize) -> bool
     gates::kind_of(network::form_at(gates, g)).is_comb()
 }
 
+// A gate's number in 16 bits.
+fn narrow(g: usize) -> u16
+    requires { ⌜ g < maxGates ⌝ }
+    ensures { λ r. ⌜ r ≡ g ⌝ }
+{
+    g as u16
+}
+
 // Counts one pin.
-fn add_use(s: u32, counts: &mut [u32])
-    requires { ⌜ Countable (gateNamed s) (now counts) ⌝ }
+fn add_use(s: u32, counts: &mut [u16])
+    requires { ⌜ Countable (gateNamed s) 1 (now counts) ⌝ }
     ensures { λ r. ⌜ Raised (gateNamed s) (now (counts .entry)) (now (counts .exit)) ⌝ }
+    ensures { λ r. ⌜ Rises 1 (now (counts .entry)) (now (counts .exit)) ⌝ }
 {
     let signal = Signal { a: s };
     if signal.is_var() {
@@ -62,9 +71,10 @@ fn add_use(s: u32, counts: &mut [u32])
 }
 
 // Counts the pins of one gate.
-fn add_uses(pins: &[u32], counts: &mut [u32])
-    requires { ⌜ Countable (gateIns (now pins)) (now counts) ⌝ }
+fn add_uses(pins: &[u32], counts: &mut [u16])
+    requires { ⌜ Countable (gateIns (now pins)) (length (now pins)) (now counts) ⌝ }
     ensures { λ r. ⌜ Raised (gateIns (now (pins .entry))) (now (counts .entry)) (now (counts .exit)) ⌝ }
+    ensures { λ r. ⌜ Rises (length (now (pins .entry))) (now (counts .entry)) (now (counts .exit)) ⌝ }
 {
     let mut i = 0;
     while i < pins.len() {
@@ -74,10 +84,11 @@ fn add_uses(pins: &[u32], counts: &mut [u32])
 }
 
 // Counts the uses that one gate makes: a flip-flop makes none.
-fn count_gate(gates: &[u32], pins: &[u32], g: usize, counts: &mut [u32])
+fn count_gate(gates: &[u32], pins: &[u32], g: usize, counts: &mut [u16])
     requires { ⌜ HasRun (now gates) (now pins) g ⌝ }
-    requires { ⌜ Countable (usesAt (now gates) (now pins) g) (now counts) ⌝ }
+    requires { ⌜ Countable (usesAt (now gates) (now pins) g) (length (runAt (now gates) (now pins) g)) (now counts) ⌝ }
     ensures { λ r. ⌜ Raised (usesAt (now (gates .entry)) (now (pins .entry)) g) (now (counts .entry)) (now (counts .exit)) ⌝ }
+    ensures { λ r. ⌜ Rises (length (runAt (now (gates .entry)) (now (pins .entry)) g)) (now (counts .entry)) (now (counts .exit)) ⌝ }
 {
     if !is_comb(gates, g) {
         return;
@@ -87,10 +98,11 @@ fn count_gate(gates: &[u32], pins: &[u32], g: usize, counts: &mut [u32])
 }
 
 // Counts how often combinational gates use each gate.
-fn count_uses(gates: &[u32], pins: &[u32], n: usize, counts: &mut [u32])
+fn count_uses(gates: &[u32], pins: &[u32], n: usize, counts: &mut [u16])
     requires { ⌜ Cells (now gates) (now pins) n ⌝ }
     requires { ⌜ now counts ≡ replicate maxGates 0 ⌝ }
     ensures { λ r. ⌜ Counted (cellGraph (now (gates .entry)) (now (pins .entry)) n) (now (counts .exit)) ⌝ }
+    ensures { λ r. ⌜ Within (pinsUsed (now (gates .entry)) (now (pins .entry)) n) (now (counts .exit)) ⌝ }
 {
     let mut g = 0;
     while g < n {
@@ -100,12 +112,13 @@ fn count_uses(gates: &[u32], pins: &[u32], n: usize, counts: &mut [u32])
 }
 
 // Lowers the count of what one pin names, and pushes it at zero.
-fn lower_use(s: u32, counts: &mut [u32], stack: &mut [u32], top: usize) -> usize
+fn lower_use(s: u32, counts: &mut [u16], stack: &mut [u16], top: usize) -> usize
     requires { ⌜ (length (now counts) ≡ maxGates) × (length (now stack) ≡ maxGates) ⌝ }
     requires { ⌜ Lowers s (now counts) top ⌝ }
     ensures { λ r.
         ⌜ Lowered (gateNamed s) (now (counts .entry)) (fromTop top (now (stack .entry)))
         (now (counts .exit)) (fromTop r (now (stack .exit))) ⌝ }
+    ensures { λ r. ⌜ Rises 0 (now (counts .entry)) (now (counts .exit)) ⌝ }
 {
     let signal = Signal { a: s };
     if !signal.is_var() {
@@ -116,17 +129,18 @@ fn lower_use(s: u32, counts: &mut [u32], stack: &mut [u32], top: usize) -> usize
     if counts[d] != 0 {
         return top;
     }
-    stack[top] = d as u32;
+    stack[top] = narrow(d);
     top + 1
 }
 
 // Lowers the counts of what a gate's pins name, in order.
-fn lower_uses(pins: &[u32], counts: &mut [u32], stack: &mut [u32], top: usize) -> usize
+fn lower_uses(pins: &[u32], counts: &mut [u16], stack: &mut [u16], top: usize) -> usize
     requires { ⌜ (length (now counts) ≡ maxGates) × (length (now stack) ≡ maxGates) ⌝ }
     requires { ⌜ Walks (now counts) (fromTop top (now stack)) (now pins) ⌝ }
     ensures { λ r.
         ⌜ Lowered (gateIns (now (pins .entry))) (now (counts .entry)) (fromTop top (now (stack .entry)))
         (now (counts .exit)) (fromTop r (now (stack .exit))) ⌝ }
+    ensures { λ r. ⌜ Rises 0 (now (counts .entry)) (now (counts .exit)) ⌝ }
 {
     let mut new_top = top;
     let mut i = 0;
@@ -138,7 +152,7 @@ fn lower_uses(pins: &[u32], counts: &mut [u32], stack: &mut [u32], top: usize) -
 }
 
 // Marks gate g and puts it into the order, if it is a flip-flop.
-fn mark_flop(gates: &[u32], g: usize, marks: &mut [u8], order: &mut [u32], k: usize) -> usize
+fn mark_flop(gates: &[u32], g: usize, marks: &mut [u8], order: &mut [u16], k: usize) -> usize
     requires { ⌜ RecordIn (now gates) g × (g < maxGates) × (length (now marks) ≡ maxGates) × (k ≤ g) × (g < length (now order)) ⌝ }
     ensures { λ r.
         ⌜ ((o₀ : List ℕ) → FlopsPlaced (formComb (now (gates .entry))) g o₀ (now (marks .entry)) (now (order .entry)) k → FlopsPlaced
@@ -148,12 +162,12 @@ fn mark_flop(gates: &[u32], g: usize, marks: &mut [u8], order: &mut [u32], k: us
         return k;
     }
     marks[g] = 1;
-    order[k] = g as u32;
+    order[k] = narrow(g);
     k + 1
 }
 
 // Marks the flip-flops, and puts them first into the order.
-fn mark_flops(gates: &[u32], n: usize, marks: &mut [u8], order: &mut [u32]) -> usize
+fn mark_flops(gates: &[u32], n: usize, marks: &mut [u8], order: &mut [u16]) -> usize
     requires { ⌜ (n ≤ maxGates) × (n * gateWidth ≤ length (now gates)) × (now marks ≡ replicate maxGates 0) × (n ≤ length (now order)) ⌝ }
     ensures { λ r. ⌜ FlopsPlaced (formComb (now (gates .entry))) n (now (order .entry)) (now (marks .exit)) (now (order .exit)) r ⌝ }
 {
@@ -167,7 +181,7 @@ fn mark_flops(gates: &[u32], n: usize, marks: &mut [u8], order: &mut [u32]) -> u
 }
 
 // Pushes gate g, if it is neither marked nor used.
-fn start_gate(marks: &[u8], counts: &[u32], g: usize, stack: &mut [u32], top: usize) -> usize
+fn start_gate(marks: &[u8], counts: &[u16], g: usize, stack: &mut [u16], top: usize) -> usize
     requires { ⌜ (g < maxGates) × (length (now marks) ≡ maxGates) × (length (now counts) ≡ maxGates) × (length (now stack) ≡ maxGates) ⌝ }
     requires { ⌜ Started (now marks) (now counts) g (now stack) top ⌝ }
     ensures { λ r. ⌜ Started (now (marks .entry)) (now (counts .entry)) (g + 1) (now (stack .exit)) r ⌝ }
@@ -178,12 +192,12 @@ fn start_gate(marks: &[u8], counts: &[u32], g: usize, stack: &mut [u32], top: us
     if counts[g] != 0 {
         return top;
     }
-    stack[top] = g as u32;
+    stack[top] = narrow(g);
     top + 1
 }
 
 // The first stack: the gates that are neither marked nor used.
-fn start_stack(marks: &[u8], counts: &[u32], n: usize, stack: &mut [u32]) -> usize
+fn start_stack(marks: &[u8], counts: &[u16], n: usize, stack: &mut [u16]) -> usize
     requires { ⌜ (n ≤ maxGates) × (length (now marks) ≡ maxGates) × (length (now counts) ≡ maxGates) × (length (now stack) ≡ maxGates) ⌝ }
     ensures { λ r. ⌜ Started (now (marks .entry)) (now (counts .entry)) n (now (stack .exit)) r ⌝ }
 {
@@ -200,20 +214,22 @@ fn start_stack(marks: &[u8], counts: &[u32], n: usize, stack: &mut [u32]) -> usi
 fn visit(
     gates: &[u32],
     pins: &[u32],
-    counts: &mut [u32],
+    counts: &mut [u16],
     marks: &mut [u8],
-    stack: &mut [u32],
-    order: &mut [u32],
+    stack: &mut [u16],
+    order: &mut [u16],
     place: Place,
 ) -> Place
     requires { ⌜ Cells (now gates) (now pins) (length (now order)) ⌝ }
     requires { ⌜ 0 < place .top ⌝ }
     requires { ⌜ Ready (cellGraph (now gates) (now pins) (length (now order))) (now counts) (now marks) (now stack) (place .top) (now order) (place .at) ⌝ }
+    requires { ⌜ Within (pinsUsed (now gates) (now pins) (length (now order))) (now counts) ⌝ }
     ensures { λ r.
         ⌜ Visited (cellGraph (now (gates .entry)) (now (pins .entry)) (length (now (order .entry))))
         (topGate (now (stack .entry)) (place .top)) (now (counts .entry)) (now (marks .entry)) (now (stack .entry)) (place .top)
         (now (order .entry)) (place .at)
         (now (counts .exit)) (now (marks .exit)) (now (stack .exit)) (r .top) (now (order .exit)) (r .at) ⌝ }
+    ensures { λ r. ⌜ Within (pinsUsed (now (gates .entry)) (now (pins .entry)) (length (now (order .entry)))) (now (counts .exit)) ⌝ }
 {
     let top = place.top - 1;
     let v = stack[top] as usize;
@@ -222,7 +238,7 @@ fn visit(
     }
     let at = place.at - 1;
     marks[v] = 1;
-    order[at] = v as u32;
+    order[at] = narrow(v);
     let run = gate_pins(gates, pins, v);
     let new_top = lower_uses(run, counts, stack, top);
     Place { top: new_top, at }
@@ -232,17 +248,19 @@ fn visit(
 fn visit_all(
     gates: &[u32],
     pins: &[u32],
-    counts: &mut [u32],
+    counts: &mut [u16],
     marks: &mut [u8],
-    stack: &mut [u32],
+    stack: &mut [u16],
     top: usize,
-    order: &mut [u32],
+    order: &mut [u16],
 ) -> usize
     requires { ⌜ Cells (now gates) (now pins) (length (now order)) ⌝ }
     requires { ⌜ Begins (cellGraph (now gates) (now pins) (length (now order))) (now counts) (now marks) (now stack) top (now order) ⌝ }
+    requires { ⌜ Within (pinsUsed (now gates) (now pins) (length (now order))) (now counts) ⌝ }
     ensures { λ r.
         ⌜ Recorded (cellGraph (now (gates .entry)) (now (pins .entry)) (length (now (order .entry)))) (now (order .entry))
         (now (order .exit)) r ⌝ }
+    ensures { λ r. ⌜ Within (pinsUsed (now (gates .entry)) (now (pins .entry)) (length (now (order .entry)))) (now (counts .exit)) ⌝ }
 {
     let mut place = Place {
         top,
@@ -255,15 +273,15 @@ fn visit_all(
 }
 
 // Puts the gates' numbers into the order, a cell for each: flip-flops, then the recorded gates backwards. Answers false at a loop.
-fn find_order(gates: &[u32], pins: &[u32], order: &mut [u32]) -> bool
+fn find_order(gates: &[u32], pins: &[u32], order: &mut [u16]) -> bool
     requires { ⌜ Cells (now gates) (now pins) (length (now order)) ⌝ }
     requires { ⌜ length (now order) * gateWidth ≤ length (now gates) ⌝ }
     ensures { λ r. ⌜ ordered r (now (order .exit)) ≡ sortOrder (cellGraph (now (gates .entry)) (now (pins .entry)) (length (now (order .entry)))) ⌝ }
 {
     let n = order.len();
-    let mut counts = [0u32; 1024];
+    let mut counts = [0u16; 1024];
     let mut marks = [0u8; 1024];
-    let mut stack = [0u32; 1024];
+    let mut stack = [0u16; 1024];
     count_uses(gates, pins, n, &mut counts);
     let k = mark_flops(gates, n, &mut marks, order);
     let top = start_stack(&marks, &counts, n, &mut stack);
@@ -271,8 +289,8 @@ fn find_order(gates: &[u32], pins: &[u32], order: &mut [u32]) -> bool
     at == k
 }
 
-// Fills the translation table: at each gate's number the signal of its place in the order.
-fn number_gates(order: &[u32], table: &mut [u32])
+// Fills the translation table: at each gate's number its place in the order.
+fn number_gates(order: &[u16], table: &mut [u16])
     requires { ⌜ (length (now order) ≤ maxGates) × (length (now table) ≡ maxGates) ⌝ }
     requires { ⌜ Numbers (now order) ⌝ }
     ensures { λ r. ⌜ PlacesTable (now (order .entry)) (length (now (order .entry))) (now (table .exit)) ⌝ }
@@ -280,13 +298,13 @@ fn number_gates(order: &[u32], table: &mut [u32])
     let mut i = 0;
     while i < order.len() {
         let g = order[i] as usize;
-        table[g] = Signal::from_var(i as u32).raw();
+        table[g] = narrow(i);
         i += 1;
     }
 }
 
 // Copies a run of pins, renumbered, to the new pins from cell at on.
-fn move_pins(run: &[u32], table: &[u32], to: &mut [u32], at: usize)
+fn move_pins(run: &[u32], table: &[u16], to: &mut [u32], at: usize)
     requires { ⌜ at + length (now run) ≤ length (now to) ⌝ }
     ensures { λ r. ⌜ now (to .exit) ≡ overwriteAt at (map (remapCell (now (table .entry))) (now (run .entry))) (now (to .entry)) ⌝ }
 {
@@ -301,7 +319,7 @@ fn move_pins(run: &[u32], table: &[u32], to: &mut [u32], at: usize)
 fn move_gate(
     gates: &[u32],
     pins: &[u32],
-    table: &[u32],
+    table: &[u16],
     g: usize,
     i: usize,
     new_gates: &mut [u32],
@@ -325,8 +343,8 @@ fn move_gate(
 fn move_gates(
     gates: &[u32],
     pins: &[u32],
-    table: &[u32],
-    order: &[u32],
+    table: &[u16],
+    order: &[u16],
     new_gates: &mut [u32],
     new_pins: &mut [u32],
 ) -> usize
@@ -347,7 +365,7 @@ fn move_gates(
 }
 
 // Renumbers the first outs outputs.
-fn move_outputs(table: &[u32], outputs: &mut [u32], outs: usize)
+fn move_outputs(table: &[u16], outputs: &mut [u32], outs: usize)
     requires { ⌜ outs ≤ length (now outputs) ⌝ }
     ensures { λ r.
         ⌜ now (outputs .exit) ≡ overwrite (map (remapCell (now (table .entry))) (take outs (now (outputs .entry))))
@@ -364,7 +382,7 @@ fn move_outputs(table: &[u32], outputs: &mut [u32], outs: usize)
 fn renumber(
     gates: &[u32],
     pins: &[u32],
-    order: &[u32],
+    order: &[u16],
     outs: usize,
     outputs: &mut [u32],
     new_gates: &mut [u32],
@@ -378,7 +396,7 @@ fn renumber(
         (now («new_gates» .entry)) (now («new_pins» .entry))
         (now (outputs .exit)) (now («new_gates» .exit)) (now («new_pins» .exit)) r ⌝ }
 {
-    let mut table = [0u32; 1024];
+    let mut table = [0u16; 1024];
     number_gates(order, &mut table);
     move_outputs(&table, outputs, outs);
     move_gates(gates, pins, &table, order, new_gates, new_pins)
@@ -400,7 +418,7 @@ pub fn topo_sort(
         (now («new_gates» .entry)) (now («new_pins» .entry)) (now (outputs .entry)) ⌝ }
 {
     let n = counts.gates;
-    let mut order = [0u32; 1024];
+    let mut order = [0u16; 1024];
     if !find_order(gates, pins, &mut order[..n]) {
         return Sorted::Loop;
     }

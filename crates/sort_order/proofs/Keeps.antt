@@ -3,15 +3,16 @@ use mathlib.Core.Path.{_≡_, refl, sym, ap, _∙_, subst}
 use mathlib.Core.List.{List, [], _∷_, map, List·Memᴰ, Memᴰ·of-map}
 use mathlib.Core.Option.{Option, some, Option·getD}
 use mathlib.Core.Logic.{⊎-elim}
-use Prim.Native.Nat.{ℕ, suc, _≤_, _<_}
+use Prim.Native.Nat.{ℕ, suc, _+_, _≤_, _<_}
 use native.Mathlib.Omega.{arith}
-use lib.ListN.{length, getD, getElem?, length-map}
+use lib.ListN.{length, getD, getElem?, take, length-map, List·getD-eq-default}
 use mathlib.Core.Bool.{Bool, true, false}
-use Rattle.lists.specs.Lists.{occ, sumOf, sumTo, optional, all}
-use Rattle.lists.proofs.Counting.{hit-or, zero-or, sum-head, sum-mono, sum-perm, mem-occ}
+use Rattle.lists.specs.Lists.{occ, sumOf, sumTo, range, optional, all}
+use Rattle.lists.proofs.Counting.{hit-or, zero-or, occ-take-le, front-le, sum-head, sum-mono, sum-perm, mem-occ, length-table, getD-table}
 use Rattle.lists.proofs.FirstPlace.{place, place-at, find-place}
 use Rattle.lists.proofs.Places.{place-getD, place-lt, place-mem, mem-place}
 use Rattle.lists.proofs.Range.{all-mem, mem-all}
+use Rattle.lists.proofs.Tests.{by-order}
 use Rattle.signal.specs.Signal.{Node, Const, Input, Var, Signal, constNode, remapNode, remap}
 use Rattle.gates.specs.Gate.{Form, Buf, Gate, Comb, Dff, pins, isComb, isPlain}
 use Rattle.gates.specs.Forms.{canHave, formed}
@@ -20,9 +21,9 @@ use Rattle.network.specs.Record.{pinCells}
 use Rattle.network.specs.Renumber.{remapGate, placeOf, gateOr, permuted}
 use Rattle.network.proofs.PinCells.{pins-next}
 use Rattle.network.proofs.Renumbering.{renumbered-valid, pins-remap, node-from, comb-from}
-use Rattle.sort_order.specs.Order.{uses, useCount, sortOrder}
+use Rattle.sort_order.specs.Order.{uses, useCount, countsAfter, sortOrder}
 use Rattle.sort_order.specs.Sorted.{nodeGate, gateNums, graph, sorted}
-use Rattle.sort_order.proofs.Walk.{uses-comb, uses-ins}
+use Rattle.sort_order.proofs.Walk.{countsAfter-le, uses-comb, uses-ins}
 use Rattle.sort_order.proofs.Ordering.{sort-permutes, sort-length, sort-inputs, order-once, some-full}
 use Rattle.sort_order.proofs.Sorting.{point-nums, graph-valid, sorted-order, order-has, order-renumbers}
 
@@ -69,6 +70,30 @@ uses-within net v =
       sum-mono (length (net .gates)) (λ g. occ v (uses (graph net) g)) (pinsAt (net .gates)) (λ g h. uses-fit net v g h),
       length-pinCells (net .gates),
     )
+
+-- and so is each count at each moment: while the uses are counted, when those of the gates before g and the first i of gate g's are
+pub counting-within : (net : Net) (g i v : ℕ) → g < length (net .gates)
+    → sumTo g (λ k. occ v (uses (graph net) k)) + occ v (take i (uses (graph net) g)) ≤ length (pinCells (net .gates))
+unfolding useCount
+counting-within net g i v l =
+    omega (
+      arith,
+      occ-take-le v i (uses (graph net) g),
+      front-le (λ k. occ v (uses (graph net) k)) (length (net .gates)) (suc g) l,
+      uses-within net v,
+    )
+
+-- while the walk lowers them, when any gates were lowered
+pub lowering-within : (net : Net) (ds : List ℕ) (v : ℕ)
+    → getD (countsAfter ds (map (useCount (graph net)) (range 0 (length (net .gates))))) v 0 ≤ length (pinCells (net .gates))
+lowering-within net ds v =
+    let n = length (net .gates) in
+    let c = map (useCount (graph net)) (range 0 n) in
+    let first : getD c v 0 ≤ length (pinCells (net .gates)) =
+    by-order n v
+    (λ h. omega (arith, List·getD-eq-default c 0 {n = v} (omega (arith, length-table (useCount (graph net)) n, h))))
+    (λ h. omega (arith, getD-table (useCount (graph net)) n v h, uses-within net v)) in
+    omega (arith, first, countsAfter-le ds c v)
 
 -- ---- a renumbered gate
 

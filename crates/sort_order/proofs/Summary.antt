@@ -4,10 +4,10 @@ use mathlib.Core.Bool.{Bool, true}
 use mathlib.Core.List.{List, [], List·Memᴰ, map}
 use mathlib.Core.Option.{none, some}
 use mathlib.Core.Logic.{_↔_}
-use Prim.Native.Nat.{ℕ, _≤_, _<_}
+use Prim.Native.Nat.{ℕ, _+_, _≤_, _<_}
 use native.Mathlib.Omega.{arith}
-use lib.ListN.{length, getD}
-use Rattle.lists.specs.Lists.{occ, range}
+use lib.ListN.{length, getD, take}
+use Rattle.lists.specs.Lists.{occ, sumTo, range}
 use Rattle.lists.proofs.Counting.{length-table, getD-table}
 use Rattle.signal.specs.Signal.{Var, Signal}
 use Rattle.gates.specs.Gate.{Form, Comb}
@@ -17,12 +17,13 @@ use Rattle.network.specs.Settle.{runFrom, run}
 use Rattle.network.specs.Renumber.{placeOf, permuted}
 use Rattle.network.proofs.Summary.{renumbered-runs, renumbered-run}
 use Rattle.network.proofs.TopoSorted.{rises-sorted}
-use Rattle.sort_order.specs.Order.{useCount, startTo, walk, recorded, sortOrder}
+use Rattle.sort_order.specs.Order.{uses, useCount, countsAfter, startTo, walk, recorded, sortOrder}
 use Rattle.sort_order.specs.Sorted.{graph, sorted, Preserved}
 use Rattle.sort_order.proofs.WalkEnds.{good-start, budget-start, walk-enough}
 use Rattle.sort_order.proofs.Ordering as ord
 use Rattle.sort_order.proofs.Sorting.{graph-valid, sorted-order, none-loop, sorted-free, order-renumbers}
 use Rattle.sort_order.proofs.Keeps.{lower, uses-within, kept-valid, kept-formed, kept-gates, kept-outputs, kept-pins}
+use Rattle.sort_order.proofs.Keeps as keeps
 
 -- "New order: flip-flops in old order, then the recorded gates backwards": every gate's number stands in the order exactly once
 pub sort-permutes : (net : Net) → Valid net → (l : List ℕ) → sortOrder (graph net) ≡ some l
@@ -81,6 +82,17 @@ sorted-run net new valid e rows =
 -- "It counts how often combinational gates use each gate, twice if an input repeats": a count is at most the number of pins
 pub count-fits : (net : Net) (v : ℕ) → useCount (graph net) v ≤ length (pinCells (net .gates))
 count-fits net v = uses-within net v
+
+-- "prove that none passes the pins in use" (document 02, CR 5): each count, at each moment of the sort, is at most the number of pins in use.
+-- While uses are counted, those of the gates before g and the first i of gate g's so far:
+pub counting-within : (net : Net) (g i v : ℕ) → g < length (net .gates)
+    → sumTo g (λ k. occ v (uses (graph net) k)) + occ v (take i (uses (graph net) g)) ≤ length (pinCells (net .gates))
+counting-within = keeps.counting-within
+
+-- and while the walk lowers the counts with which `recorded` starts, whatever gates ds it has lowered so far
+pub lowering-within : (net : Net) (ds : List ℕ) (v : ℕ)
+    → getD (countsAfter ds (map (useCount (graph net)) (range 0 (length (net .gates))))) v 0 ≤ length (pinCells (net .gates))
+lowering-within = keeps.lowering-within
 
 -- what the sort keeps
 pub sorted-keeps : (net new : Net) → Valid net → sorted net ≡ some new → Preserved net new

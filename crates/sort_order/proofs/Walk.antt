@@ -8,7 +8,7 @@ use native.Mathlib.Omega.{arith}
 use lib.ListN.{length, getD, length-set}
 use lib.Seq.{getD-set-other}
 use Rattle.lists.specs.Lists.{sumTo, hit, occ}
-use Rattle.lists.proofs.Counting.{hit-ne, hit-or, hit-same, set-hit, sum-point, part-le, is-zero, is-over}
+use Rattle.lists.proofs.Counting.{hit-ne, hit-or, hit-same, set-hit, getD-set-le, sum-point, part-le, is-zero, is-over}
 use Rattle.sort_order.specs.Order.{Graph, uses, lowered, pushed, countsAfter, stackAfter, kept, walk}
 use Rattle.sort_order.specs.between.Walk.{ValidGraph, left, usesLeft, WalkState}
 
@@ -25,6 +25,11 @@ budget G c st = length st + sumTo (G .size) (λ v. pos (getD c v 0))
 
 pub lowered-at : (c : List ℕ) (d v : ℕ) → d < length c → getD (lowered c d) v 0 ≡ getD c v 0 - hit v d
 lowered-at c d v l = ⊎-elim (λ w. omega (arith, w .0, w .1)) (λ w. omega (arith, w .0, w .1)) (set-hit (λ n. n - 1) c d v l)
+
+-- lowering raises no count
+pub countsAfter-le : (ds c : List ℕ) (v : ℕ) → getD (countsAfter ds c) v 0 ≤ getD c v 0
+countsAfter-le [] c v = omega arith
+countsAfter-le (d ∷ ds) c v = omega (arith, countsAfter-le ds (lowered c d) v, getD-set-le c d v (getD c d 0 - 1) (omega arith))
 
 module _ (G : Graph) (c st done : List ℕ) (d : ℕ) (rest : List ℕ) (g : WalkState G c st done (d ∷ rest)) where
   -- d is a gate, its count is not zero, and it is neither on the stack nor recorded

@@ -5,7 +5,7 @@ use mathlib.Core.List.{List}
 use Prim.Native.Nat.{ℕ, _+_, _-_, _*_, _/_, _%_, _^_}
 use lib.Dec.{ltb}
 use lib.ListN.{length, getD}
-use Rattle.signal.specs.Signal.{xorS}
+use Rattle.signal.specs.Signal.{remap}
 use Rattle.signal.specs.between.Signal.{gateNode}
 use Rattle.signal.specs.Cell.{sigCell, nodeOf, sigOf}
 
@@ -25,8 +25,6 @@ gateNumber c = (c / 2 + (2 ^ 32 - 1)) % 2 ^ 32
 abbrev pub inputNumber : ℕ → ℕ
 inputNumber c = 2 ^ 31 - 1 - c / 2
 
--- the cell with its gate renumbered: t holds the new signal of each gate, and the inversion is added to it.
--- What is no gate, or no gate of t, stays
+-- the cell with its gate renumbered: t holds each gate's new number. What is no gate, or no gate of t, stays
 unfoldable pub remapCell : List ℕ → ℕ → ℕ
-remapCell t c =
-    cond (gateNode (nodeOf c) && ltb (gateNumber c) (length t)) (sigCell (xorS (sigOf (getD t (gateNumber c) 0)) (sigOf c .inv))) c
+remapCell t c = cond (gateNode (nodeOf c) && ltb (gateNumber c) (length t)) (sigCell (remap (λ v. getD t v 0) (sigOf c))) c

@@ -8,7 +8,7 @@ use borrow.Author.Needs.{needs}
 use Rattle.signal.specs.Cell.{nodeOf}
 use Rattle.signal.specs.between.Signal.{gateNode}
 use Rattle.network.specs.Sizes.{maxPins}
-use Rattle.sort.proofs.Naming.{occ-own, named-none, raised-gate, raised-none}
+use Rattle.sort.proofs.Naming.{occ-own, named-none, raised-gate, raised-none, rises-gate, rises-none}
 use Rattle.sort.proofs.add_use.Statement.{statement}
 use Rattle.sort.proofs.add_use.Tie as tie
 
@@ -21,7 +21,7 @@ fits : (c : tie.After-var) → (c .var .result < length (c .before .before .befo
 fits c =
     let s = c .before .before .before .before in
     let o = occ-own (s .args .s) (is c) (c .var .ensures) in
-    (s .pre .index (c .var .result) (omega (arith, o)), omega (arith, o, s .pre .small (c .var .result)))
+    (s .pre .index (c .var .result) (omega (arith, o)), s .pre .room (c .var .result))
 
 slice-read-counts : tie.Need-slice-read-counts
 slice-read-counts c = fits (c .before) .0
@@ -33,10 +33,10 @@ slice-write-counts : tie.Need-slice-write-counts
 slice-write-counts c = fits (c .before) .0
 
 returns : tie.Need-returns
-returns c = raised-gate _ (is (c .before)) (c .before .var .ensures) (fits (c .before) .0)
+returns c = (raised-gate _ (is (c .before)) (c .before .var .ensures) (fits (c .before) .0), rises-gate (fits (c .before) .0))
 
 returns-2 : tie.Need-returns-2
-returns-2 c = raised-none (named-none _ (sym (c .before .is-var .ensures) ∙ c .if1 .left))
+returns-2 c = (raised-none (named-none _ (sym (c .before .is-var .ensures) ∙ c .if1 .left)), rises-none)
 
 pub add-use-spec : {M : Type 1} → statement M
 add-use-spec =

@@ -21,7 +21,7 @@ add-use-requires c κs = counting-asks (c .before .before .loop-test .taken) (c 
 loop-again : tie.Need-loop-again Inv-loop μ-loop
 loop-again c =
     let a = c .before .before in
-    counting-next (a .before .before .before .loop-test .taken) (a .before .before .before .before .loop .inv) (a .add-use .kept .1 .0) (a .add-use .ensures)
+    counting-next (a .before .before .before .loop-test .taken) (a .before .before .before .before .loop .inv) (a .add-use .kept .1 .0) (a .add-use .ensures .0) (a .add-use .ensures .1)
 
 same-length : tie.Need-same-length Inv-loop μ-loop
 same-length c = c .before .loop .inv .long

@@ -4,13 +4,12 @@ use Prim.Native.Nat.{ℕ, _-_}
 use native.Mathlib.Omega.{arith}
 use lib.ListN.{length, length-replicate}
 use Rattle.network.specs.Sizes.{maxGates}
-use Rattle.sort.specs.between.Steps.{cellGraph}
 use Rattle.sort.proofs.Uses.{CountedTo, counted-start, counted-asks, counted-next, counted-done}
 use Rattle.sort.proofs.count_uses.Statement.{statement}
 use Rattle.sort.proofs.count_uses.Tie as tie
 
 abbrev Inv-loop : tie.InvT-loop
-Inv-loop gates pins n counts₀ g₀ counts g = CountedTo (cellGraph gates pins n) counts g
+Inv-loop gates pins n counts₀ g₀ counts g = CountedTo gates pins n counts g
 
 abbrev μ-loop : tie.MeasureT-loop
 μ-loop gates pins n counts₀ g₀ counts g = n - g
@@ -28,7 +27,7 @@ loop-again : tie.Need-loop-again Inv-loop μ-loop
 loop-again c =
     let a = c .before .before in
     let p = a .before .before .before .before .before .before .before .pre in
-    counted-next (p .0) (a .before .before .loop-test .taken) (a .before .before .before .loop .inv) (a .count-gate .kept .1 .1 .1 .0) (a .count-gate .ensures)
+    counted-next (p .0) (a .before .before .loop-test .taken) (a .before .before .before .loop .inv) (a .count-gate .kept .1 .1 .1 .0) (a .count-gate .ensures .0) (a .count-gate .ensures .1)
 
 same-length : tie.Need-same-length Inv-loop μ-loop
 same-length c = c .before .loop .inv .long ∙ sym (ap length (c .before .before .before .before .before .pre .1) ∙ length-replicate {A = ℕ} maxGates 0)

@@ -23,18 +23,21 @@ visit-all-requires c κs =
     let f = flopped-same (s .pre .0 .combs) (m .mark-flops .ensures) in
     rw (k .1 .0) (
       s .pre .0,
-      record {
-        long =
-            record {
-              counts = u .count-uses .kept .1 .1 .1 .0 ∙ z;
-              marks = k .0 ∙ z;
-              stack = t .start-stack .kept .1 .1 .1 .0 ∙ z;
-              order = omega (arith, k .1 .0);
-            };
-        counted = u .count-uses .ensures;
-        marked = flopped-marked G _ _ _ _ f;
-        first = started-graph G _ _ _ _ _ _ _ f (u .count-uses .ensures) (t .start-stack .ensures);
-      },
+      (
+        record {
+          long =
+              record {
+                counts = u .count-uses .kept .1 .1 .1 .0 ∙ z;
+                marks = k .0 ∙ z;
+                stack = t .start-stack .kept .1 .1 .1 .0 ∙ z;
+                order = omega (arith, k .1 .0);
+              };
+          counted = u .count-uses .ensures .0;
+          marked = flopped-marked G _ _ _ _ f;
+          first = started-graph G _ _ _ _ _ _ _ f (u .count-uses .ensures .0) (t .start-stack .ensures);
+        },
+        u .count-uses .ensures .1,
+      ),
     )
 
 returns : tie.Need-returns
@@ -44,7 +47,7 @@ returns c =
     let s = m .before .before .before .before .before .before .before .before .before in
     let G = cellGraph (s .args .gates .now) (s .args .pins .now) (length (s .args .order .now)) in
     let k = m .mark-flops .kept .1 .1 .1 .0 in
-    found-is G (s .pre .0 .valid) k (flopped-same (s .pre .0 .combs) (m .mark-flops .ensures)) (rw k at (a .visit-all .ensures))
+    found-is G (s .pre .0 .valid) k (flopped-same (s .pre .0 .combs) (m .mark-flops .ensures)) (rw k at (a .visit-all .ensures .0))
 
 pub find-order-spec : {M : Type 1} → statement M
 find-order-spec =

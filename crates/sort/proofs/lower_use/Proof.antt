@@ -9,12 +9,13 @@ use borrow.Author.Needs.{needs}
 use Rattle.signal.specs.Cell.{nodeOf}
 use Rattle.signal.specs.between.Signal.{gateNode}
 use Rattle.network.specs.Sizes.{maxGates}
+use Rattle.sort.proofs.Naming.{rises-none, rises-lowered}
 use Rattle.sort.proofs.Stack.{lowered-none, lowered-stay, lowered-push, fromTop-push}
 use Rattle.sort.proofs.lower_use.Statement.{statement}
 use Rattle.sort.proofs.lower_use.Tie as tie
 
 returns : tie.Need-returns
-returns c = lowered-none _ (sym (c .before .is-var .ensures) ∙ not-true _ (c .if1 .taken))
+returns c = (lowered-none _ (sym (c .before .is-var .ensures) ∙ not-true _ (c .if1 .taken)), rises-none)
 
 is : (c : tie.After-var) → gateNode (nodeOf (c .before .before .before .before .before .args .s)) ≡ true
 is c = sym (c .before .before .is-var .ensures) ∙ not-false _ (c .before .if1 .left)
@@ -43,23 +44,28 @@ slice-read-if2 c = simp length-set (omega (arith, fits (c .before .before)))
 returns-2 : tie.Need-returns-2
 returns-2 c =
     let p = c .before .before .before in
-    lowered-stay _ (is p) (p .var .ensures) (omega (arith, fits p)) (c .if2 .taken)
+    (lowered-stay _ (is p) (p .var .ensures) (omega (arith, fits p)) (c .if2 .taken), rises-lowered _ _)
+
+narrow-requires : tie.Need-narrow-requires
+narrow-requires c κs = fits (c .before .before .before) .0
 
 mul-stack : tie.Need-mul-stack
-mul-stack c = omega (arith, fits (c .before .before .before))
+mul-stack c = omega (arith, fits (c .before .before .before .before))
 
 slice-write-stack : tie.Need-slice-write-stack
-slice-write-stack c = omega (arith, fits (c .before .before .before))
+slice-write-stack c = omega (arith, fits (c .before .before .before .before))
 
 add-result : tie.Need-add-result
-add-result c = omega (arith, fits (c .before .before .before))
+add-result c = omega (arith, fits (c .before .before .before .before))
 
 returns-3 : tie.Need-returns-3
 returns-3 c =
-    let p = c .before .before .before in
-    let s = p .before .before .before .before .before in
-    lowered-push _ (is p) (p .var .ensures) (omega (arith, fits p)) (c .if2 .left)
-    (fromTop-push (s .args .stack .now) (s .args .top) (p .var .result) (omega (arith, fits p)))
+    let p = c .before .before .before .before in
+    let s = p .before .before .before .before .before in (
+      lowered-push _ (is p) (p .var .ensures) (omega (arith, fits p)) (c .before .if2 .left)
+          (rw (c .narrow .ensures) (fromTop-push (s .args .stack .now) (s .args .top) (p .var .result) (omega (arith, fits p)))),
+      rises-lowered _ _,
+    )
 
 pub lower-use-spec : {M : Type 1} → statement M
 lower-use-spec =
@@ -67,4 +73,4 @@ lower-use-spec =
     (tie.spec
     (λ c κs. search needs) returns (λ c κs. search needs) (λ c. search needs) (λ c. search needs) slice-read-counts
     sub-counts slice-write-counts (λ c. search needs) slice-read-if2 (λ c. search needs) returns-2
-    (λ c. search needs) mul-stack slice-write-stack add-result (λ c. search needs) (λ c. search needs) returns-3)
+    narrow-requires mul-stack slice-write-stack add-result (λ c. search needs) (λ c. search needs) returns-3)

@@ -27,7 +27,7 @@ loop-again : tie.Need-loop-again Inv-loop μ-loop
 loop-again c =
     let a = c .before .before .before .before in
     let l = a .before .before .before .before in
-    lowering-next (l .loop-test .taken) (l .before .loop .inv) (a .lower-use .kept .1 .0) (a .lower-use .kept .1 .1 .0) (a .lower-use .ensures)
+    lowering-next (l .loop-test .taken) (l .before .loop .inv) (a .lower-use .kept .1 .0) (a .lower-use .kept .1 .1 .0) (a .lower-use .ensures .0) (a .lower-use .ensures .1)
 
 same-length : tie.Need-same-length Inv-loop μ-loop
 same-length c = c .before .loop .inv .counts-long ∙ sym (c .before .before .before .before .before .pre .0 .0)

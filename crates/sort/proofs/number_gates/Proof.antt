@@ -1,9 +1,8 @@
--- `number_gates` writes one signal after the other. Assumes nothing.
+-- `number_gates` writes one place after the other. Assumes nothing.
 use mathlib.Core.Path.{refl, sym, _∙_}
 use Prim.Native.Nat.{_-_, _<_}
 use native.Mathlib.Omega.{arith}
 use lib.ListN.{length, getD}
-use borrow.Author.Needs.{needs}
 use Rattle.network.specs.Sizes.{maxGates}
 use Rattle.sort.proofs.Moving.{Tabling, tabling-start, tabling-next, tabling-done}
 use Rattle.sort.proofs.number_gates.Statement.{statement}
@@ -17,9 +16,7 @@ abbrev μ-loop : tie.MeasureT-loop
 
 -- the gate's number is an index
 fits : (c : tie.After-shared-slice-known2 Inv-loop μ-loop) → getD (c .before .before .before .before .before .args .order .now) (c .before .before .loop .i) 0 < maxGates
-fits c =
-    let pre = c .before .before .before .before .before .pre in
-    pre .1 .below _ (c .before .loop-test .taken)
+fits c = c .before .before .before .before .before .pre .1 .below _ (c .before .loop-test .taken)
 
 loop-holds : tie.Need-loop-holds Inv-loop μ-loop
 loop-holds c = tabling-start (c .before .before .pre .0 .1)
@@ -28,15 +25,15 @@ cast-g : tie.Need-cast-g Inv-loop μ-loop
 cast-g c = omega (arith, fits c)
 
 mul-table : tie.Need-mul-table Inv-loop μ-loop
-mul-table c = omega (arith, fits (c .before .before))
+mul-table c = omega (arith, fits (c .before))
 
 slice-write-table : tie.Need-slice-write-table Inv-loop μ-loop
-slice-write-table c = omega (arith, fits (c .before .before), c .before .before .before .before .loop .inv .tabled .long)
+slice-write-table c = omega (arith, fits (c .before), c .before .before .before .loop .inv .tabled .long)
 
 loop-again : tie.Need-loop-again Inv-loop μ-loop
 loop-again c =
-    let l = c .before .before .before in
-    tabling-next (l .before .before .before .before .pre .1) (l .loop-test .taken) refl (c .raw .ensures ∙ c .before .from-var .ensures) (l .before .loop .inv)
+    let l = c .before .before in
+    tabling-next (l .before .before .before .before .pre .1) (l .loop-test .taken) refl (c .narrow .ensures) (l .before .loop .inv)
 
 same-length : tie.Need-same-length Inv-loop μ-loop
 same-length c = c .before .loop .inv .tabled .long ∙ sym (c .before .before .before .before .pre .0 .1)
@@ -48,6 +45,5 @@ pub number-gates-spec : {M : Type 1} → statement M
 number-gates-spec =
     tie.close
     (tie.spec
-    Inv-loop μ-loop loop-holds (λ c. omega arith) (λ c. omega arith) cast-g (λ c. omega arith)
-    (λ c κs. search needs) (λ c κs. search needs) mul-table slice-write-table (λ c. omega arith) (λ c. omega arith)
-    loop-again same-length returns)
+    Inv-loop μ-loop loop-holds (λ c. omega arith) (λ c. omega arith) cast-g (λ c κs. omega arith) mul-table
+    slice-write-table (λ c. omega arith) (λ c. omega arith) loop-again same-length returns)

@@ -7,11 +7,11 @@ use Prim.Native.Nat.{ℕ, zero, suc, _+_, _-_, _*_, _≤_, _<_}
 use lib.Dec.{eqb, ltb}
 use lib.ListN.{length, getD, getElem?, take, drop, set}
 use Rattle.gates.specs.Gate.{Gate, pins, isComb}
-use Rattle.lists.specs.Lists.{occ, overwrite, optional}
+use Rattle.lists.specs.Lists.{sumTo, occ, overwrite, optional}
 use Rattle.lists.specs.between.Lists.{overwriteAt}
 use Rattle.signal.specs.between.Signal.{gateNode}
 use Rattle.signal.specs.Cell.{nodeOf}
-use Rattle.signal.specs.between.Cell.{gateNumber, gateCell, remapCell}
+use Rattle.signal.specs.between.Cell.{gateNumber, remapCell}
 use Rattle.gates.specs.between.Forms.{kindOf}
 use Rattle.gates.specs.between.Decode.{kindComb}
 use Rattle.network.specs.Cells.{cellGates}
@@ -53,7 +53,11 @@ cellIns gates ps n g = optional (λ (x : Gate). gateNums (pins x)) [] (getElem? 
 abbrev pub cellGraph : List ℕ → List ℕ → ℕ → Graph
 cellGraph gates pins n = record { size = n; comb = cellComb gates pins n; ins = cellIns gates pins n }
 
--- the cells hold n gates, whose records and runs can be read, whose inputs are gates, and which use no gate too often for a count
+-- how many pins the gates below k have; those of all gates are "the pins in use"
+abbrev pub pinsUsed : List ℕ → List ℕ → ℕ → ℕ
+pinsUsed gates pins k = sumTo k (λ g. length (runAt gates pins g))
+
+-- the cells hold n gates, whose records and runs can be read, whose inputs are gates, and which have no more pins than there may be
 pub record Cells (gates pins : List ℕ) (n : ℕ) : Type 0 where
   -- "1,024 gates"
   pub few : n ≤ maxGates
@@ -65,22 +69,32 @@ pub record Cells (gates pins : List ℕ) (n : ℕ) : Type 0 where
   pub inputs : (g : ℕ) → g < n → gateIns (runAt gates pins g) ≡ cellIns gates pins n g
   -- every gate input is a gate
   pub valid : ValidGraph (cellGraph gates pins n)
-  -- no count passes "16,384 pins"
-  pub counted : (v : ℕ) → useCount (cellGraph gates pins n) v ≤ maxPins
+  -- "16,384 at most"
+  pub fewPins : pinsUsed gates pins n ≤ maxPins
 
 -- ---- use counts
+
+-- "none passes the pins in use" (document 02, CR 5): no count passes so many
+pub record Within (used : ℕ) (c : List ℕ) : Type 0 where
+  -- every gate's
+  pub each : (v : ℕ) → getD c v 0 ≤ used
+
+-- no count rises by more than so many
+pub record Rises (most : ℕ) (c c′ : List ℕ) : Type 0 where
+  -- every gate's
+  pub each : (v : ℕ) → getD c′ v 0 ≤ getD c v 0 + most
 
 -- each count is raised by as often as its gate stands in ds
 pub record Raised (ds c c′ : List ℕ) : Type 0 where
   -- by its gate's places in ds
   pub each : (v : ℕ) → getD c′ v 0 ≡ getD c v 0 + occ v ds
 
--- the gates ds have counts, which can be raised
-pub record Countable (ds c : List ℕ) : Type 0 where
+-- the gates ds, which so many pins name, have counts that can be raised
+pub record Countable (ds : List ℕ) (most : ℕ) (c : List ℕ) : Type 0 where
   -- each gate has a count
   pub index : (v : ℕ) → 0 < occ v ds → v < length c
-  -- no count passes "16,384 pins"
-  pub small : (v : ℕ) → getD c v 0 + occ v ds ≤ maxPins
+  -- no count passes "16,384 at most", whichever gates the pins name
+  pub room : (v : ℕ) → getD c v 0 + most ≤ maxPins
 
 -- each count is how often combinational gates use its gate
 pub record Counted (G : Graph) (c : List ℕ) : Type 0 where
@@ -225,12 +239,12 @@ pub record Numbers (o : List ℕ) : Type 0 where
   -- each at one place
   pub distinct : (i j : ℕ) → i < length o → j < length o → getD o i 0 ≡ getD o j 0 → i ≡ j
 
--- the translation table up to k: at each number of the order the signal of its place
+-- the translation table up to k: at each number of the order its place
 pub record PlacesTable (o : List ℕ) (k : ℕ) (t : List ℕ) : Type 0 where
   -- a cell for each gate that there may be
   pub long : length t ≡ maxGates
   -- gate number i of the order is gate i now
-  pub each : (i : ℕ) → i < k → getD t (getD o i 0) 0 ≡ gateCell i
+  pub each : (i : ℕ) → i < k → getD t (getD o i 0) 0 ≡ i
 
 -- the records of the gates of an order, the first one's pins starting at cell `at`
 abbrev pub movedGates : List ℕ → List ℕ → ℕ → List ℕ → List ℕ
