@@ -7,7 +7,7 @@
  * The functions
  *   - always return: whatever the bytes and cells hold, the answer is a result or the number of a refusal;
  *   - use no heap, no file, no global state and no lock, so threads may call them at the same time with slices of their own;
- *   - need less than 40 KiB of stack (measured by the tests: 38 KiB for reading, 2 KiB for writing, 28 KiB for running);
+ *   - need less than 36 KiB of stack (measured by the tests: 32 KiB for reading, 2 KiB for writing, 28 KiB for running);
  *   - do not look at the cells and bytes to be filled before they store there: memory that was never written is fine.
  *
  * A slice is a pointer and a length in elements: bytes of a text or of rows, 32-bit cells otherwise. The caller sees to three things:

@@ -32,7 +32,7 @@ import os
 import re
 from typing import Iterable, List, NamedTuple, Optional, Tuple, Union
 
-__version__ = "0.6.0"
+__version__ = "0.6.1"
 
 # The interface of the library that this module is for; the C header says when the number rises.
 INTERFACE = 2

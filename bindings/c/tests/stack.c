@@ -7,7 +7,7 @@
 #include <string.h>
 
 /* What the header says is enough. */
-enum { STATED = 40 * 1024, STACK = 512 * 1024, PAINT = 0x6b };
+enum { STATED = 36 * 1024, STACK = 512 * 1024, PAINT = 0x6b };
 
 static struct lent list;
 static struct cells5 lent;

@@ -1,7 +1,7 @@
 //! The functions of the library over lent slices: the boundary, and the only unsafe code of this crate.
 //!
 //! How a network lies in cells is told in the C header, `vumneath.h`. No function here asks for anything: slices of any lengths
-//! and contents get an answer. Each needs less than 40 KiB of stack. Each but [`interface`] panics where the library that is linked has
+//! and contents get an answer. Each needs less than 36 KiB of stack. Each but [`interface`] panics where the library that is linked has
 //! another interface than this crate, since it would take records otherwise.
 #![allow(unsafe_code)]
 

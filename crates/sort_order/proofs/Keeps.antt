@@ -71,7 +71,7 @@ uses-within net v =
       length-pinCells (net .gates),
     )
 
--- and so is each count at each moment: while the uses are counted, when those of the gates before g and the first i of gate g's are
+-- each count while uses are counted: those of the gates before g, and the first i of gate g's
 pub counting-within : (net : Net) (g i v : ℕ) → g < length (net .gates)
     → sumTo g (λ k. occ v (uses (graph net) k)) + occ v (take i (uses (graph net) g)) ≤ length (pinCells (net .gates))
 unfolding useCount
@@ -83,7 +83,7 @@ counting-within net g i v l =
       uses-within net v,
     )
 
--- while the walk lowers them, when any gates were lowered
+-- each count while the walk lowers: any gates ds were lowered
 pub lowering-within : (net : Net) (ds : List ℕ) (v : ℕ)
     → getD (countsAfter ds (map (useCount (graph net)) (range 0 (length (net .gates))))) v 0 ≤ length (pinCells (net .gates))
 lowering-within net ds v =

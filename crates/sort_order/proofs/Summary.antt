@@ -1,7 +1,7 @@
 -- The sort's theorems, as a reviewer would read them (document 01, src/network/network.rs). Assumes nothing.
 use mathlib.Core.Path.{_≡_, refl, sym, subst}
 use mathlib.Core.Bool.{Bool, true}
-use mathlib.Core.List.{List, [], List·Memᴰ, map}
+use mathlib.Core.List.{List, [], map}
 use mathlib.Core.Option.{none, some}
 use mathlib.Core.Logic.{_↔_}
 use Prim.Native.Nat.{ℕ, _+_, _≤_, _<_}
@@ -9,8 +9,7 @@ use native.Mathlib.Omega.{arith}
 use lib.ListN.{length, getD, take}
 use Rattle.lists.specs.Lists.{occ, sumTo, range}
 use Rattle.lists.proofs.Counting.{length-table, getD-table}
-use Rattle.signal.specs.Signal.{Var, Signal}
-use Rattle.gates.specs.Gate.{Form, Comb}
+use Rattle.gates.specs.Gate.{Comb}
 use Rattle.network.specs.Net.{Net, GateIs, Valid, Loop, topoSorted}
 use Rattle.network.specs.Record.{pinCells}
 use Rattle.network.specs.Settle.{runFrom, run}

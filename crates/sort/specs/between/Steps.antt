@@ -93,7 +93,7 @@ pub record Raised (ds c c′ : List ℕ) : Type 0 where
 pub record Countable (ds : List ℕ) (most : ℕ) (c : List ℕ) : Type 0 where
   -- each gate has a count
   pub index : (v : ℕ) → 0 < occ v ds → v < length c
-  -- no count passes "16,384 at most", whichever gates the pins name
+  -- each count is "16,384 at most" when all of these pins raise it
   pub room : (v : ℕ) → getD c v 0 + most ≤ maxPins
 
 -- each count is how often combinational gates use its gate
