@@ -83,6 +83,9 @@ countable-as e q r = rw (e, q) at r
 pub rises-none : {most : ℕ} {c : List ℕ} → Rises most c c
 rises-none = record { each = λ v. omega arith }
 
+pub rises-as : {m n : ℕ} {c c′ : List ℕ} → m ≡ n → Rises m c c′ → Rises n c c′
+rises-as e r = rw e at r
+
 pub rises-then : {m n : ℕ} {c c′ c″ : List ℕ} → Rises m c c′ → Rises n c′ c″ → Rises (m + n) c c″
 rises-then r s = record { each = λ v. omega (arith, r .each v, s .each v) }
 
@@ -94,11 +97,8 @@ rises-gate {g} {c} l = record { each = λ v. omega (arith, raised-at c g v l, hi
 pub rises-lowered : (c : List ℕ) (d : ℕ) → Rises 0 c (lowered c d)
 rises-lowered c d = record { each = λ v. omega (arith, getD-set-le c d v (getD c d 0 - 1) (omega arith)) }
 
-pub within-rises : {used most : ℕ} {c c′ : List ℕ} → Within used c → Rises most c c′ → Within (used + most) c′
-within-rises w r = record { each = λ v. omega (arith, w .each v, r .each v) }
-
-pub within-lower : {used : ℕ} {c c′ : List ℕ} → Within used c → Rises 0 c c′ → Within used c′
-within-lower w r = record { each = λ v. omega (arith, w .each v, r .each v) }
+pub within-rises : {used most now : ℕ} {c c′ : List ℕ} → used + most ≤ now → Within used c → Rises most c c′ → Within now c′
+within-rises l w r = record { each = λ v. omega (arith, w .each v, r .each v) }
 
 -- ---- the pins of a gate
 

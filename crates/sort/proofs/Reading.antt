@@ -5,7 +5,7 @@ use mathlib.Core.List.{List, map, []}
 use mathlib.Core.Option.{some}
 use Prim.Native.Nat.{ℕ, zero, suc, _*_, _≤_, _<_}
 use native.Mathlib.Omega.{arith}
-use lib.ListN.{length, getElem?, take, length-map}
+use lib.ListN.{length, getElem?, take}
 use Rattle.lists.specs.Lists.{sumTo, optional}
 use Rattle.lists.proofs.Counting.{sum-cong}
 use Rattle.lists.proofs.Places.{getD-place}
@@ -14,15 +14,16 @@ use Rattle.gates.specs.Gate.{Buf, Gate, Comb, pins, isComb}
 use Rattle.gates.specs.between.Forms.{kindOf}
 use Rattle.gates.specs.between.Decode.{kindComb}
 use Rattle.gates.proofs.Forms.{comb-number}
-use Rattle.network.proofs.GateRead.{has-run, gate-is, cell-gate, cell-count}
+use Rattle.network.proofs.GateRead.{has-run, gate-is, run-pins, cell-gate, cell-count}
 use Rattle.network.specs.declared.Counts.{Counts}
-use Rattle.network.specs.Cells.{cellGates, lent, netOf}
-use Rattle.network.specs.Record.{gateWidth, runAt, gateAt, pinCells}
+use Rattle.network.specs.Cells.{cellGates, lent, netOf, pinsBelow}
+use Rattle.network.specs.Record.{gateWidth, countAt, runAt, gateAt, pinCells}
 use Rattle.network.specs.between.Record.{HasRun}
 use Rattle.sort_order.specs.Sorted.{gateNums, graph}
 use Rattle.sort_order.specs.between.Sortable.{Sortable}
 use Rattle.sort_order.specs.between.Walk.{ValidGraph}
-use Rattle.sort.specs.between.Steps.{gateIns, formComb, cellComb, cellIns, cellGraph, pinsUsed, Cells}
+use Rattle.sort.specs.between.Steps.{gateIns, formComb, cellComb, cellIns, cellGraph, Cells}
+use Rattle.sort.proofs.Uses.{run-counted}
 use Rattle.sort.proofs.Naming.{ins-nums}
 use Rattle.sort_order.proofs.Sorting.{graph-valid}
 use Rattle.sort_order.proofs.Keeps.{pinsAt, length-pinCells}
@@ -74,20 +75,20 @@ module _ (n : Counts) (gs ps os : List ℕ) where
         let r = s .readable g l in
         run-nums gs ps g (r .0) (r .1) ∙ sym (ap (optional (λ (x : Gate). gateNums (pins x)) []) (cell-gate gs ps (n .gates) g (r .0) l (r .1)))
 
-    run-count : (g : ℕ) → g < n .gates → pinsAt (cellGates gs ps 0 (n .gates)) g ≡ length (runAt gs ps g)
-    run-count g l =
+    pin-count : (g : ℕ) → g < n .gates → pinsAt (cellGates gs ps 0 (n .gates)) g ≡ countAt gs g
+    pin-count g l =
         let r = s .readable g l in
         ap (λ (x : Gate). length (pins x)) (getD-place (Comb Buf []) (cellGates gs ps 0 (n .gates)) g (r .0) (cell-gate gs ps (n .gates) g (r .0) l (r .1)))
-        ∙ ap length (gate-is gs ps g (r .0) (r .1) .all-pins)
-        ∙ length-map (runAt gs ps g) sigOf
+        ∙ sym (run-pins gs ps g (r .0) (r .1))
+        ∙ run-counted (has-run gs ps g (r .0) (r .1))
 
     -- the pins in use are the network's
-    net-pins : length (pinCells (netOf (lent n gs ps os) .gates)) ≡ pinsUsed gs ps (n .gates)
+    net-pins : length (pinCells (netOf (lent n gs ps os) .gates)) ≡ pinsBelow gs (n .gates)
     net-pins =
         ap (λ (xs : List Gate). length (pinCells xs)) net-gates
         ∙ length-pinCells (cellGates gs ps 0 (n .gates))
         ∙ ap (λ (k : ℕ). sumTo k (pinsAt (cellGates gs ps 0 (n .gates)))) (cell-count gs ps (n .gates))
-        ∙ sum-cong (n .gates) (pinsAt (cellGates gs ps 0 (n .gates))) (λ g. length (runAt gs ps g)) run-count
+        ∙ sum-cong (n .gates) (pinsAt (cellGates gs ps 0 (n .gates))) (countAt gs) pin-count
 
     pub sortable-cells : Cells gs ps (n .gates)
     sortable-cells =

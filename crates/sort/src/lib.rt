@@ -11,15 +11,15 @@ ghost use lib.ListN.{length, take, replicate};
 ghost use Rattle.lists.specs.Lists.{overwrite};
 ghost use Rattle.lists.specs.between.Lists.{overwriteAt};
 ghost use Rattle.signal.specs.between.Cell.{remapCell};
-ghost use Rattle.network.specs.Cells.{lent, netOf};
+ghost use Rattle.network.specs.Cells.{lent, netOf, pinsBelow};
 ghost use Rattle.network.specs.Sizes.{maxGates};
-ghost use Rattle.network.specs.Record.{gateWidth, runAt};
+ghost use Rattle.network.specs.Record.{gateWidth, countAt, runAt};
 ghost use Rattle.network.specs.between.Record.{RecordIn, HasRun};
 ghost use Rattle.sort_order.specs.Order.{sortOrder};
 ghost use Rattle.sort_order.specs.Sorted.{sorted};
 ghost use Rattle.sort.specs.between.Into.{sortOutcome, sortInto, sortLent};
 ghost use Rattle.sort_order.specs.between.Sortable.{Sortable};
-ghost use Rattle.sort.specs.between.Steps.{gateNamed, gateIns, formComb, usesAt, cellGraph, pinsUsed, Cells, Within, Rises, Raised, Countable, Counted};
+ghost use Rattle.sort.specs.between.Steps.{gateNamed, gateIns, formComb, usesAt, cellGraph, Cells, Within, Rises, Raised, Countable, Counted};
 ghost use Rattle.sort.specs.between.Steps.{fromTop, topGate, Lowered, Lowers, Walks, FlopsPlaced, Started, Ready, Visited, Begins, Recorded, ordered};
 ghost use Rattle.sort.specs.between.Steps.{Numbers, PlacesTable, RoomFor, GateMoved, Movable, Moved, RenumberedCells};
 
@@ -86,9 +86,9 @@ fn add_uses(pins: &[u32], counts: &mut [u16])
 // Counts the uses that one gate makes: a flip-flop makes none.
 fn count_gate(gates: &[u32], pins: &[u32], g: usize, counts: &mut [u16])
     requires { ⌜ HasRun (now gates) (now pins) g ⌝ }
-    requires { ⌜ Countable (usesAt (now gates) (now pins) g) (length (runAt (now gates) (now pins) g)) (now counts) ⌝ }
+    requires { ⌜ Countable (usesAt (now gates) (now pins) g) (countAt (now gates) g) (now counts) ⌝ }
     ensures { λ r. ⌜ Raised (usesAt (now (gates .entry)) (now (pins .entry)) g) (now (counts .entry)) (now (counts .exit)) ⌝ }
-    ensures { λ r. ⌜ Rises (length (runAt (now (gates .entry)) (now (pins .entry)) g)) (now (counts .entry)) (now (counts .exit)) ⌝ }
+    ensures { λ r. ⌜ Rises (countAt (now (gates .entry)) g) (now (counts .entry)) (now (counts .exit)) ⌝ }
 {
     if !is_comb(gates, g) {
         return;
@@ -102,7 +102,7 @@ fn count_uses(gates: &[u32], pins: &[u32], n: usize, counts: &mut [u16])
     requires { ⌜ Cells (now gates) (now pins) n ⌝ }
     requires { ⌜ now counts ≡ replicate maxGates 0 ⌝ }
     ensures { λ r. ⌜ Counted (cellGraph (now (gates .entry)) (now (pins .entry)) n) (now (counts .exit)) ⌝ }
-    ensures { λ r. ⌜ Within (pinsUsed (now (gates .entry)) (now (pins .entry)) n) (now (counts .exit)) ⌝ }
+    ensures { λ r. ⌜ Within (pinsBelow (now (gates .entry)) n) (now (counts .exit)) ⌝ }
 {
     let mut g = 0;
     while g < n {
@@ -223,13 +223,13 @@ fn visit(
     requires { ⌜ Cells (now gates) (now pins) (length (now order)) ⌝ }
     requires { ⌜ 0 < place .top ⌝ }
     requires { ⌜ Ready (cellGraph (now gates) (now pins) (length (now order))) (now counts) (now marks) (now stack) (place .top) (now order) (place .at) ⌝ }
-    requires { ⌜ Within (pinsUsed (now gates) (now pins) (length (now order))) (now counts) ⌝ }
+    requires { ⌜ Within (pinsBelow (now gates) (length (now order))) (now counts) ⌝ }
     ensures { λ r.
         ⌜ Visited (cellGraph (now (gates .entry)) (now (pins .entry)) (length (now (order .entry))))
         (topGate (now (stack .entry)) (place .top)) (now (counts .entry)) (now (marks .entry)) (now (stack .entry)) (place .top)
         (now (order .entry)) (place .at)
         (now (counts .exit)) (now (marks .exit)) (now (stack .exit)) (r .top) (now (order .exit)) (r .at) ⌝ }
-    ensures { λ r. ⌜ Within (pinsUsed (now (gates .entry)) (now (pins .entry)) (length (now (order .entry)))) (now (counts .exit)) ⌝ }
+    ensures { λ r. ⌜ Within (pinsBelow (now (gates .entry)) (length (now (order .entry)))) (now (counts .exit)) ⌝ }
 {
     let top = place.top - 1;
     let v = stack[top] as usize;
@@ -256,11 +256,11 @@ fn visit_all(
 ) -> usize
     requires { ⌜ Cells (now gates) (now pins) (length (now order)) ⌝ }
     requires { ⌜ Begins (cellGraph (now gates) (now pins) (length (now order))) (now counts) (now marks) (now stack) top (now order) ⌝ }
-    requires { ⌜ Within (pinsUsed (now gates) (now pins) (length (now order))) (now counts) ⌝ }
+    requires { ⌜ Within (pinsBelow (now gates) (length (now order))) (now counts) ⌝ }
     ensures { λ r.
         ⌜ Recorded (cellGraph (now (gates .entry)) (now (pins .entry)) (length (now (order .entry)))) (now (order .entry))
         (now (order .exit)) r ⌝ }
-    ensures { λ r. ⌜ Within (pinsUsed (now (gates .entry)) (now (pins .entry)) (length (now (order .entry)))) (now (counts .exit)) ⌝ }
+    ensures { λ r. ⌜ Within (pinsBelow (now (gates .entry)) (length (now (order .entry)))) (now (counts .exit)) ⌝ }
 {
     let mut place = Place {
         top,

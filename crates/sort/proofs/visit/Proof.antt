@@ -7,7 +7,7 @@ use borrow.Author.Needs.{needs}
 use denote.Ref.{now}
 use Rattle.network.specs.Sizes.{maxGates}
 use Rattle.sort.specs.between.Steps.{gateIns, topGate}
-use Rattle.sort.proofs.Naming.{within-lower}
+use Rattle.sort.proofs.Naming.{within-rises}
 use Rattle.sort.proofs.Visiting.{top-few, v-below, at-pos, visited-skip, visit-walks, visited-comb}
 use Rattle.sort.proofs.visit.Statement.{statement}
 use Rattle.sort.proofs.visit.Tie as tie
@@ -82,7 +82,7 @@ returns-2 c =
       rw (g .before .narrow .ensures)
           (visited-comb (s .pre .0 .valid) (s .pre .0 .few) (s .pre .1 .0) (s .pre .1 .1 .0) (now (g .gate-pins .result)) _ _ _
           (sym (ap gateIns (g .gate-pins .ensures) ∙ s .pre .0 .inputs _ (known s .1))) (g .before .before .before .if1 .left) (a .lower-uses .ensures .0)),
-      within-lower (s .pre .1 .1 .1) (a .lower-uses .ensures .1),
+      within-rises (omega arith) (s .pre .1 .1 .1) (a .lower-uses .ensures .1),
     )
 
 pub visit-spec : {M : Type 1} → statement M

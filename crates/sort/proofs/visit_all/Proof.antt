@@ -2,15 +2,16 @@
 use mathlib.Core.Path.{sym, _∙_}
 use native.Mathlib.Omega.{arith}
 use lib.ListN.{length}
+use Rattle.network.specs.Cells.{pinsBelow}
 use Rattle.sort_order.proofs.Walk.{budget}
-use Rattle.sort.specs.between.Steps.{cellGraph, pinsUsed, fromTop, Within}
+use Rattle.sort.specs.between.Steps.{cellGraph, fromTop, Within}
 use Rattle.sort.proofs.Visiting.{Walking, walking-start, walking-next, walking-end, next-budget}
 use Rattle.sort.proofs.visit_all.Statement.{statement}
 use Rattle.sort.proofs.visit_all.Tie as tie
 
 abbrev Inv-loop : tie.InvT-loop
 Inv-loop gates pins counts₀ marks₀ stack₀ top order₀ place₀ counts marks stack order place =
-    Walking (cellGraph gates pins (length order₀)) order₀ counts marks stack (place .top) order (place .at) × Within (pinsUsed gates pins (length order₀)) counts
+    Walking (cellGraph gates pins (length order₀)) order₀ counts marks stack (place .top) order (place .at) × Within (pinsBelow gates (length order₀)) counts
 
 abbrev μ-loop : tie.MeasureT-loop
 μ-loop gates pins counts₀ marks₀ stack₀ top order₀ place₀ counts marks stack order place = budget (cellGraph gates pins (length order₀)) counts (fromTop (place .top) stack)

@@ -7,14 +7,14 @@ use Prim.Native.Nat.{ℕ, zero, suc, _+_, _-_, _*_, _≤_, _<_}
 use lib.Dec.{eqb, ltb}
 use lib.ListN.{length, getD, getElem?, take, drop, set}
 use Rattle.gates.specs.Gate.{Gate, pins, isComb}
-use Rattle.lists.specs.Lists.{sumTo, occ, overwrite, optional}
+use Rattle.lists.specs.Lists.{occ, overwrite, optional}
 use Rattle.lists.specs.between.Lists.{overwriteAt}
 use Rattle.signal.specs.between.Signal.{gateNode}
 use Rattle.signal.specs.Cell.{nodeOf}
 use Rattle.signal.specs.between.Cell.{gateNumber, remapCell}
 use Rattle.gates.specs.between.Forms.{kindOf}
 use Rattle.gates.specs.between.Decode.{kindComb}
-use Rattle.network.specs.Cells.{cellGates}
+use Rattle.network.specs.Cells.{cellGates, pinsBelow}
 use Rattle.network.specs.Sizes.{maxGates, maxPins}
 use Rattle.network.specs.Record.{gateWidth, formAt, runAt}
 use Rattle.network.specs.between.Record.{recordAt, withFirst, RecordIn, HasRun}
@@ -53,10 +53,6 @@ cellIns gates ps n g = optional (λ (x : Gate). gateNums (pins x)) [] (getElem? 
 abbrev pub cellGraph : List ℕ → List ℕ → ℕ → Graph
 cellGraph gates pins n = record { size = n; comb = cellComb gates pins n; ins = cellIns gates pins n }
 
--- how many pins the gates below k have; those of all gates are "the pins in use"
-abbrev pub pinsUsed : List ℕ → List ℕ → ℕ → ℕ
-pinsUsed gates pins k = sumTo k (λ g. length (runAt gates pins g))
-
 -- the cells hold n gates, whose records and runs can be read, whose inputs are gates, and which have no more pins than there may be
 pub record Cells (gates pins : List ℕ) (n : ℕ) : Type 0 where
   -- "1,024 gates"
@@ -69,8 +65,8 @@ pub record Cells (gates pins : List ℕ) (n : ℕ) : Type 0 where
   pub inputs : (g : ℕ) → g < n → gateIns (runAt gates pins g) ≡ cellIns gates pins n g
   -- every gate input is a gate
   pub valid : ValidGraph (cellGraph gates pins n)
-  -- "16,384 at most"
-  pub fewPins : pinsUsed gates pins n ≤ maxPins
+  -- the pins in use are "16,384 at most"
+  pub fewPins : pinsBelow gates n ≤ maxPins
 
 -- ---- use counts
 
