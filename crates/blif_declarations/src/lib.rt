@@ -1,5 +1,7 @@
 // The declarations of a text, one after the other: what is stray and what stops is told here, once (Quaigh's src/io/blif.rs:
 // build_name_to_sig).
+#![tactic(auto)]
+
 ghost use Rattle.std.specs.Prelude.{◌≡◌, ◌<◌, length};
 ghost use Rattle.blif_text.specs.Between.Walk.{StmtsAt};
 ghost use Rattle.blif_declarations.specs.Between.Rows.{LinesAt};
@@ -8,7 +10,7 @@ ghost use Rattle.blif_declarations.specs.Between.Declarations.{declared_by, behi
 use blif_text::{Block, Keyword, Run, has_leading_dot, keyword_of, names_run, row_end, token};
 
 // How many cube lines stand at a place, and the place behind them.
-#[derive(Drop)]
+#[derive(Clone, Copy)]
 struct Lines {
     count: usize,
     end: usize,
@@ -16,7 +18,7 @@ struct Lines {
 
 // A declaration by its places in the tokens: runs of names, a latch with the tokens behind its names, a cover with its lines; or
 // that there is none, at a stray cube line and at `.exdc`.
-#[derive(Drop)]
+#[derive(Clone, Copy)]
 pub enum Declaration {
     Model,
     Inputs(Run),
@@ -28,7 +30,7 @@ pub enum Declaration {
 }
 
 // A declaration, and the place where the walk goes on.
-#[derive(Drop)]
+#[derive(Clone, Copy)]
 pub struct Next {
     pub declaration: Declaration,
     pub at: usize,

@@ -1,4 +1,6 @@
 // The BLIF reader (Quaigh's src/io/blif.rs: read_blif).
+#![tactic(auto)]
+
 ghost use Rattle.std.specs.Prelude.{◌≡◌, ◌≤◌, leb, length, take};
 ghost use Rattle.lists.specs.Lists.{any, overwrite, zeros};
 ghost use Rattle.refusals.specs.declared.Checked.TheVariants.{Fine};
@@ -18,7 +20,7 @@ use refusals::{Checked, Refusal};
 use sort::{Sorted, topo_sort};
 
 // The network's counts, or a refusal.
-#[derive(Drop)]
+#[derive(Clone, Copy)]
 pub enum ReadAnswer {
     Read(Counts),
     Refused(Refusal),
@@ -63,7 +65,7 @@ fn has_high_byte(text: &[u8]) -> bool
 }
 
 // The tokens marked, and the inputs, gates and outputs that they declare, each counted.
-#[derive(Drop)]
+#[derive(Clone, Copy)]
 struct Marked {
     tokens: usize,
     inputs: usize,

@@ -1,4 +1,6 @@
 // Cube lines: refusals 12 and 13 (Quaigh's src/io/blif.rs: build_network).
+#![tactic(auto)]
+
 ghost use Rattle.std.specs.Prelude.{◌≡◌, ◌-◌, ◌<◌, length};
 ghost use Rattle.blif_text.specs.Between.Blocks.{defs_at, Blocks};
 ghost use Rattle.blif_reading.specs.Read.{cover_faults, is_column};
@@ -9,7 +11,7 @@ use lists::equal;
 use refusals::{Checked, Refusal};
 
 // What a line's last token says of its output.
-#[derive(Drop)]
+#[derive(Clone, Copy)]
 enum Output {
     Zero,
     One,
@@ -17,7 +19,7 @@ enum Output {
 }
 
 // The outputs of a cover's lines so far: whether a 0 is among them, and a 1.
-#[derive(Drop)]
+#[derive(Clone, Copy)]
 struct Outputs {
     zero: bool,
     one: bool,

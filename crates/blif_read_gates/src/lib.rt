@@ -1,4 +1,6 @@
 // The gates of covers (Quaigh's src/io/blif.rs: build_network, its second loop).
+#![tactic(auto)]
+
 ghost use Rattle.std.specs.Prelude.{◌≡◌, map, ◌+◌, ◌≤◌, ◌<◌, length, get_or, take, drop};
 ghost use Rattle.lists.specs.Between.Lists.{overwrite_at};
 ghost use Rattle.signal.specs.Cell.{sig_cell};
@@ -22,21 +24,21 @@ use network::{count_at, first_at, lay_gate, put_record};
 use signal::Signal;
 
 // How many gates are built, and how many pins are in use.
-#[derive(Drop)]
+#[derive(Clone, Copy)]
 pub struct Built {
     pub gates: usize,
     pub pins: usize,
 }
 
 // The sources of a cover: the run of pins that its And has.
-#[derive(Drop)]
+#[derive(Clone, Copy)]
 struct Sources {
     first: usize,
     count: usize,
 }
 
 // The lines of a cover: the first one's first token, and how many there are.
-#[derive(Drop)]
+#[derive(Clone, Copy)]
 struct Lines {
     row: usize,
     count: usize,

@@ -1,5 +1,7 @@
 // The declarations of a text: names (refusals 7 to 10), and the tables that building starts from
 // (Quaigh's src/io/blif.rs: build_name_to_sig).
+#![tactic(auto)]
+
 ghost use Rattle.std.specs.Prelude.{◌≡◌, false, ◌++◌, ◌+◌, ◌*◌, ◌≤◌, ◌<◌, length, take};
 ghost use Rattle.lists.specs.Lists.{zeros};
 ghost use Rattle.network.specs.Sizes.{max_gates, max_outputs};
@@ -20,7 +22,7 @@ use refusals::{Checked, Refusal, refuse_if};
 use signal::Signal;
 
 // How many inputs, gates and outputs are declared.
-#[derive(Drop)]
+#[derive(Clone, Copy)]
 pub struct Declared {
     pub inputs: usize,
     pub gates: usize,
@@ -28,14 +30,14 @@ pub struct Declared {
 }
 
 // The names are entered, or a refusal of 7 to 10.
-#[derive(Drop)]
+#[derive(Clone, Copy)]
 pub enum Defined {
     Names(Declared),
     Refused(Refusal),
 }
 
 // A walk that enters names: its place, and how many models, inputs, gates and outputs are declared before it.
-#[derive(Drop)]
+#[derive(Clone, Copy)]
 struct Walk {
     at: usize,
     models: usize,
@@ -45,7 +47,7 @@ struct Walk {
 }
 
 // The walk behind a declaration, or the declaration's refusal.
-#[derive(Drop)]
+#[derive(Clone, Copy)]
 enum Step {
     Next(Walk),
     Refused(Refusal),

@@ -1,4 +1,6 @@
 // Names that are used: refusal 11, and the gates first placed (Quaigh's src/io/blif.rs: build_network, its first loop).
+#![tactic(auto)]
+
 ghost use Rattle.std.specs.Prelude.{map, ◌+◌, ◌≤◌, length, get_or};
 ghost use Rattle.lists.specs.Lists.{sum_of};
 ghost use Rattle.network.specs.Sizes.{max_gates, max_pins};
@@ -20,7 +22,7 @@ use refusals::Refusal;
 use signal::Signal;
 
 // How many pins are in use, or the refusal of a name that is not defined.
-#[derive(Drop)]
+#[derive(Clone, Copy)]
 pub enum Placed {
     Pins(usize),
     Refused(Refusal),

@@ -1,4 +1,6 @@
 // The sizes: refusal 6 (Quaigh has no sizes).
+#![tactic(auto)]
+
 ghost use Rattle.std.specs.Prelude.{◌≡◌, ◌+◌, ◌-◌, ◌*◌, ◌≤◌, length};
 ghost use Rattle.network.specs.Between.Sizes.{WithinSizes};
 ghost use Rattle.blif_text.specs.Decls.{decls};
@@ -12,7 +14,7 @@ use blif_declarations::{Declaration, next_declaration};
 use network::{MAX_GATES, MAX_INPUTS, MAX_OUTPUTS, MAX_PINS};
 
 // How many inputs, outputs, gates and pins are declared.
-#[derive(Drop)]
+#[derive(Clone, Copy)]
 struct Sizes {
     inputs: usize,
     outputs: usize,

@@ -149,10 +149,13 @@ sources-of (cover ns ls) = refl
 
 -- ---- 11
 
-uses-in : (gs : List Def) (g : Def) (x : Bytes) → Memᴰ g gs → Memᴰ x (used_names g) → Memᴰ x (flat_map used_names gs)
+used_in : (g : Def) (x : Bytes) (gs : List Def) → Memᴰ g gs → Memᴰ x (used_names g) → Memᴰ x (flat_map used_names gs)
 unfolding flat_map
-uses-in _ g x (Memᴰ.head {x = h} {xs = gs} e) m = Memᴰ.append_left (flat_map used_names gs) (subst (λ (k : Def). Memᴰ x (used_names k)) e m)
-uses-in _ g x (Memᴰ.tail {x = h} {xs = gs} w) m = Memᴰ.append_right (used_names h) (uses-in gs g x w m)
+used_in g x _ (Memᴰ.head {x = h} {xs = gs} e) m = Memᴰ.append_left (flat_map used_names gs) (subst (λ (k : Def). Memᴰ x (used_names k)) e m)
+used_in g x _ (Memᴰ.tail {x = h} {xs = gs} w) m = Memᴰ.append_right (used_names h) (used_in g x gs w m)
+
+uses-in : (gs : List Def) (g : Def) (x : Bytes) → Memᴰ g gs → Memᴰ x (used_names g) → Memᴰ x (flat_map used_names gs)
+uses-in gs g x w m = used_in g x gs w m
 
 module _ (ds : List Decl) where
   abbrev m : Model Bytes
@@ -221,10 +224,13 @@ good_of (cover ns ls) e =
     let k : b ≡ false = fine-refuse_if b refusal.OutputsDiffer (or_else-right (refuse_if a refusal.WrongCubeLine) (refuse_if b refusal.OutputsDiffer) e) in
     (any is_one ls, lines_of (length (cover_ins ns)) (any is_one ls) ls (λ ts m. (good_length (length ns - 1) ts (all-mem (good_line (length ns - 1)) ls h ts m) ∙ sym (ins-length ns), one-output ls k ts m)))
 
-pub goods-of : (gs : List Def) → cover_faults gs ≡ Fine → (g : Def) → Memᴰ g gs → cover_fault g ≡ Fine
+good_at : (g : Def) (gs : List Def) → cover_faults gs ≡ Fine → Memᴰ g gs → cover_fault g ≡ Fine
 unfolding cover_faults
-goods-of _ e g (Memᴰ.head {x = h} {xs = gs} q) = ap cover_fault q ∙ or_else-left (cover_fault h) (cover_faults gs) e
-goods-of _ e g (Memᴰ.tail {x = h} {xs = gs} m) = goods-of gs (or_else-right (cover_fault h) (cover_faults gs) e) g m
+good_at g _ e (Memᴰ.head {x = h} {xs = gs} q) = ap cover_fault q ∙ or_else-left (cover_fault h) (cover_faults gs) e
+good_at g _ e (Memᴰ.tail {x = h} {xs = gs} m) = good_at g gs (or_else-right (cover_fault h) (cover_faults gs) e) m
+
+pub goods-of : (gs : List Def) → cover_faults gs ≡ Fine → (g : Def) → Memᴰ g gs → cover_fault g ≡ Fine
+goods-of gs e g m = good_at g gs e m
 
 -- ---- 6 to 13
 

@@ -1,4 +1,6 @@
 // BLIF text: lines, tokens, keywords and statements, as places in the caller's text (Quaigh's src/io/blif.rs).
+#![tactic(auto)]
+
 ghost use Rattle.std.specs.Prelude.{◌≡◌, false, eqb, [], ◌∷◌, ◌+◌, ◌*◌, ◌≤◌, ◌<◌, length, get_or};
 ghost use Rattle.lists.specs.Lists.{any, overwrite};
 ghost use Rattle.lists.specs.Between.Lists.{overwrite_at};
@@ -21,7 +23,7 @@ pub const MAX_TEXT: usize = 32768;
 pub const BLOCK_CELLS: usize = 3;
 
 // How far the scan has come: the place, how many tokens are marked, and whether the next one is a statement's first.
-#[derive(Drop)]
+#[derive(Clone, Copy)]
 struct Marks {
     at: usize,
     count: usize,
@@ -30,7 +32,7 @@ struct Marks {
 
 // A latch or a cover by places: the token of its first name, how many names a cover has (a latch is told by none), and
 // how many cube lines; of a latch, how many tokens stand behind `.latch`.
-#[derive(Drop)]
+#[derive(Clone, Copy)]
 pub struct Block {
     pub first: usize,
     pub names: usize,
@@ -38,7 +40,7 @@ pub struct Block {
 }
 
 // What a statement's first token says.
-#[derive(Drop)]
+#[derive(Clone, Copy)]
 pub enum Keyword {
     Model,
     Inputs,
@@ -52,14 +54,14 @@ pub enum Keyword {
 }
 
 // A run of token cells.
-#[derive(Drop)]
+#[derive(Clone, Copy)]
 pub struct Run {
     pub first: usize,
     pub count: usize,
 }
 
 // What is told of a latch's start value: that it is zero or one, or that its token is none of 0, 1, 2 and 3.
-#[derive(Drop)]
+#[derive(Clone, Copy)]
 pub enum Start {
     Zero,
     One,
@@ -67,7 +69,7 @@ pub enum Start {
 }
 
 // A statement by the places of its names: a run of token cells, for a latch with those behind its names, or its refusal.
-#[derive(Drop)]
+#[derive(Clone, Copy)]
 pub enum Statement {
     Model,
     End,

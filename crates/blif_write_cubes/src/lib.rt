@@ -1,4 +1,6 @@
 // Cube lines, written into what is left of the output slice (Quaigh's src/io/blif.rs: write_blif_cube).
+#![tactic(auto)]
+
 ghost use Rattle.std.specs.Prelude.{◌≡◌, true, [], ◌++◌, ◌≤◌, ◌<◌, length, get_or, replicate};
 ghost use Rattle.gates.specs.Between.Forms.{binary_form, ternary_form, nary_form};
 ghost use Rattle.blif_writing.specs.WrittenModel.{lines_of, max_exclusive};

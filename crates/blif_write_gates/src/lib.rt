@@ -1,4 +1,6 @@
 // Latches and covers, written into what is left of the output slice (Quaigh's src/io/blif.rs: write_blif).
+#![tactic(auto)]
+
 ghost use Rattle.std.specs.Prelude.{◌≡◌, cond, [], ◌∷◌, ◌++◌, map, ◌<◌, length};
 ghost use Rattle.signal.specs.Cell.{sig_of};
 ghost use Rattle.gates.specs.Between.Forms.{binary_form, ternary_form, nary_form};

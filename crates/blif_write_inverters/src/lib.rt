@@ -1,4 +1,6 @@
 // Marks for the signals that are used inverted, and the inverters of marked ones (Quaigh's src/io/utils.rs: get_inverted_signals).
+#![tactic(auto)]
+
 ghost use Rattle.std.specs.Prelude.{◌≡◌, false, [], ◌∷◌, map, ◌≤◌, length, set};
 ghost use Rattle.signal.specs.Cell.{sig_of};
 ghost use Rattle.network.specs.Sizes.{max_gates, max_inputs};

@@ -1,5 +1,7 @@
 // Byte strings, numbers and names, written into what is left of the output slice (Quaigh's src/io/utils.rs). Each writes as much of its
 // text as the slice has room for.
+#![tactic(auto)]
+
 ghost use Rattle.std.specs.Prelude.{◌≡◌, [], ◌∷◌, ◌++◌, ◌/◌, ◌≤◌, length};
 ghost use Rattle.lists.specs.Lists.{overwrite};
 ghost use Rattle.signal.specs.Signal.{Const};

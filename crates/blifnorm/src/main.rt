@@ -1,6 +1,8 @@
 // Reads a BLIF text from standard input and prints the text of the network read, or the line `refused=N`. `answer` says which bytes are
 // printed for which text; that main hands it standard input and prints its answer is for the reader to see, since no contract can say
 // which bytes a call of the operating system moves.
+#![tactic(auto)]
+
 ghost use Rattle.std.specs.Prelude.{◌≡◌, length};
 ghost use Rattle.lists.specs.Lists.{zeros};
 ghost use Rattle.blif_write_names.specs.Between.Text.{Wrote};

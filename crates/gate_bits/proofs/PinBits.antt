@@ -101,8 +101,8 @@ module _ {make : List Bool → Bool} {bits : List Bool} {run : List ℕ} where
     made-done h c = c.so ∙ ap (λ (l : List ℕ). make (pin_bits bits l)) (take_all i run h)
 
 -- one that is found in a part is found in the whole
-pub made_found : {p : Bool → Bool} {bits : List Bool} {run : List ℕ} {i : ℕ} → MadeOf (any p) bits run true i → true ≡ any p (pin_bits bits run)
-made_found {p} {bits} {run} {i} c =
+pub made_found : (p : Bool → Bool) {bits : List Bool} {run : List ℕ} {i : ℕ} → MadeOf (any p) bits run true i → true ≡ any p (pin_bits bits run)
+made_found p {bits} {run} {i} c =
     ap (λ (b : Bool). b || any p (pin_bits bits (drop i run))) c.so
     ∙ sym (pins-join (any-joins p) bits (take i run) (drop i run))
     ∙ ap (λ (l : List ℕ). any p (pin_bits bits l)) (take-append-drop i run)

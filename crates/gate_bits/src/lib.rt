@@ -1,4 +1,6 @@
 // The bits of signals at a clock, in a table by signal, and what a gate makes of its inputs' bits (document 01, "A clock").
+#![tactic(auto)]
+
 ghost use Rattle.std.specs.Prelude.{◌≡◌, not, ◌+◌, ◌-◌, ◌<◌, min, length, set};
 ghost use Rattle.lists.specs.Lists.{any};
 ghost use Rattle.signal.specs.Signal.{invert_if};

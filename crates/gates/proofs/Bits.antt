@@ -2,12 +2,12 @@
 use mathlib.Core.Path.{◌≡◌, refl, sym, ap, ◌∙◌}
 use mathlib.Core.Bool.{Bool, true, false, not, ◌&&◌, cond}
 use mathlib.Core.List.{List, [], ◌∷◌}
-use Prim.Native.Nat.{ℕ, zero, suc, ◌%◌}
+use Prim.Native.Nat.{ℕ, suc, ◌%◌}
 use native.Mathlib.Omega.{arith}
 use lib.Dec.{eqb, leb, leb-suc-suc}
 use borrow.Author.Tests.{eq-eqb, ne_eqb, le-leb, eqb-true, eqb-false}
 use Rattle.lists.proofs.Tests.{by-test}
-use Rattle.gates.specs.Gate.{Maj3, Mux3, AndN, OrN, NandN, NorN, XorN, XnorN, any_of, odd, mux, form_bit}
+use Rattle.gates.specs.Gate.{Maj3, Mux3, AndN, OrN, NandN, NorN, XorN, XnorN, any_of, form_bit}
 use Rattle.gates.specs.Between.Gate.{ones}
 
 any-is : (bs : List Bool) → any_of bs ≡ leb 1 (ones bs)

@@ -1,5 +1,5 @@
 -- Plain flip-flops, by the test and by their signals. Assumes nothing.
-use mathlib.Core.Path.{◌≡◌, refl, ap, ap₂}
+use mathlib.Core.Path.{◌≡◌, refl, ap₂}
 use mathlib.Core.Bool.{Bool, true, false, ◌&&◌, not, false≢true}
 use Rattle.lists.proofs.Tests.{and_left, and_right}
 use Rattle.signal.specs.Signal.{Node, Const, Input, Var, Signal, zero_s, one_s, const_node, is_zero_s, is_one_s}

@@ -1,4 +1,6 @@
 // Gates: their forms, types, form numbers and pin counts (Quaigh's src/network/gates.rs).
+#![tactic(auto)]
+
 ghost use Rattle.std.specs.Prelude.{◌≡◌};
 ghost use Rattle.gates.specs.Between.Forms.{kind_of, kind_takes, kind_starts, kind_number};
 ghost use Rattle.gates.specs.Between.Decode.{pin_count, start_in, kind_of_gate, kind_comb, cell_signal, kind_gate, with_pins};
@@ -14,13 +16,13 @@ pub const BUF: u32 = 13;
 
 pub const DFF: u32 = 14;
 
-#[derive(Drop)]
+#[derive(Clone, Copy)]
 pub enum BinaryType {
     And,
     Xor,
 }
 
-#[derive(Drop)]
+#[derive(Clone, Copy)]
 pub enum TernaryType {
     And,
     Xor,
@@ -28,7 +30,7 @@ pub enum TernaryType {
     Mux,
 }
 
-#[derive(Drop)]
+#[derive(Clone, Copy)]
 pub enum NaryType {
     And,
     Or,
@@ -39,14 +41,14 @@ pub enum NaryType {
 }
 
 // A run of pin cells.
-#[derive(Drop)]
+#[derive(Clone, Copy)]
 pub struct PinRun {
     pub first: usize,
     pub count: usize,
 }
 
 // A gate in hand: its form, which carries its type, beside its signals or its run of pins.
-#[derive(Drop)]
+#[derive(Clone, Copy)]
 pub enum Gate {
     Binary(BinaryType, Signal, Signal),
     Ternary(TernaryType, Signal, Signal, Signal),
@@ -57,7 +59,7 @@ pub enum Gate {
 }
 
 // What a form number says of a gate: its form and type.
-#[derive(Drop)]
+#[derive(Clone, Copy)]
 pub enum Kind {
     Binary(BinaryType),
     Ternary(TernaryType),
@@ -68,7 +70,7 @@ pub enum Kind {
 }
 
 // A gate read out of cells, or cells that hold none.
-#[derive(Drop)]
+#[derive(Clone, Copy)]
 pub enum Decoded {
     Good(Gate),
     Bad,

@@ -26,9 +26,12 @@ module _ {A : Type 0} where
   dup-right [] r d = d
   dup-right (x ∷ l) r d = there (dup-right l r d)
 
+  dup_of : (x : A) (l r : List A) → Memᴰ x l → Memᴰ x r → Dup (l ++ r)
+  dup_of x _ r (Memᴰ.head {xs = l} e) n = here (Memᴰ.append_right l (Memᴰ.cast (sym e) n))
+  dup_of x _ r (Memᴰ.tail {xs = l} m) n = there (dup_of x l r m n)
+
   pub dup-both : (l r : List A) (x : A) → Memᴰ x l → Memᴰ x r → Dup (l ++ r)
-  dup-both _ r x (Memᴰ.head {xs = l} e) n = here (Memᴰ.append_right l (Memᴰ.cast (sym e) n))
-  dup-both _ r x (Memᴰ.tail {xs = l} m) n = there (dup-both l r x m n)
+  dup-both l r x m n = dup_of x l r m n
 
   -- and nothing else is
   pub dup-append : (l r : List A) → Dup (l ++ r) → Dup l ⊎ (Dup r ⊎ ((x : A) × Memᴰ x l × Memᴰ x r))
@@ -42,13 +45,16 @@ module _ {A : Type 0} where
   pub once-append : (l m : List A) → (Dup l → ⊥) → (Dup m → ⊥) → ((x : A) → Memᴰ x l → Memᴰ x m → ⊥) → Dup (l ++ m) → ⊥
   once-append l m h k a d = ⊎_elim h (λ w. ⊎_elim k (λ v. a v.0 v.1 v.2) w) (dup-append l m d)
 
-  pub filter-mem : (p : A → Bool) (l : List A) (x : A) → Memᴰ x l → p x ≡ true → Memᴰ x (filter p l)
-  filter-mem p _ x (Memᴰ.head {x = y} {xs = l} e) t = subst (λ (b : Bool). Memᴰ x (if b then y ∷ filter p l else filter p l)) (sym (ap p (sym e) ∙ t)) (Memᴰ.head e)
-  filter-mem p _ x (Memᴰ.tail {x = y} {xs = l} m) t = go (p y) (filter-mem p l x m t)
+  mem_kept : (p : A → Bool) (x : A) (l : List A) → Memᴰ x l → p x ≡ true → Memᴰ x (filter p l)
+  mem_kept p x _ (Memᴰ.head {x = y} {xs = l} e) t = subst (λ (b : Bool). Memᴰ x (if b then y ∷ filter p l else filter p l)) (sym (ap p (sym e) ∙ t)) (Memᴰ.head e)
+  mem_kept p x _ (Memᴰ.tail {x = y} {xs = l} m) t = go (p y) (mem_kept p x l m t)
     where
       go : (b : Bool) → Memᴰ x (filter p l) → Memᴰ x (if b then y ∷ filter p l else filter p l)
       go true w = Memᴰ.tail w
       go false w = w
+
+  pub filter-mem : (p : A → Bool) (l : List A) (x : A) → Memᴰ x l → p x ≡ true → Memᴰ x (filter p l)
+  filter-mem p l x m t = mem_kept p x l m t
 
   pub mem-filter : (p : A → Bool) (l : List A) (x : A) → Memᴰ x (filter p l) → Memᴰ x l
   mem-filter p [] x m = m

@@ -20,9 +20,12 @@ module _ {A : Type 0} where
   place-mem (y ∷ l) zero x e = Memᴰ.head {x = y} (cc)
   place-mem (y ∷ l) (suc n) x e = Memᴰ.tail (place-mem l n x e)
 
+  place_of : (x : A) (l : List A) → Memᴰ x l → (n : ℕ) × (get_elem? l n ≡ some x)
+  place_of x _ (Memᴰ.head e) = (0, ap some (sym e))
+  place_of x _ (Memᴰ.tail {xs = l} m) = let r : (n : ℕ) × (get_elem? l n ≡ some x) = place_of x l m in (suc r.0, r.1)
+
   pub mem-place : (l : List A) (x : A) → Memᴰ x l → (n : ℕ) × (get_elem? l n ≡ some x)
-  mem-place _ x (Memᴰ.head e) = (0, ap some (sym e))
-  mem-place _ x (Memᴰ.tail {xs = l} m) = let r : (n : ℕ) × (get_elem? l n ≡ some x) = mem-place l x m in (suc r.0, r.1)
+  mem-place l x m = place_of x l m
 
   pub lt-place : (l : List A) (n : ℕ) → n < length l → (x : A) × (get_elem? l n ≡ some x)
   lt-place [] n h = absurd (omega arith)

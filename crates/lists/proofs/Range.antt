@@ -2,7 +2,7 @@
 use mathlib.Core.Path.{◌≡◌, refl, sym, ap, ◌∙◌}
 use mathlib.Core.Bool.{Bool, true, false, ◌&&◌, and_assoc}
 use mathlib.Core.List.{List, [], ◌∷◌, ◌++◌, map, Memᴰ}
-use mathlib.Core.Option.{none, some}
+use mathlib.Core.Option.{some}
 use Prim.Native.Nat.{ℕ, zero, suc, ◌+◌, ◌-◌, ◌≤◌, ◌<◌}
 use native.Mathlib.Omega.{arith}
 use native.Mathlib.Nat.{add-zero, add-suc, suc-add, sub-zero}
@@ -14,9 +14,12 @@ use Rattle.lists.proofs.Places.{map-place, drop-next}
 use Rattle.lists.proofs.Tests.{and_both, and_left, and_right, and-true, or_left, or_right}
 
 module _ {A : Type 0} (p : A → Bool) where
+  passes_at : (x : A) (l : List A) → all p l ≡ true → Memᴰ x l → p x ≡ true
+  passes_at x _ t (Memᴰ.head {x = y} {xs = l} e) = ap p e ∙ and_left (p y) (all p l) t
+  passes_at x _ t (Memᴰ.tail {x = y} {xs = l} m) = passes_at x l (and_right (p y) (all p l) t) m
+
   pub all-mem : (l : List A) → all p l ≡ true → (x : A) → Memᴰ x l → p x ≡ true
-  all-mem _ t x (Memᴰ.head {x = y} {xs = l} e) = ap p e ∙ and_left (p y) (all p l) t
-  all-mem _ t x (Memᴰ.tail {x = y} {xs = l} m) = all-mem l (and_right (p y) (all p l) t) x m
+  all-mem l t x m = passes_at x l t m
 
   pub mem-all : (l : List A) → ((x : A) → Memᴰ x l → p x ≡ true) → all p l ≡ true
   mem-all [] h = refl
@@ -31,9 +34,12 @@ module _ {A : Type 0} (p : A → Bool) where
   all_map f (x ∷ l) = ap (λ (b : Bool). p (f x) && b) (all_map f l)
 
 -- no element passes a test that none passes
+fails_at : {A : Type 0} (p : A → Bool) (x : A) (l : List A) → any p l ≡ false → Memᴰ x l → p x ≡ false
+fails_at p x _ e (Memᴰ.head {x = y} {xs = l} q) = ap p q ∙ or_left (p y) (any p l) e
+fails_at p x _ e (Memᴰ.tail {x = y} {xs = l} m) = fails_at p x l (or_right (p y) (any p l) e) m
+
 pub any_none : {A : Type 0} (p : A → Bool) (l : List A) → any p l ≡ false → (x : A) → Memᴰ x l → p x ≡ false
-any_none p _ e x (Memᴰ.head {x = y} {xs = l} q) = ap p q ∙ or_left (p y) (any p l) e
-any_none p _ e x (Memᴰ.tail {x = y} {xs = l} m) = any_none p l (or_right (p y) (any p l) e) x m
+any_none p l e x m = fails_at p x l e m
 
 pub length-range : (n k : ℕ) → length (range n k) ≡ k
 length-range n zero = refl

@@ -1,4 +1,6 @@
 // Slices read, compared, copied and cleared.
+#![tactic(auto)]
+
 ghost use Rattle.std.specs.Prelude.{◌≡◌, ◌+◌, ◌≤◌, length, get_or};
 ghost use Rattle.lists.specs.Lists.{same, zeros};
 ghost use Rattle.lists.specs.Between.Lists.{overwrite_at};

@@ -1,4 +1,6 @@
 // The index of names: where Quaigh's src/io/blif.rs has a HashMap from names to signals.
+#![tactic(auto)]
+
 ghost use Rattle.std.specs.Prelude.{◌≡◌, ◌<◌};
 ghost use Rattle.blif_text.specs.Between.Places.{InText};
 ghost use Rattle.name_index.specs.Between.Search.{signal_in};

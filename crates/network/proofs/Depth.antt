@@ -30,13 +30,16 @@ unfoldable pub depth : Net → ℕ → ℕ → ℕ
 depth net zero g = 0
 depth net (suc k) g = depth_of (depth net k) (get_elem? net.gates g)
 
-pub deepest-ge : (D : ℕ → ℕ) (ss : List Signal) (s : Signal) (h : ℕ) → Memᴰ s ss → s.node ≡ Var h → D h ≤ deepest D ss
-deepest-ge D _ s h (Memᴰ.head {x = t} {xs = ss} e) p =
+deeper : (D : ℕ → ℕ) (s : Signal) (h : ℕ) (ss : List Signal) → Memᴰ s ss → s.node ≡ Var h → D h ≤ deepest D ss
+deeper D s h _ (Memᴰ.head {x = t} {xs = ss} e) p =
     let q : node_depth D t.node ≡ D h = ap (λ (u : Signal). node_depth D u.node) (sym e) ∙ ap (node_depth D) p in
     omega (arith, le-max_left (node_depth D t.node) (deepest D ss))
-deepest-ge D _ s h (Memᴰ.tail {x = t} {xs = ss} m) p =
-    let i : D h ≤ deepest D ss = deepest-ge D ss s h m p in
+deeper D s h _ (Memᴰ.tail {x = t} {xs = ss} m) p =
+    let i : D h ≤ deepest D ss = deeper D s h ss m p in
     omega (arith, le-max_right (node_depth D t.node) (deepest D ss))
+
+pub deepest-ge : (D : ℕ → ℕ) (ss : List Signal) (s : Signal) (h : ℕ) → Memᴰ s ss → s.node ≡ Var h → D h ≤ deepest D ss
+deepest-ge D ss s h m p = deeper D s h ss m p
 
 node-le : (D : ℕ → ℕ) (k : ℕ) → ((g : ℕ) → D g ≤ k) → (n : Node) → node_depth D n ≤ k
 node-le D k h Const = zero-le

@@ -23,7 +23,6 @@ use Rattle.gates.specs.declared.PinRun.{PinRun}
 use Rattle.signal.specs.declared.Signal as signal
 use Rattle.gates.specs.declared.Gate as code
 use Rattle.gates.specs.declared.Gate.TheVariants as G
-use Rattle.gates.specs.declared.BinaryType.TheVariants as B
 use Rattle.signal.specs.Signal.{Signal, remap}
 use Rattle.network.specs.Renumber.{remap_gate}
 use Rattle.gates.specs.declared.Decoded.TheVariants.{Bad}

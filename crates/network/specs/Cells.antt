@@ -5,7 +5,7 @@ use Rattle.std.proofs.Math.Option.{Option, none, some}
 use Rattle.lists.specs.Lists.{all, range, sum_to}
 use Rattle.signal.specs.Signal.{Node, Const, Input, Var}
 use Rattle.signal.specs.Cell.{node_of, sig_of}
-use Rattle.gates.specs.Gate.{Buf, Gate, Comb, pins}
+use Rattle.gates.specs.Gate.{Buf, Gate, Comb}
 use Rattle.gates.specs.Forms.{can_take, can_start}
 use Rattle.network.specs.Net.{Net, net_from}
 use Rattle.network.specs.declared.Counts.{Counts}

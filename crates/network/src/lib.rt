@@ -1,5 +1,7 @@
 // Networks in lent cells: valid signals, the layout that refusal 20 asks for, whether a network is sorted, and one gate read out of the cells
 // (Quaigh's src/network/network.rs).
+#![tactic(auto)]
+
 ghost use Rattle.std.specs.Prelude.{◌≡◌, [], ◌∷◌, ℕ, ◌+◌, ◌*◌, ◌≤◌, ◌<◌, length};
 ghost use Rattle.lists.specs.Between.Lists.{overwrite_at};
 ghost use Rattle.signal.specs.Cell.{node_of};
@@ -27,7 +29,7 @@ pub const MAX_PINS: usize = 16384;
 pub const GATE_CELLS: usize = 4;
 
 // How many inputs, gates, pins and outputs a network has.
-#[derive(Drop)]
+#[derive(Clone, Copy)]
 pub struct Counts {
     pub inputs: usize,
     pub gates: usize,

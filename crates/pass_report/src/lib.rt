@@ -1,4 +1,6 @@
 // The report for a pass log: the commands of a sheet, run on a netlist and counted (document 02, request 2).
+#![tactic(auto)]
+
 ghost use Rattle.std.specs.Prelude.{◌≡◌, Bool, List, ◌<◌, length};
 ghost use Rattle.network.specs.Cells.{lent, net_of};
 ghost use Rattle.run_rows.specs.Rows.{rows_of};
@@ -19,14 +21,14 @@ use refusals::Refusal;
 use run_rows::{RunAnswer, run_rows};
 
 // How many rows were accepted and how many rejected.
-#[derive(Drop)]
+#[derive(Clone, Copy)]
 pub struct Verdicts {
     pub accepted: usize,
     pub rejected: usize,
 }
 
 // What is found of a sheet's commands on a netlist: the counts, or why there are none.
-#[derive(Drop)]
+#[derive(Clone, Copy)]
 pub enum Judged {
     Counted(Verdicts),
     Refused(Refusal),

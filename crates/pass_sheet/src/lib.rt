@@ -1,4 +1,6 @@
 // The sheet of a pass: the part, how many command rows there are, and the rows (document 02, request 2).
+#![tactic(auto)]
+
 ghost use Rattle.std.specs.Prelude.{◌≡◌, eqb, length};
 ghost use Rattle.blif_text.specs.Lines.{split};
 ghost use Rattle.pass_sheet.specs.Sheet.{is_letter_or_digit, is_part, is_part_line, is_rows_line, in_order, is_whole, sheet_of};
@@ -11,7 +13,7 @@ use lists::equal;
 use refusals::Refusal;
 
 // Where the parts of a sheet stand in its text.
-#[derive(Drop)]
+#[derive(Clone, Copy)]
 pub struct SheetPlaces {
     // how many bytes the part has; it stands at place 5, behind `part=`
     pub part: usize,
@@ -22,7 +24,7 @@ pub struct SheetPlaces {
 }
 
 // What reading a sheet answers.
-#[derive(Drop)]
+#[derive(Clone, Copy)]
 pub enum SheetAnswer {
     Found(SheetPlaces),
     Refused(Refusal),

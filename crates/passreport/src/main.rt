@@ -1,6 +1,8 @@
 // Reads the files netlist.blif and sheet.txt of the current folder and prints the report for a pass log, or the line `refused=N`. `answer`
 // says which bytes are printed for which two texts; that main hands it the two files and prints its answer is for the reader to see, since no
 // contract can say which bytes a call of the operating system moves.
+#![tactic(auto)]
+
 ghost use Rattle.std.specs.Prelude.{◌≤◌, length};
 ghost use Rattle.lists.specs.Lists.{zeros};
 ghost use Rattle.blif_write_names.specs.Between.Text.{Wrote};

@@ -1,4 +1,6 @@
 // Lines with a key and a value, written into what is left of an output slice.
+#![tactic(auto)]
+
 ghost use Rattle.blif_write_names.specs.Between.Text.{Appended};
 ghost use Rattle.printed_lines.specs.Lines.{key_line, count_line, refused_line};
 

@@ -1,4 +1,6 @@
 // What the programs share of reading files and printing. Which bytes a call of the operating system moves no contract can say.
+#![tactic(auto)]
+
 ghost use Rattle.std.specs.Prelude.{◌+◌, ◌≤◌, length};
 
 // Prints the first n bytes, where there are as many, or says on standard error that it cannot.

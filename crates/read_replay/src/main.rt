@@ -1,6 +1,8 @@
 // Reads texts into lent cells and prints the answers and the cells in use, in the notation of the stored answers of Quaigh's read_blif.
 // Standard input has how many texts there are, then the length and the bytes of each. Before a read every cell is all ones; a cell
 // beyond the counts, or a working cell, that is not zero after it is told. What is told is shown first.
+#![tactic(auto)]
+
 ghost use Rattle.std.specs.Prelude.{◌≤◌};
 
 use blif_read::{ReadAnswer, read_blif};

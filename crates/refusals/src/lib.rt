@@ -1,10 +1,12 @@
 // Refusals: a case for each number of documents 01 and 02. What Quaigh answers by a message or a panic is one of these.
+#![tactic(auto)]
+
 ghost use Rattle.std.specs.Prelude.{◌≡◌};
 ghost use Rattle.refusals.specs.Numbers.{number_of};
 ghost use Rattle.refusals.specs.Order.{refuse_if};
 
 // Why a text, a network, rows or a sheet are refused.
-#[derive(Drop)]
+#[derive(Clone, Copy)]
 pub enum Refusal {
     // too few cells are lent
     TooFewCells,
@@ -55,7 +57,7 @@ pub enum Refusal {
 }
 
 // What a check answers: nothing is wrong, or the refusal.
-#[derive(Drop)]
+#[derive(Clone, Copy)]
 pub enum Checked {
     Fine,
     Refused(Refusal),

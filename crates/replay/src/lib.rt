@@ -1,4 +1,6 @@
 // What the programs that replay stored answers share: numbers on standard input, cells on standard output.
+#![tactic(auto)]
+
 ghost use Rattle.std.specs.Prelude.{◌≡◌, ◌^◌, ◌<◌, set};
 
 use network::Counts;

@@ -2,6 +2,8 @@
 // how many there are, then for each: how long the output slice is, how many cells of each kind are lent, how long the netlist and the sheet
 // are, and the bytes of both. Before a report every byte of the output slice is 165 and every cell all ones; a byte behind the report and a
 // cell that is not zero after it are told. What is told is shown first.
+#![tactic(auto)]
+
 use pass_report::pass_report;
 use replay::{expect_each, expect_zero_bytes, print_line, put_word, read_word};
 

@@ -1,4 +1,6 @@
 // Demand 3: a network is written, and what was written is read back.
+#![tactic(auto)]
+
 ghost use Rattle.std.specs.Prelude.{◌≡◌, length};
 ghost use Rattle.network.specs.Cells.{lent};
 ghost use Rattle.blif_read.specs.Into.{lengths};
@@ -11,7 +13,7 @@ use network::Counts;
 use refusals::Refusal;
 
 // The writer's refusal; the reader's; or the text's length and the counts of the network read back.
-#[derive(Drop)]
+#[derive(Clone, Copy)]
 pub enum TripAnswer {
     NotWritten(Refusal),
     NotRead(Refusal),

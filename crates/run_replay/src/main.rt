@@ -2,6 +2,8 @@
 // many networks there are, then for each its counts, how long the output slice is, how many cells of each kind are lent, the cells, how
 // long the rows are, and the rows. Before a run every byte of the output slice is 165; a byte behind the output rows, or one after a
 // refusal, that is not zero is told. What is told is shown first.
+#![tactic(auto)]
+
 use network::Counts;
 use replay::{print_bytes, print_line, print_refused, read_counts, read_word, read_words};
 use run_rows::{RunAnswer, run_rows};

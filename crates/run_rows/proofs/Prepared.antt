@@ -4,7 +4,7 @@ use mathlib.Core.Bool.{Bool, true, false, cond}
 use mathlib.Core.List.{List, ◌++◌}
 use Prim.Native.Nat.{ℕ, ◌+◌, ◌*◌, ◌≤◌, ◌<◌}
 use native.Mathlib.Omega.{arith}
-use lib.ListN.{length, get_or, take, length-append, get_or-map}
+use lib.ListN.{length, get_or, take, replicate, length-append, length-replicate, get_or-map}
 use lib.Seq.{length-take-le, take_at, get_or-take}
 use Rattle.lists.specs.Lists.{all, optional}
 use Rattle.lists.proofs.Range.{all-mem}
@@ -152,3 +152,12 @@ prepared-from {n = n} {laid = laid} rest r l o s f w = record {
   flops_long = f;
   listed = w;
 }
+
+-- laid out in tables and lists made for 1,024 gates
+pub prepared_of : {inputs n : ℕ} {cells ps outs slots laid flops : List ℕ} {k : ℕ} (rest : List ℕ) → Runnable inputs n cells ps outs
+    → length laid ≡ length {A = ℕ} (take n (replicate 1024 0)) → LaidOut cells ps (length laid) slots laid → length slots ≡ length {A = ℕ} (replicate 6144 0)
+    → length flops ≡ length {A = ℕ} (replicate 1024 0) → Flops cells n flops k → Prepared inputs n cells ps outs slots (laid ++ rest) flops k
+prepared_of rest r l o s f w =
+    let few = r.gates.few_gates in
+    prepared-from rest r (l ∙ length-take-le {A = ℕ} _ (replicate 1024 0) few) o (omega (arith, few, s, length-replicate {A = ℕ} 6144 0))
+    (omega (arith, few, w.few, f, length-replicate {A = ℕ} 1024 0)) w

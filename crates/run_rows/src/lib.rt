@@ -1,4 +1,6 @@
 // A sorted network run for rows of 0 and 1, a row of outputs for each clock (document 02, request 1).
+#![tactic(auto)]
+
 ghost use Rattle.std.specs.Prelude.{◌≡◌, ◌&&◌, ℕ, ◌*◌, ◌/◌, ◌%◌, ◌≤◌, ◌<◌, eqb, leb, length, take};
 ghost use Rattle.lists.specs.Lists.{all};
 ghost use Rattle.gates.specs.Gate.{is_plain};
@@ -24,7 +26,7 @@ use network::{
 use refusals::Refusal;
 
 // What a run answers: the length of the rows written, or why it is refused.
-#[derive(Drop)]
+#[derive(Clone, Copy)]
 pub enum RunAnswer {
     Ran(usize),
     Refused(Refusal),

@@ -1,4 +1,6 @@
 // Signals: 32-bit numbers built, inverted and split by shifts and masks (Quaigh's src/network/signal.rs).
+#![tactic(auto)]
+
 ghost use Rattle.std.specs.Prelude.{◌≡◌, ◌*◌, ◌/◌, ◌%◌, ◌^◌};
 ghost use Rattle.signal.specs.Signal.{zero_s, one_s, plain, invert, xor_s, const_node};
 ghost use Rattle.signal.specs.Between.Signal.{input_node, gate_node};
@@ -6,7 +8,7 @@ ghost use Rattle.signal.specs.Cell.{sig_cell, node_of, sig_of};
 ghost use Rattle.signal.specs.Between.Cell.{gate_cell, input_cell, gate_number, input_number, remap_cell};
 
 // A constant, an input or a gate, or its complement: bit 0 is the inversion, bit 31 marks an input.
-#[derive(Drop)]
+#[derive(Clone, Copy)]
 pub struct Signal {
     pub a: u32,
 }

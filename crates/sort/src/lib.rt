@@ -1,4 +1,6 @@
 // The sort of a network's gates, from cells into other cells (Quaigh's src/network/network.rs: topo_sort and remap).
+#![tactic(auto)]
+
 ghost use Rattle.std.specs.Prelude.{◌≡◌, List, map, ℕ, ◌+◌, ◌*◌, ◌≤◌, ◌<◌, length, take, replicate};
 ghost use Rattle.lists.specs.Lists.{overwrite};
 ghost use Rattle.lists.specs.Between.Lists.{overwrite_at};
@@ -19,21 +21,21 @@ use network::{Counts, GATE_CELLS, check_layout, gate_pins};
 use signal::Signal;
 
 // Sorted, with the pins in use; or a combinational loop.
-#[derive(Drop)]
+#[derive(Clone, Copy)]
 pub enum Sorted {
     Order(usize),
     Loop,
 }
 
 // What `sort_network` answers: the cells cannot be sorted, or what the sort answers.
-#[derive(Drop)]
+#[derive(Clone, Copy)]
 pub enum Attempt {
     Refused,
     Done(Sorted),
 }
 
 // The top of the stack, and the first cell of the order that is written.
-#[derive(Drop)]
+#[derive(Clone, Copy)]
 struct Place {
     top: usize,
     at: usize,

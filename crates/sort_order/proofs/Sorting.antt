@@ -36,15 +36,18 @@ nums-point d (s ∷ ss) m = go s.node refl m (nums-point d ss)
         ⊎_elim (λ (q : d ≡ g). (s, mathlib.Core.List.Memᴰ.head refl, e ∙ ap Var (sym q)))
         (λ (v : Memᴰ d (gate_nums ss)). let r = ih v in (r.0, mathlib.Core.List.Memᴰ.tail r.1, r.2)) (mathlib.Core.List.Memᴰ.cases_cons w)
 
-pub point-nums : (d : ℕ) (ss : List Signal) (s : Signal) → Memᴰ s ss → s.node ≡ Var d → Memᴰ d (gate_nums ss)
-point-nums d _ s (mathlib.Core.List.Memᴰ.head {x = t} {xs = ss} e) q =
+named : (d : ℕ) (s : Signal) (ss : List Signal) → Memᴰ s ss → s.node ≡ Var d → Memᴰ d (gate_nums ss)
+named d s _ (mathlib.Core.List.Memᴰ.head {x = t} {xs = ss} e) q =
     subst (λ (n : Node). Memᴰ d (node_gate n (gate_nums ss))) (sym (ap (λ (u : Signal). u.node) (sym e) ∙ q)) (mathlib.Core.List.Memᴰ.head refl)
-point-nums d _ s (mathlib.Core.List.Memᴰ.tail {x = t} {xs = ss} m) q = go t.node (point-nums d ss s m q)
+named d s _ (mathlib.Core.List.Memᴰ.tail {x = t} {xs = ss} m) q = go t.node (named d s ss m q)
   where
     go : (n : Node) → Memᴰ d (gate_nums ss) → Memᴰ d (node_gate n (gate_nums ss))
     go Const w = w
     go (Input i) w = w
     go (Var g) w = mathlib.Core.List.Memᴰ.tail w
+
+pub point-nums : (d : ℕ) (ss : List Signal) (s : Signal) → Memᴰ s ss → s.node ≡ Var d → Memᴰ d (gate_nums ss)
+point-nums d ss s m q = named d s ss m q
 
 ins-point : (d : ℕ) (o : Option Gate) → 0 < occ d (optional (λ (x : Gate). gate_nums (pins x)) [] o) → (x : Gate) × (o ≡ some x) × ((s : Signal) × Memᴰ s (pins x) × (s.node ≡ Var d))
 ins-point d none u = absurd (omega arith)

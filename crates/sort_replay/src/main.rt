@@ -1,6 +1,8 @@
 // Sorts networks and prints the answers and the cells in use, in the notation of the stored answers of Quaigh's topo_sort. Standard input has
 // how many networks there are, then for each its input, gate, pin and output counts and its cells. Before a sort every new cell, and every
 // output beyond the counts, is all ones; one that is not in use and not so afterwards is told. What is told is shown first.
+#![tactic(auto)]
+
 use network::{Counts, GATE_CELLS};
 use replay::{expect_each, print_cells, put_word, read_word};
 use sort::{Attempt, Sorted, sort_network};

@@ -1,5 +1,7 @@
 // Prints the statements of texts, a line for each, in the notation of the stored answers of Quaigh's read_statements, a latch with all its
 // tokens. Standard input has how many texts there are, then the length and the bytes of each.
+#![tactic(auto)]
+
 ghost use Rattle.std.specs.Prelude.{◌≤◌, length};
 ghost use Rattle.blif_text.specs.Between.Places.{max_tokens, TokensMarked};
 ghost use Rattle.blif_text.specs.Lines.{max_text};

@@ -3,6 +3,8 @@
 // each its counts, how long the text's slice is, how many cells of each kind are lent, the cells, how long the rows are, and the rows.
 // Before a trip every cell to be filled is all ones and every byte 165; one that should be zero afterwards and is not is told. What is
 // told is shown first.
+#![tactic(auto)]
+
 use network::{Counts, GATE_CELLS};
 use replay::{
     WORD, expect_each, expect_zero_bytes, print_bytes, print_line, print_refused, put_word,
@@ -28,7 +30,7 @@ fn print_number(word: &[u8], n: usize) {
 }
 
 // How many cells of each kind and how many bytes of the text are in use.
-#[derive(Drop)]
+#[derive(Clone, Copy)]
 struct Used {
     gates: usize,
     pins: usize,

@@ -1,4 +1,6 @@
 // The functions that programs in C, Rust and Python link; bindings/c/vumneath.h declares them.
+#![tactic(auto)]
+
 ghost use Rattle.std.specs.Prelude.{◌≡◌, length};
 ghost use Rattle.network.specs.Cells.{lent};
 ghost use Rattle.blif_read.specs.Into.{lengths, read_into};
@@ -15,7 +17,7 @@ use run_rows::{RunAnswer, run_rows};
 // What reading answers: refused is zero and the counts are those of the network, or refused is the refusal's number and the counts are
 // zero.
 #[repr(C)]
-#[derive(Drop)]
+#[derive(Clone, Copy)]
 pub struct VumneathNetwork {
     pub refused: u32,
     pub inputs: u32,
@@ -26,7 +28,7 @@ pub struct VumneathNetwork {
 
 // What writing answers: refused is zero and the length is the text's, or refused is the refusal's number and the length is zero.
 #[repr(C)]
-#[derive(Drop)]
+#[derive(Clone, Copy)]
 pub struct VumneathText {
     pub refused: u32,
     pub length: u32,
@@ -35,7 +37,7 @@ pub struct VumneathText {
 // What a run answers: refused is zero and the length is that of the rows written, or refused is the refusal's number and the length is
 // zero.
 #[repr(C)]
-#[derive(Drop)]
+#[derive(Clone, Copy)]
 pub struct VumneathRows {
     pub refused: u32,
     pub length: usize,

@@ -2,6 +2,8 @@
 // has how many networks there are, then for each its counts, how long the output slice is, how many cells of each kind are lent, and
 // the cells. Before a write every byte of the output slice is 165; a byte behind the text, or one after a refusal, that is not zero is
 // told, and so is a cell that has changed. What is told is shown first.
+#![tactic(auto)]
+
 use blif_write::{WriteAnswer, write_blif};
 use lists::cell_at;
 use network::Counts;

@@ -3,7 +3,6 @@
 use Rattle.std.specs.Prelude.{Bool, true, false, ◌&&◌, cond, List, [], ◌∷◌, map, ℕ, ◌+◌, eqb, leb, length, get_or, take, drop}
 use Rattle.std.proofs.Math.Option.{Option, none, some}
 use Rattle.signal.specs.declared.Signal as code
-use Rattle.signal.specs.Signal.{Signal}
 use Rattle.signal.specs.Cell.{sig_of}
 use Rattle.gates.specs.Gate as data-gate
 use Rattle.gates.specs.Gate.{Comb, Dff}

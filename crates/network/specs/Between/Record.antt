@@ -3,7 +3,6 @@
 use Rattle.std.specs.Prelude.{◌≡◌, cond, List, [], ◌∷◌, ℕ, suc, ◌+◌, ◌*◌, ◌^◌, ◌<◌, ◌≤◌, length, take, drop}
 use Rattle.lists.specs.Between.Lists.{overwrite_at}
 use Rattle.signal.specs.Cell.{bit_of}
-use Rattle.gates.specs.Gate.{Gate, pins}
 use Rattle.gates.specs.Between.Forms.{kind_of, kind_number}
 use Rattle.gates.specs.Between.Decode.{pins_in, pin_count, kind_of_gate, start_in, with_pins}
 use Rattle.gates.specs.declared.Gate as code

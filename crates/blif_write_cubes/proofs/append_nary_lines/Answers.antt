@@ -1,0 +1,9 @@
+-- `append_nary_lines` writes into what is left. Assumes nothing.
+use Rattle.blif_write_names.proofs.Laws.{append-past, append-room}
+use Rattle.blif_write_cubes.proofs.append_nary_lines.Goals as goal
+
+pub returns-then-at-out : goal.returns-then-at-out
+returns-then-at-out c = append-past c.if-at-out.true
+
+pub returns : goal.returns
+returns c = append-room c.if-at-out.false c.write_nary_lines.ensures

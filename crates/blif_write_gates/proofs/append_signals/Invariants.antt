@@ -1,0 +1,14 @@
+use Prim.Native.Nat.{ℕ, ◌-◌}
+use mathlib.Core.List.{map}
+use lib.ListN.{length, drop}
+use Rattle.signal.specs.Cell.{sig_of}
+use Rattle.blif_writing.specs.Names.{name_bytes}
+use Rattle.blif_writing.specs.Text.{spaced}
+use Rattle.blif_write_names.proofs.Parts.{Before}
+use Rattle.blif_write_gates.proofs.append_signals.Given as goal
+
+abbrev pub invariant-loop-i : goal.invariant-loop-i
+invariant-loop-i l = Before (λ (j k : ℕ). spaced (map name_bytes (map sig_of (drop j l.cells)))) (length l.cells) l.initial.out l.at l.out l.end l.i
+
+abbrev pub decreases-loop-i : goal.decreases-loop-i
+decreases-loop-i l = length l.cells - l.i

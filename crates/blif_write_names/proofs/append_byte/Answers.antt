@@ -1,0 +1,9 @@
+-- `append_byte` writes its byte where there is room. Assumes nothing.
+use Rattle.blif_write_names.proofs.Laws.{append-end, append-one}
+use Rattle.blif_write_names.proofs.append_byte.Goals as goal
+
+pub returns-then-at-out : goal.returns-then-at-out
+returns-then-at-out c = append-end c.if-at-out.true
+
+pub returns : goal.returns
+returns c = append-one c.if-at-out.false

@@ -1,0 +1,13 @@
+-- `mark_flop` marks one gate, if it is a flip-flop. Assumes nothing.
+use mathlib.Core.Path.{sym, ◌∙◌}
+use native.Mathlib.Omega.{arith}
+use Rattle.sort.proofs.Starting.{flopped-skip, flopped-mark}
+use Rattle.sort.proofs.mark_flop.Goals as goal
+
+pub returns-then-is_comb : goal.returns-then-is_comb
+returns-then-is_comb c = λ o₀ h. flopped-skip _ (sym c.is_comb.ensures ∙ c.if-is_comb.true) h
+
+pub returns : goal.returns
+returns c = λ o₀ h.
+    rw c.narrow.ensures
+    (flopped-mark _ (sym c.is_comb.ensures ∙ c.if-is_comb.false) (omega arith) (omega arith) h)
