@@ -1,5 +1,5 @@
 //! Finds libvumneath.a: in the folder that VUMNEATH_LIB_DIR names, else in lib/ of the prefix that this crate was installed
-//! into, else where `rt staticlib vumneath` leaves it in the repository.
+//! into, else where `tools/prove vumneath` leaves it in the repository.
 use std::env;
 use std::path::PathBuf;
 
