@@ -30,7 +30,7 @@ use Rattle.sort.specs.declared.Sorted.TheVariants.{Order, Loop}
 use Rattle.sort_order.proofs.Summary.{sorted-keeps}
 use Rattle.blif_text.specs.Statements.{parsed, first_bad}
 use Rattle.blif_text.specs.Lines.{max_text}
-use Rattle.blif_text.specs.Decls.{Def, outs, decls_of}
+use Rattle.blif_text.specs.Decls.{Def, decls_of}
 use Rattle.blif_text.specs.Between.Blocks.{defs_at}
 use Rattle.blif_reading.specs.Read.{decl_fault, read_fault, Result, read, refused, answer, signal_of, built_from, read_text}
 use Rattle.blif_reading.specs.Between.Working.{GatesIn, placed, built_gates, WorkRoom}

@@ -1,5 +1,5 @@
 -- The gates as built, in working cells, are a network that the sort takes. Assumes nothing.
-use mathlib.Core.Path.{◌≡◌, refl, sym, ap, ap₂, ◌∙◌, subst}
+use mathlib.Core.Path.{◌≡◌, refl, sym, ap, ◌∙◌, subst}
 use mathlib.Core.Bool.{true}
 use mathlib.Core.List.{List, map, Memᴰ}
 use mathlib.Core.Option.{some}

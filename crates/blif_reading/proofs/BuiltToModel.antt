@@ -12,7 +12,7 @@ use Rattle.signal.specs.Signal.{Signal, one_s, zero_s}
 use Rattle.gates.specs.Gate.{Gate}
 use Rattle.network.specs.Net.{GateIs}
 use Rattle.network.specs.Clock.{Clock, node_bit, sig_bit}
-use Rattle.blif_meaning.specs.Model.{Line, LatchDef, Block, Latch, Cover, Model, target, block_bit, cover_bit, BlifClock}
+use Rattle.blif_meaning.specs.Model.{Line, Block, Latch, Cover, Model, target, block_bit, cover_bit, BlifClock}
 use Rattle.blif_reading.specs.Build.{line_gate, line_gates, block_gate, new_gates, block_gates, all_new_gates, build}
 use Rattle.blif_meaning.specs.WellFormed.{Closed, GoodBlock}
 use Rattle.blif_reading.proofs.Lookups.{Looks}

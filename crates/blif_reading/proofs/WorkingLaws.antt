@@ -10,7 +10,7 @@ use Rattle.lists.proofs.OverAt.{run-before, drop-behind, run-overwrite_at}
 use Rattle.signal.specs.Cell.{sig_cell}
 use Rattle.gates.specs.Gate.{Gate, pins}
 use Rattle.network.specs.Record.{gate_width, record_of, run_at}
-use Rattle.network.specs.Between.Record.{record_at, RecordIn}
+use Rattle.network.specs.Between.Record.{RecordIn}
 use Rattle.network.proofs.RecordCells.{RecordIs, record_is, length-record_of, record_at-written, record_at-apart, record_in-written}
 use Rattle.blif_reading.specs.Between.Working.{GateIn}
 

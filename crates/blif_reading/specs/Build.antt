@@ -1,6 +1,6 @@
 -- The gates built for a model's latches and covers, before the sort (document 01, src/io/blif.rs). `signal_of` is the signal of a name.
 -- Assumes nothing: these are definitions.
-use Rattle.std.specs.Prelude.{Bool, true, false, cond, List, [], ◌∷◌, ◌++◌, map, ℕ, zero, suc, ◌+◌, length}
+use Rattle.std.specs.Prelude.{Bool, true, false, cond, List, [], ◌∷◌, ◌++◌, map, ℕ, suc, ◌+◌, length}
 use Rattle.lists.specs.Lists.{optional, range}
 use Rattle.signal.specs.Signal.{Var, Signal, plain, zero_s, one_s, invert}
 use Rattle.gates.specs.Gate.{OrN, AndN, NandN, Buf, Gate, Comb, Dff}

@@ -1,7 +1,7 @@
 -- Whole lines with further ones behind them: their statements come first, and where one of them stops, those behind declare nothing.
 -- Assumes nothing.
 use mathlib.Core.Path.{◌≡◌, refl, sym, ap, ap₂, ◌∙◌, subst}
-use mathlib.Core.Bool.{Bool, true, false, ◌&&◌, true≢false}
+use mathlib.Core.Bool.{true, false, ◌&&◌, true≢false}
 use mathlib.Core.List.{List, [], ◌∷◌, ◌++◌, map, flat_map, head_d, map-append}
 use Prim.Native.Nat.{ℕ, suc, ◌-◌}
 use native.Mathlib.Omega.{arith}
@@ -12,7 +12,7 @@ use Rattle.lists.specs.Lists.{if◌then◌else◌, Bytes, any}
 use Rattle.lists.proofs.Tests.{by-test}
 use Rattle.lists.proofs.Places.{flat_map-append}
 use Rattle.refusals.specs.Order.{◌or_else◌}
-use Rattle.blif_text.specs.Lines.{cons_first, split, drop_c_r, lines, ends_in_lf, cut, continues, before, joined, tokens}
+use Rattle.blif_text.specs.Lines.{cons_first, split, drop_cr, lines, ends_in_lf, cut, continues, before, joined, tokens}
 use Rattle.blif_text.specs.Statements.{Stmt, Parsed, ok, bad, parsed_line, parsed, stmts, first_bad}
 use Rattle.blif_text.specs.Decls.{latch, cover, Decl, model, inputs, outputs, gate, cubes, decls}
 use Rattle.blif_text.specs.Ended.{stops}
@@ -28,7 +28,7 @@ by_line : ℕ → Bytes → List Bytes → List Bytes
 by_line c s ls = if eqb 13 c && eqb 10 (head_d s 0) then ls else if eqb 10 c then [] ∷ ls else cons_first c ls
 
 line_first : (c : ℕ) (s : Bytes) → lines (c ∷ s) ≡ by_line c s (lines s)
-unfolding lines drop_c_r split by_line
+unfolding lines drop_cr split by_line
 line_first c s = by-test (eqb 13 c && eqb 10 (head_d s 0)) (λ h. rw h refl) (λ h. rw h refl)
 
 -- a byte of a line that has another behind it
@@ -39,7 +39,7 @@ line-append c s l ls ms =
 
 -- there is a line
 lines-some : (c : ℕ) (s : Bytes) → ends_in_lf (c ∷ s) ≡ true → (l : Bytes) × (ls : List Bytes) × (lines (c ∷ s) ≡ l ∷ ls)
-unfolding ends_in_lf lines drop_c_r split by_line cons_first head_d
+unfolding ends_in_lf lines drop_cr split by_line cons_first head_d
 lines-some c [] e = subst (λ (x : ℕ). (l : Bytes) × (ls : List Bytes) × (lines (x ∷ []) ≡ l ∷ ls)) (eqb-true 10 c e) ([], [], refl)
 lines-some c (d ∷ s) e = subst (λ (x : List Bytes). (l : Bytes) × (ls : List Bytes) × (x ≡ l ∷ ls)) (sym (line_first c (d ∷ s))) (some (lines-some d s (ap (eqb 10) (last-next c d s 0) ∙ e)))
   where
@@ -50,7 +50,7 @@ lines-some c (d ∷ s) e = subst (λ (x : List Bytes). (l : Bytes) × (ls : List
 
 -- whole lines stay lines
 lines-append : (s t : Bytes) → ends_in_lf s ≡ true → lines (s ++ t) ≡ lines s ++ lines t
-unfolding ends_in_lf lines drop_c_r split by_line head_d
+unfolding ends_in_lf lines drop_cr split by_line head_d
 lines-append [] t e = refl
 lines-append (c ∷ []) t e = subst (λ (x : ℕ). lines (x ∷ t) ≡ lines (x ∷ []) ++ lines t) (eqb-true 10 c e) refl
 lines-append (c ∷ d ∷ s) t e =

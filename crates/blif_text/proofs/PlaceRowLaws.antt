@@ -10,7 +10,7 @@ use lib.ListN.{length, get_or, take, drop, length-map, drop_of_length-le}
 use lib.Seq.{drop-cons}
 use Rattle.lists.specs.Lists.{Bytes, filter, range}
 use Rattle.lists.proofs.Tests.{by-test}
-use Rattle.blif_text.specs.Lines.{cons_first, split, drop_c_r, lines, cut, continues, before, is_blank, non_empty, tokens}
+use Rattle.blif_text.specs.Lines.{cons_first, split, drop_cr, lines, cut, continues, before, is_blank, non_empty, tokens}
 use Rattle.blif_text.specs.Between.Rows.{line_rows}
 use Rattle.blif_text.specs.Between.PlaceRows.{byte_at, bytes_at, cr_before_lf, place_lines, kept, place_tokens, place_rows}
 
@@ -61,8 +61,8 @@ head-drop (suc j) [] = refl
 head-drop (suc j) (c ∷ t) = head-drop j t
 
 module _ (text : Bytes) where
-  bytes-from : (n i : ℕ) → i + n ≡ length text → bytes_at text (filter (λ k. not (cr_before_lf text k)) (range i n)) ≡ drop_c_r (drop i text)
-  unfolding drop_c_r cr_before_lf
+  bytes-from : (n i : ℕ) → i + n ≡ length text → bytes_at text (filter (λ k. not (cr_before_lf text k)) (range i n)) ≡ drop_cr (drop i text)
+  unfolding drop_cr cr_before_lf
   bytes-from zero i e = rw (drop_of_length-le text {i = i} (omega arith))
   bytes-from (suc n) i e =
       let h : i < length text = omega arith in

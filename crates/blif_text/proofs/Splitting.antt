@@ -6,7 +6,7 @@ use lib.Dec.{eqb}
 use Rattle.lists.specs.Lists.{Bytes, any, filter}
 use Rattle.lists.proofs.Tests.{or_left, or_right}
 use Rattle.lists.proofs.Every.{Every, every-nil, every-cons}
-use Rattle.blif_text.specs.Lines.{split, drop_c_r, lines, is_blank, non_empty, tokens}
+use Rattle.blif_text.specs.Lines.{split, drop_cr, lines, is_blank, non_empty, tokens}
 use Rattle.blif_text.proofs.Parts.{Without, split-end, split-last}
 
 -- each line with an LF behind it
@@ -19,19 +19,19 @@ spread ws = flat_map (λ w. 32 ∷ w) ws
 
 -- ---- lines
 
-drop_c_r-line : (w s : Bytes) → Without (eqb 13) w → drop_c_r (w ++ 10 ∷ s) ≡ w ++ 10 ∷ drop_c_r s
-unfolding drop_c_r head_d
-drop_c_r-line [] s f = refl
-drop_c_r-line (b ∷ w) s f = rw (or_left (eqb 13 b) (any (eqb 13) w) f, drop_c_r-line w s (or_right (eqb 13 b) (any (eqb 13) w) f))
+drop_cr-line : (w s : Bytes) → Without (eqb 13) w → drop_cr (w ++ 10 ∷ s) ≡ w ++ 10 ∷ drop_cr s
+unfolding drop_cr head_d
+drop_cr-line [] s f = refl
+drop_cr-line (b ∷ w) s f = rw (or_left (eqb 13 b) (any (eqb 13) w) f, drop_cr-line w s (or_right (eqb 13 b) (any (eqb 13) w) f))
 
 lines-line : (l s : Bytes) → Without (eqb 10) l → Without (eqb 13) l → lines ((l ++ (10 ∷ [])) ++ s) ≡ l ∷ lines s
 unfolding lines
-lines-line l s f g = rw (append_assoc, drop_c_r-line l s g) (split-end (eqb 10) l 10 (drop_c_r s) f refl)
+lines-line l s f g = rw (append_assoc, drop_cr-line l s g) (split-end (eqb 10) l 10 (drop_cr s) f refl)
 
 -- "LF ends a line": lines without LF and CR come back
 pub lines-each : (ls : List Bytes) → Every (λ l. Without (eqb 10) l × Without (eqb 13) l) ls → lines (ended ls) ≡ ls
 unfolding flat_map
-lines-each [] every-nil = unfold lines drop_c_r split in refl
+lines-each [] every-nil = unfold lines drop_cr split in refl
 lines-each (l ∷ ls) (every-cons h hs) = lines-line l (ended ls) h.0 h.1 ∙ ap (λ (r : List Bytes). l ∷ r) (lines-each ls hs)
 
 -- ---- tokens

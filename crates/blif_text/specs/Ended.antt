@@ -1,6 +1,6 @@
 -- A text that `.end` or `.exdc` ends, and what may stand behind it (document 02, CR 3: "Two makers keep a second model and notes after
 -- `.end`"). Assumes nothing: these are definitions.
-use Rattle.std.specs.Prelude.{◌≡◌, Bool, true, false, List, [], ◌∷◌, ◌++◌, ◌-◌, ◌≤◌, leb, length, get_or}
+use Rattle.std.specs.Prelude.{◌≡◌, Bool, true, false, [], ◌++◌, ◌-◌, ◌≤◌, leb, length, get_or}
 use Rattle.lists.specs.Lists.{Bytes, any}
 use Rattle.refusals.specs.declared.Checked.TheVariants.{Fine}
 use Rattle.blif_text.specs.Lines.{max_text, lines, ends_in_lf, continues}

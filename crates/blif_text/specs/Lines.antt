@@ -20,13 +20,13 @@ split p [] = []
 split p (c ∷ s) = if p c then [] ∷ split p s else cons_first c (split p s)
 
 -- "one CR directly before it goes too"
-unfoldable pub drop_c_r : Bytes → Bytes
-drop_c_r [] = []
-drop_c_r (c ∷ s) = if eqb 13 c && eqb 10 (head_d s 0) then drop_c_r s else c ∷ drop_c_r s
+unfoldable pub drop_cr : Bytes → Bytes
+drop_cr [] = []
+drop_cr (c ∷ s) = if eqb 13 c && eqb 10 (head_d s 0) then drop_cr s else c ∷ drop_cr s
 
 -- "LF ends a line"
 unfoldable pub lines : Bytes → List Bytes
-lines s = split (eqb 10) (drop_c_r s)
+lines s = split (eqb 10) (drop_cr s)
 
 -- the last byte is an LF
 unfoldable pub ends_in_lf : Bytes → Bool

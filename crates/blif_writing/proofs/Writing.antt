@@ -15,7 +15,7 @@ use Rattle.network.specs.Net.{Net, GateIs, Valid, Formed, Loop}
 use Rattle.network.specs.Clock.{Clock, node_bit, sig_bit, Runs, start_bits}
 use Rattle.network.specs.Settle.{run, run_from}
 use Rattle.blif_meaning.specs.Model.{LatchDef, Block, Latch, target, next_held, cube_bit, cover_bit, Holds, block_bit, BlifClock, BlifRuns}
-use Rattle.blif_writing.specs.WrittenModel.{is_const, init_from, unless, latch_of, col_of, lines_of, bare, gate_name, buf_block, form_block, comb_block, inverter_block, written}
+use Rattle.blif_writing.specs.WrittenModel.{is_const, init_from, unless, col_of, lines_of, bare, gate_name, buf_block, form_block, comb_block, inverter_block, written}
 use Rattle.lists.specs.Lists.{range, optional}
 use Rattle.lists.proofs.Places.{map_on, map-map, map_at}
 use Rattle.blif_writing.proofs.Blocks.{range_at, comb-cases, Source, of_dff, of_comb, of_inverter, of_one, of_zero, source, latch-source}

@@ -6,7 +6,7 @@ use Prim.Native.Nat.{ℕ, ◌+◌, ◌*◌, ◌≤◌, ◌<◌}
 use native.Mathlib.Omega.{arith}
 use lib.ListN.{length, get_or, take, replicate, length-append, length-replicate, get_or-map}
 use lib.Seq.{length-take-le, take_at, get_or-take}
-use Rattle.lists.specs.Lists.{all, optional}
+use Rattle.lists.specs.Lists.{optional}
 use Rattle.lists.proofs.Range.{all-mem}
 use Rattle.lists.proofs.Places.{place-mem, place-get_or}
 use Rattle.signal.specs.Signal.{Signal}

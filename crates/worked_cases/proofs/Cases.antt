@@ -23,7 +23,7 @@ use Rattle.network.specs.Settle.{run}
 use Rattle.refusals.specs.Order.{◌or_else◌, refuse_if}
 use Rattle.sort_order.specs.Order.{uses, use_count, recorded, order, sort_order}
 use Rattle.sort_order.specs.Sorted.{sorted}
-use Rattle.blif_text.specs.Lines.{cons_first, split, drop_c_r, lines, ends_in_lf, cut, continues, before, joined, is_blank, non_empty, tokens}
+use Rattle.blif_text.specs.Lines.{cons_first, split, drop_cr, lines, ends_in_lf, cut, continues, before, joined, is_blank, non_empty, tokens}
 use Rattle.blif_text.specs.Keywords.{keyword_of}
 use Rattle.blif_text.specs.Statements.{model_stmt, init_of, init_among, latch_with, latch_stmt, stmt_of, parsed_line, parsed, first_bad, stmts}
 use Rattle.blif_text.specs.Ended.{stops, Ended, MayFollow}
@@ -178,7 +178,7 @@ holds-means (runs t rows outs) e = ran (read_text t) refl (and_left _ _ e) (and_
 
 -- whether a check holds, with every definition open that reading a text and writing a network go through
 unfoldable pub computed : Check → Bool
-unfolding flat_map head_d same hit uses use_count recorded order sort_order sorted cons_first split drop_c_r lines cut continues before joined is_blank non_empty tokens model_stmt init_of init_among latch_with latch_stmt stmt_of keyword_of parsed_line parsed first_bad stmts used_names cubes decls ins_of outs_of defs_of ins outs defs cover_out cover_ins defines columns output is_one spaced line ◌or_else◌ refuse_if added gate_count pin_count too_large defined_twice naming undefined good_line cover_fault cover_faults decl_fault decls_of read_fault answer built_from read_text same_list same_signal same_gate same_net agrees holds
+unfolding flat_map head_d same hit uses use_count recorded order sort_order sorted cons_first split drop_cr lines cut continues before joined is_blank non_empty tokens model_stmt init_of init_among latch_with latch_stmt stmt_of keyword_of parsed_line parsed first_bad stmts used_names cubes decls ins_of outs_of defs_of ins outs defs cover_out cover_ins defines columns output is_one spaced line ◌or_else◌ refuse_if added gate_count pin_count too_large defined_twice naming undefined good_line cover_fault cover_faults decl_fault decls_of read_fault answer built_from read_text same_list same_signal same_gate same_net agrees holds
 computed c = holds c
 
 pub table-holds : T (all (all holds) table)
@@ -194,5 +194,5 @@ starts-hold = tt
 
 -- K10's text is one that `.end` ends, and what may stand behind it
 pub k10-ended : Ended (bytes ".model m\n.end\n") × MayFollow (bytes ".model m\n.end\n") (bytes ".inputs a\n")
-unfolding head_d same cons_first split drop_c_r lines cut continues before joined is_blank non_empty tokens model_stmt stmt_of keyword_of parsed_line parsed first_bad stmts ◌or_else◌ flat_map ends_in_lf stops
+unfolding head_d same cons_first split drop_cr lines cut continues before joined is_blank non_empty tokens model_stmt stmt_of keyword_of parsed_line parsed first_bad stmts ◌or_else◌ flat_map ends_in_lf stops
 k10-ended = (record { whole = refl; closed = refl; stopped = refl }, record { few = omega arith; plain = refl; parses = refl })

@@ -7,7 +7,7 @@ use Rattle.lists.specs.Lists.{Bytes, bytes}
 use Rattle.signal.specs.Signal.{Var, plain, zero_s, one_s}
 use Rattle.gates.specs.Gate.{Dff}
 use Rattle.network.specs.Net.{Net, net_from}
-use Rattle.worked_cases.specs.Checks.{Answer, network, number, Check, reads, writes, reads_back, runs}
+use Rattle.worked_cases.specs.Checks.{Answer, network, number, Check, reads, writes, runs}
 
 -- a flip-flop that starts at v and takes its own value: the network of `.outputs q`, `.latch q q v`
 abbrev pub held : Bool → Net

@@ -3,7 +3,7 @@
 use Rattle.std.specs.Prelude.{true, false, List, [], ◌∷◌}
 use Rattle.lists.specs.Lists.{bytes}
 use Rattle.signal.specs.Signal.{Input, Var, plain, zero_s, one_s, invert}
-use Rattle.gates.specs.Gate.{And2, Xor2, And3, Xor3, Maj3, Mux3, AndN, OrN, NandN, NorN, XorN, XnorN, Buf, Comb, Dff}
+use Rattle.gates.specs.Gate.{And3, Maj3, AndN, OrN, XnorN, Buf, Comb, Dff}
 use Rattle.network.specs.Net.{net_from}
 use Rattle.worked_cases.specs.Checks.{Check, reads, writes, network, number}
 

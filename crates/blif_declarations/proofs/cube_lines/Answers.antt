@@ -1,6 +1,5 @@
 -- `cube_lines` passes one cube line after the other. Assumes nothing.
 use mathlib.Core.Path.{sym, ap, ◌∙◌}
-use Prim.Native.Nat.{◌-◌}
 use native.Mathlib.Omega.{arith}
 use Rattle.blif_text.specs.Keywords.{leading_dot}
 use Rattle.blif_text.proofs.KeywordLaws.{no-dot-first}

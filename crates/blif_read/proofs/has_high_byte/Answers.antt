@@ -1,5 +1,4 @@
 -- `has_high_byte` looks at one byte after the other. Assumes nothing.
-use Prim.Native.Nat.{◌-◌}
 use lib.Dec.{leb}
 use Rattle.lists.proofs.Any.{looked-start, looked-next, looked-done}
 use Rattle.blif_read.proofs.has_high_byte.Goals as goal

@@ -2,7 +2,6 @@
 -- pass answers. Assumes nothing.
 use mathlib.Core.Path.{ap}
 use mathlib.Core.Bool.{not}
-use Prim.Native.Nat.{◌-◌}
 use native.Mathlib.Omega.{arith}
 use Rattle.blif_read_covers.proofs.PassLaws.{names-end, last-there, line-some, enter-line, steps}
 use Rattle.blif_read_covers.proofs.check_covers.Goals as goal

@@ -1,5 +1,4 @@
 -- `build_covers` builds block after block. Assumes nothing.
-use Prim.Native.Nat.{◌-◌}
 use native.Mathlib.Omega.{arith}
 use lib.ListN.{length}
 use Rattle.blif_text.proofs.BlockLaws.{blocks_to}

@@ -1,5 +1,4 @@
 -- `build_lines` puts one line's gate after the other. Assumes nothing.
-use Prim.Native.Nat.{◌-◌}
 use native.Mathlib.Omega.{arith}
 use Rattle.blif_read_gates.proofs.LinesLaws.{putting-start, putting-there, putting-room, putting-row, putting-next, putting-done}
 use Rattle.blif_read_gates.proofs.build_lines.Goals as goal

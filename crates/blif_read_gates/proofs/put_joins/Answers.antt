@@ -1,6 +1,5 @@
 -- `put_joins` writes one signal after the other. Assumes nothing.
 use mathlib.Core.Path.{◌∙◌}
-use Prim.Native.Nat.{◌-◌}
 use native.Mathlib.Omega.{arith}
 use Rattle.blif_read_gates.proofs.JoinLaws.{joining-start, joining-next, joining-done}
 use Rattle.blif_read_gates.proofs.put_joins.Goals as goal

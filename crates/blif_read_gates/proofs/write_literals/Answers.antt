@@ -1,5 +1,4 @@
 -- `write_literals` writes the literals of one column after the other. Assumes nothing.
-use Prim.Native.Nat.{◌-◌}
 use native.Mathlib.Omega.{arith}
 use Rattle.blif_read_gates.proofs.LiteralLaws.{writing_start, writing-room, writing-source, writing-next, writing-done}
 use Rattle.blif_read_gates.proofs.write_literals.Goals as goal

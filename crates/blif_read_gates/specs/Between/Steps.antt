@@ -8,7 +8,7 @@ use Rattle.lists.specs.Between.Lists.{overwrite_at}
 use Rattle.refusals.specs.declared.Checked.TheVariants.{Fine}
 use Rattle.signal.specs.Signal.{Signal}
 use Rattle.signal.specs.Cell.{bit_of, sig_cell}
-use Rattle.gates.specs.Gate.{AndN, Buf, Gate, Comb}
+use Rattle.gates.specs.Gate.{AndN, Gate, Comb}
 use Rattle.network.specs.Sizes.{max_gates, max_pins}
 use Rattle.gates.specs.declared.Gate as code
 use Rattle.gates.specs.declared.Gate.TheVariants as G

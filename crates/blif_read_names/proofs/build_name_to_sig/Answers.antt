@@ -1,6 +1,5 @@
 -- `build_name_to_sig` passes one declaration after the other. Assumes nothing.
 use mathlib.Core.Path.{refl, ◌∙◌, subst}
-use Prim.Native.Nat.{◌-◌}
 use native.Mathlib.Omega.{arith}
 use Rattle.blif_read_names.specs.Between.Naming.{Steps}
 use Rattle.blif_read_names.proofs.Walking.{going_start, going_done, going_next, going-stop}

@@ -1,6 +1,5 @@
 -- `copy_outputs` copies one name after the other. Assumes nothing.
 use mathlib.Core.Path.{refl}
-use Prim.Native.Nat.{◌-◌}
 use native.Mathlib.Omega.{arith}
 use lib.ListN.{drop_of_length-le}
 use Rattle.lists.proofs.Places.{drop-next}

@@ -1,6 +1,5 @@
 -- `enter_inputs` enters one name after the other. Assumes nothing.
 use mathlib.Core.Path.{◌∙◌}
-use Prim.Native.Nat.{◌-◌}
 use native.Mathlib.Omega.{arith}
 use Rattle.blif_read_names.proofs.Entering.{entering-start, entering-known, entering-next, entering-done}
 use Rattle.blif_read_names.proofs.enter_inputs.Goals as goal

@@ -1,6 +1,5 @@
 -- `place_gates` places one gate after the other. Assumes nothing.
 use mathlib.Core.Path.{◌∙◌}
-use Prim.Native.Nat.{◌-◌}
 use native.Mathlib.Omega.{arith}
 use Rattle.blif_text.proofs.BlockLaws.{blocks_to}
 use Rattle.blif_read_signals.proofs.Placing.{placing-start, placing-room, placing-stops, placing-next, placing-done}

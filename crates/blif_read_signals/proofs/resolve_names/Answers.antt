@@ -1,5 +1,4 @@
 -- `resolve_names` finds one name after the other. Assumes nothing.
-use Prim.Native.Nat.{◌-◌}
 use native.Mathlib.Omega.{arith}
 use Rattle.blif_read_signals.proofs.Resolving.{resolving-start, resolving-next, resolving-stops, resolving-done}
 use Rattle.blif_read_signals.proofs.resolve_names.Goals as goal

@@ -1,6 +1,5 @@
 -- `too_large` counts one declaration after the other. Assumes nothing.
 use mathlib.Core.Path.{sym, ◌∙◌}
-use Prim.Native.Nat.{◌-◌}
 use native.Mathlib.Omega.{arith}
 use Rattle.blif_read_sizes.proofs.Counting.{counting-start, counting-few, counting-past, counting-next, counting-done}
 use Rattle.blif_read_sizes.proofs.too_large.Goals as goal

@@ -1,6 +1,5 @@
 -- `first_bad` passes one row after the other. Assumes nothing.
 use mathlib.Core.Path.{sym, ◌∙◌}
-use Prim.Native.Nat.{◌-◌}
 use native.Mathlib.Omega.{arith}
 use Rattle.blif_text.proofs.RowWalk.{inside-less}
 use Rattle.blif_text.proofs.RefusalLaws.{passing-start, passing-done, passing-stop, passing-next}

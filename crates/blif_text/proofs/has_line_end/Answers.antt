@@ -1,5 +1,4 @@
 -- `has_line_end` looks at one byte after the other. Assumes nothing.
-use Prim.Native.Nat.{◌-◌}
 use lib.Dec.{eqb}
 use Rattle.lists.proofs.Any.{looked-start, looked-next, looked-done}
 use Rattle.blif_text.proofs.has_line_end.Goals as goal

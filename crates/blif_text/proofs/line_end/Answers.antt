@@ -1,6 +1,5 @@
 -- `line_end` passes blocks of the line, then one byte after the other. Assumes nothing.
 use mathlib.Core.Path.{sym}
-use Prim.Native.Nat.{◌-◌}
 use native.Mathlib.Omega.{arith}
 use borrow.Author.Tests.{eq-eqb, ne_eqb}
 use Rattle.blif_text.proofs.Loops.{none-next}

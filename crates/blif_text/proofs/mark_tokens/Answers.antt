@@ -1,6 +1,5 @@
 -- `mark_tokens` takes one step after the other. Assumes nothing.
 use mathlib.Core.Path.{refl, ◌∙◌}
-use Prim.Native.Nat.{◌-◌}
 use native.Mathlib.Omega.{arith}
 use Rattle.blif_text.proofs.ScanSteps.{scan-start, scan-then, scan-cells, scan-done}
 use Rattle.blif_text.proofs.mark_tokens.Goals as goal

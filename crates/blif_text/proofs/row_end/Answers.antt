@@ -1,6 +1,5 @@
 -- `row_end` passes one token of the row after the other. Assumes nothing.
 use mathlib.Core.Path.{sym, ◌∙◌}
-use Prim.Native.Nat.{◌-◌}
 use native.Mathlib.Omega.{arith}
 use Rattle.blif_text.specs.Between.Places.{is_first}
 use Rattle.blif_text.proofs.Loops.{none-start, none-next, row-stop}

@@ -1,7 +1,6 @@
 -- `run_end` passes one byte of the run after the other. Assumes nothing.
 use mathlib.Core.Path.{sym, ap}
 use mathlib.Core.Bool.{not}
-use Prim.Native.Nat.{◌-◌}
 use native.Mathlib.Omega.{arith}
 use borrow.Author.Tests.{eq-eqb, ne_eqb}
 use Rattle.blif_text.proofs.Loops.{none-start, none-next}

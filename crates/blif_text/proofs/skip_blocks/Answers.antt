@@ -1,6 +1,5 @@
 -- `skip_blocks` passes one block after the other. Assumes nothing.
 use mathlib.Core.Path.{sym, ◌∙◌}
-use Prim.Native.Nat.{◌-◌}
 use native.Mathlib.Omega.{arith}
 use lib.Dec.{eqb}
 use Rattle.blif_text.proofs.Loops.{none-start, none-block}

@@ -1,6 +1,5 @@
 -- `word_end` passes one byte of the word after the other. Assumes nothing.
 use mathlib.Core.Path.{sym, ◌∙◌}
-use Prim.Native.Nat.{◌-◌}
 use native.Mathlib.Omega.{arith}
 use Rattle.blif_text.specs.Between.Scan.{ends_word}
 use Rattle.blif_text.proofs.Loops.{none-start, none-next}

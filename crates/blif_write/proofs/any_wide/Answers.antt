@@ -1,7 +1,6 @@
 -- `any_wide` tests one gate's record after the other. Assumes nothing.
 use native.Mathlib.Omega.{arith}
 use borrow.Author.Rules.{rules}
-use Prim.Native.Nat.{◌-◌}
 use Rattle.blif_write.proofs.Walks.{narrow_start, narrow-stops, narrow_next, narrow-done}
 use Rattle.blif_write.proofs.any_wide.Goals as goal
 

@@ -1,6 +1,5 @@
 -- `append_inputs` writes one name after the other. Assumes nothing.
 use native.Mathlib.Omega.{arith}
-use Prim.Native.Nat.{◌-◌}
 use mathlib.Core.Path.{ap}
 use mathlib.Core.List.{◌∷◌}
 use Rattle.signal.specs.Signal.{Signal}

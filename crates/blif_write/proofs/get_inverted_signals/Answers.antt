@@ -1,7 +1,6 @@
 -- `get_inverted_signals` marks the outputs, and one gate after the other. Assumes nothing.
 use native.Mathlib.Omega.{arith}
 use mathlib.Core.Path.{ap, ◌∙◌}
-use Prim.Native.Nat.{◌-◌}
 use native.Mathlib.Nat.{sub-zero}
 use Rattle.lists.proofs.Laying.{front-all}
 use Rattle.blif_write_inverters.specs.Between.Marks.{named_in}

@@ -1,5 +1,4 @@
 -- `append_binary_lines` writes one row after the other. Assumes nothing.
-use Prim.Native.Nat.{◌-◌}
 use Rattle.blif_write_cubes.proofs.FormLines.{rows}
 use Rattle.blif_write_cubes.proofs.append_binary_lines.Goals as goal
 

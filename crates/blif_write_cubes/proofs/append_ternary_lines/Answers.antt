@@ -1,5 +1,4 @@
 -- `append_ternary_lines` writes one row after the other. Assumes nothing.
-use Prim.Native.Nat.{◌-◌}
 use Rattle.blif_write_cubes.proofs.FormLines.{rows}
 use Rattle.blif_write_cubes.proofs.append_ternary_lines.Goals as goal
 

@@ -1,6 +1,5 @@
 -- `put_columns` writes one column after the other. Assumes nothing.
 use native.Mathlib.Omega.{arith}
-use Prim.Native.Nat.{◌-◌}
 use native.Mathlib.Nat.{sub-zero}
 use Rattle.blif_write_names.proofs.Parts.{putting-start, putting-kept, putting-next, putting-full, putting-done}
 use Rattle.blif_write_cubes.proofs.Lines.{columns-next, columns-end}

@@ -1,6 +1,5 @@
 -- `write_masks` passes one mask after the other. Assumes nothing.
 use native.Mathlib.Omega.{arith}
-use Prim.Native.Nat.{◌-◌}
 use Rattle.blif_write_names.proofs.Parts.{going-kept, going-high, going-full, before-start, before-part, before-done}
 use Rattle.blif_write_cubes.proofs.Lines.{mask-parts, all-masks}
 use Rattle.blif_write_cubes.proofs.write_masks.Goals as goal

@@ -1,6 +1,5 @@
 -- `append_signals` writes one name after the other. Assumes nothing.
 use native.Mathlib.Omega.{arith}
-use Prim.Native.Nat.{◌-◌}
 use Rattle.blif_write_names.proofs.Laws.{append-past, and-append}
 use Rattle.blif_write_names.proofs.Parts.{going-kept, going-full, before-start, before-next, before-done}
 use Rattle.blif_write_gates.proofs.Texts.{name-parts}

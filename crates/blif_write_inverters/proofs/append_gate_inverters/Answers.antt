@@ -1,6 +1,5 @@
 -- `append_gate_inverters` passes one gate after the other. Assumes nothing.
 use native.Mathlib.Omega.{arith}
-use Prim.Native.Nat.{◌-◌}
 use Rattle.blif_write_names.proofs.Laws.{append-past}
 use Rattle.blif_write_names.proofs.Parts.{going-kept, going-high, going-full, before-start, before-part, before-done}
 use Rattle.blif_write_gates.proofs.Texts.{gate-signal}

@@ -1,7 +1,6 @@
 -- `copy` copies one byte after the other. Assumes nothing.
 use native.Mathlib.Omega.{arith}
 use mathlib.Core.Path.{refl}
-use Prim.Native.Nat.{◌-◌}
 use lib.ListN.{drop_of_length-le}
 use Rattle.lists.proofs.Places.{drop-next}
 use Rattle.blif_write_names.proofs.Parts.{putting-start, putting-kept, putting-next, putting-done}

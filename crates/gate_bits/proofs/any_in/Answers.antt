@@ -1,6 +1,5 @@
 -- `any_in` looks at one pin after the other. Assumes nothing.
 use mathlib.Core.Path.{refl, ◌∙◌}
-use Prim.Native.Nat.{◌-◌}
 use Rattle.signal.specs.Signal.{invert_if}
 use Rattle.gate_bits.proofs.PinBits.{any-single, any-joins, made-start, made-next, made-done}
 use Rattle.gate_bits.proofs.any_in.Goals as goal

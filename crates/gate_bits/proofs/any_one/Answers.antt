@@ -1,6 +1,5 @@
 -- `any_one` looks at one part after the other, until one has such a bit. Assumes nothing.
 use mathlib.Core.Path.{refl}
-use Prim.Native.Nat.{◌-◌}
 use native.Mathlib.Omega.{arith}
 use Rattle.gate_bits.proofs.PinBits.{any-joins, made-start, made-part, made_found, made-done}
 use Rattle.gate_bits.proofs.any_one.Goals as goal

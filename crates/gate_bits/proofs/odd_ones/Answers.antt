@@ -1,6 +1,5 @@
 -- `odd_ones` turns its answer over at each pin that is one. Assumes nothing.
 use mathlib.Core.Path.{refl, ◌∙◌}
-use Prim.Native.Nat.{◌-◌}
 use Rattle.gate_bits.proofs.PinBits.{differ-invert_if, odd-single, odd-joins, made-start, made-next, made-done}
 use Rattle.gate_bits.proofs.odd_ones.Goals as goal
 

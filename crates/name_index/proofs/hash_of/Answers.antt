@@ -1,5 +1,4 @@
 -- `hash_of` goes through the name's bytes. Assumes nothing.
-use Prim.Native.Nat.{◌-◌}
 use native.Mathlib.Omega.{arith}
 use Rattle.name_index.proofs.HashLaws.{hashing-start, hashing-next, hashing-done}
 use Rattle.name_index.proofs.hash_of.Goals as goal

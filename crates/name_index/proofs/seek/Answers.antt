@@ -1,5 +1,4 @@
 -- `seek` goes through the tree of the name's hash by the hash's bits. Assumes nothing.
-use Prim.Native.Nat.{◌-◌}
 use borrow.Author.Rules.{rules}
 use native.Mathlib.Omega.{arith}
 use Rattle.name_index.proofs.TreeLaws.{seeking-start, seeking-there, seeking-room, seeking-inside, seeking-less, seeking-found, seeking-next, seeking-done}

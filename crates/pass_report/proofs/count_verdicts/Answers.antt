@@ -1,5 +1,4 @@
 -- `count_verdicts` looks at the first character of each row. Assumes nothing.
-use Prim.Native.Nat.{◌-◌}
 use native.Mathlib.Omega.{arith}
 use lib.Dec.{eqb}
 use lib.ListN.{get_or}

@@ -1,5 +1,4 @@
 -- `count_lines` passes one line after the other. Assumes nothing.
-use Prim.Native.Nat.{◌-◌}
 use native.Mathlib.Omega.{arith}
 use Rattle.pass_sheet.proofs.Lines.{count-start, count_next, count-done, line_at}
 use Rattle.pass_sheet.proofs.count_lines.Goals as goal

@@ -1,6 +1,5 @@
 -- `is_part` looks at the length, then at each byte. Assumes nothing.
 use mathlib.Core.Path.{sym, ◌∙◌}
-use Prim.Native.Nat.{◌-◌}
 use Rattle.lists.proofs.Range.{tested-start, tested-next}
 use Rattle.pass_sheet.proofs.HeadTests.{part-empty, part-long, part-wrong, part_right}
 use Rattle.pass_sheet.proofs.is_part.Goals as goal

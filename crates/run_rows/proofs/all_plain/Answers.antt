@@ -1,6 +1,5 @@
 -- `all_plain` tests one gate after the other. Assumes nothing.
 use mathlib.Core.Path.{sym, ◌∙◌}
-use Prim.Native.Nat.{◌-◌}
 use Rattle.lists.specs.Lists.{range}
 use Rattle.lists.proofs.Range.{all_map, to_start, to-next, to-fails, to-done}
 use Rattle.gates.specs.Gate.{is_plain}

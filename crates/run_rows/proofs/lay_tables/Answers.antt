@@ -1,5 +1,4 @@
 -- `lay_tables` lays out one gate after the other. Assumes nothing.
-use Prim.Native.Nat.{◌-◌}
 use Rattle.run_rows.proofs.LayingOut.{laying-out-start, laying-out-room, laying-out-next, laying-out-done}
 use Rattle.run_rows.proofs.lay_tables.Goals as goal
 

@@ -1,6 +1,5 @@
 -- `list_flops` looks at one gate after the other. Assumes nothing.
 use mathlib.Core.Path.{sym, ◌∙◌}
-use Prim.Native.Nat.{◌-◌}
 use Rattle.run_rows.proofs.LayingOut.{listing_start, listing-flop, listing-other, listing-done}
 use Rattle.run_rows.proofs.list_flops.Goals as goal
 use Rattle.run_rows.proofs.list_flops.Goals.{then-form_at-eq-DFF, else-form_at-eq-DFF}

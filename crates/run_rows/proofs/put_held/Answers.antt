@@ -1,6 +1,5 @@
 -- `put_held` puts one flip-flop's bit after the other. Assumes nothing.
 use mathlib.Core.Path.{sym, ◌∙◌}
-use Prim.Native.Nat.{◌-◌}
 use native.Mathlib.Omega.{arith}
 use Rattle.run_rows.proofs.Stepping.{putting-start, putting-next, putting-done}
 use Rattle.run_rows.proofs.put_held.Goals as goal

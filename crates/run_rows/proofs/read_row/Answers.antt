@@ -1,6 +1,5 @@
 -- `read_row` takes one character after the other. Assumes nothing.
 use mathlib.Core.Path.{sym, ◌∙◌}
-use Prim.Native.Nat.{◌-◌}
 use Rattle.run_rows.proofs.RowTexts.{reading-start, reading-next, reading-fails, reading-done}
 use Rattle.run_rows.proofs.read_row.Goals as goal
 

@@ -1,6 +1,5 @@
 -- `start_bits` puts the constant's bit, then one gate's start value after the other. Assumes nothing.
 use mathlib.Core.Path.{sym, ◌∙◌}
-use Prim.Native.Nat.{◌-◌}
 use native.Mathlib.Omega.{arith}
 use Rattle.run_rows.proofs.Starting.{started_none, started-next, started-done}
 use Rattle.run_rows.proofs.start_bits.Goals as goal

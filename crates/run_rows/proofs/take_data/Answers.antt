@@ -1,5 +1,5 @@
 -- `take_data` takes one flip-flop's next bit after the other. Assumes nothing.
-use Prim.Native.Nat.{◌-◌, ◌*◌, ◌^◌, ◌<◌}
+use Prim.Native.Nat.{◌*◌, ◌^◌, ◌<◌}
 use native.Mathlib.Omega.{arith}
 use lib.ListN.{get_or}
 use Rattle.run_rows.proofs.Stepping.{taking-start, taking-next, taking-done}

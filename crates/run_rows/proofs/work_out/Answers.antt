@@ -1,6 +1,5 @@
 -- `work_out` works out one gate's bit after the other. Assumes nothing.
 use mathlib.Core.Path.{sym, ◌∙◌}
-use Prim.Native.Nat.{◌-◌}
 use native.Mathlib.Omega.{arith}
 use Rattle.run_rows.proofs.Working.{working-start, working-ready, working-comb, working-flop, working-done}
 use Rattle.run_rows.proofs.work_out.Goals as goal

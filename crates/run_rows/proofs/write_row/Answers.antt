@@ -1,6 +1,5 @@
 -- `write_row` writes one character after the other, then the LF. Assumes nothing.
 use mathlib.Core.Path.{ap, ◌∙◌}
-use Prim.Native.Nat.{◌-◌}
 use native.Mathlib.Omega.{arith}
 use lib.ListN.{length-set}
 use Rattle.run_rows.specs.Rows.{digit}

@@ -1,5 +1,4 @@
 -- `add_uses` counts one pin after the other. Assumes nothing.
-use Prim.Native.Nat.{◌-◌}
 use Rattle.sort.proofs.Naming.{counting-start, counting-asks, counting-next, counting-done}
 use Rattle.sort.proofs.add_uses.Goals as goal
 

@@ -1,6 +1,6 @@
 -- `count_uses` counts one gate after the other. Assumes nothing.
 use mathlib.Core.Path.{sym, ap, ◌∙◌}
-use Prim.Native.Nat.{ℕ, ◌-◌}
+use Prim.Native.Nat.{ℕ}
 use lib.ListN.{length, length-replicate}
 use Rattle.network.specs.Sizes.{max_gates}
 use Rattle.sort.proofs.Uses.{counted_start, counted-asks, counted_next, counted-done}

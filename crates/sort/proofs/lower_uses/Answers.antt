@@ -1,6 +1,5 @@
 -- `lower_uses` lowers one pin after the other. Assumes nothing.
 use mathlib.Core.Path.{sym, ◌∙◌}
-use Prim.Native.Nat.{◌-◌}
 use Rattle.sort.proofs.Stack.{lowering-start, lowering-asks, lowering-next, lowering-done}
 use Rattle.sort.proofs.lower_uses.Goals as goal
 

@@ -1,5 +1,4 @@
 -- `move_gates` copies one gate after the other. Assumes nothing.
-use Prim.Native.Nat.{◌-◌}
 use native.Mathlib.Omega.{arith}
 use Rattle.sort.proofs.Moving.{moving-start, moving-fits, moving-next, moving-done}
 use Rattle.sort.proofs.move_gates.Goals as goal

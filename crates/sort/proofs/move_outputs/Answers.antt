@@ -1,6 +1,5 @@
 -- `move_outputs` renumbers one output after the other. Assumes nothing.
 use mathlib.Core.Path.{◌∙◌}
-use Prim.Native.Nat.{◌-◌}
 use Rattle.sort.proofs.Moving.{renaming-start, renaming-next, renaming-done}
 use Rattle.sort.proofs.move_outputs.Goals as goal
 

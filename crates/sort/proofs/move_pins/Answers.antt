@@ -1,6 +1,5 @@
 -- `move_pins` copies one pin after the other. Assumes nothing.
 use mathlib.Core.Path.{◌∙◌}
-use Prim.Native.Nat.{◌-◌}
 use native.Mathlib.Omega.{arith}
 use Rattle.sort.proofs.Moving.{copying-start, copying-next, copying-done}
 use Rattle.sort.proofs.move_pins.Goals as goal

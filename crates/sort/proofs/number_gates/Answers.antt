@@ -1,6 +1,5 @@
 -- `number_gates` writes one place after the other. Assumes nothing.
 use mathlib.Core.Path.{refl, sym, ◌∙◌}
-use Prim.Native.Nat.{◌-◌}
 use native.Mathlib.Omega.{arith}
 use Rattle.sort.proofs.Moving.{tabling-start, tabling-next, tabling-done}
 use Rattle.sort.proofs.number_gates.Goals as goal

@@ -1,6 +1,5 @@
 -- `start_stack` pushes one gate after the other. Assumes nothing.
 use mathlib.Core.Path.{◌≡◌, sym, ◌∙◌}
-use Prim.Native.Nat.{◌-◌}
 use native.Mathlib.Omega.{arith}
 use Rattle.sort.proofs.Starting.{started_none}
 use Rattle.sort.proofs.start_stack.Goals as goal

@@ -1,5 +1,5 @@
 -- What holds while the sort walks: counts, the stack and what is recorded. Assumes nothing: these are definitions.
-use Rattle.std.specs.Prelude.{◌≡◌, true, List, [], ◌∷◌, ℕ, zero, suc, ◌+◌, ◌-◌, ◌≤◌, ◌<◌, length, get_or}
+use Rattle.std.specs.Prelude.{◌≡◌, true, List, [], ◌∷◌, ℕ, zero, suc, ◌+◌, ◌≤◌, ◌<◌, length, get_or}
 use Rattle.lists.specs.Lists.{occ, sum_to}
 use Rattle.sort_order.specs.Order.{Graph, uses}
 
