@@ -1,11 +1,12 @@
 -- From the cells in use to every cell: what is left when all others are cleared. Assumes nothing.
+use Rattle.std.specs.Prelude.{if◌then◌else◌}
 use mathlib.Core.Path.{◌≡◌, refl, sym, ap, ◌∙◌, subst}
 use mathlib.Core.Bool.{Bool, true, false}
 use mathlib.Core.List.{List}
 use Prim.Native.Nat.{ℕ, ◌*◌, ◌^◌, ◌≤◌, ◌<◌}
 use native.Mathlib.Omega.{arith}
 use lib.ListN.{length, take, length-take}
-use Rattle.lists.specs.Lists.{if◌then◌else◌, Bytes, zeros, overwrite}
+use Rattle.lists.specs.Lists.{Bytes, zeros, overwrite}
 use Rattle.refusals.specs.declared.Refusal.TheVariants as refusal
 use Rattle.network.specs.Cells.{counts_of}
 use Rattle.network.specs.Record.{gate_width}

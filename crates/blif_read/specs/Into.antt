@@ -1,7 +1,7 @@
 -- What `read_blif` answers and leaves in the lent cells (document 01, "Reading refuses, in order"). Assumes nothing: these are
 -- definitions.
-use Rattle.std.specs.Prelude.{Bool, ◌&&◌, List, [], map, ℕ, ◌*◌, leb}
-use Rattle.lists.specs.Lists.{if◌then◌else◌, Bytes, zeros, overwrite}
+use Rattle.std.specs.Prelude.{Bool, ◌&&◌, List, [], map, ℕ, ◌*◌, leb, if◌then◌else◌}
+use Rattle.lists.specs.Lists.{Bytes, zeros, overwrite}
 use Rattle.refusals.specs.declared.Refusal.TheVariants as refusal
 use Rattle.signal.specs.Cell.{sig_cell}
 use Rattle.network.specs.Cells.{counts_of}

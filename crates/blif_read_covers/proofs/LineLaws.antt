@@ -1,4 +1,5 @@
 -- A cube line as the row of its tokens: its columns, its output, and what it adds to a cover's refusal. Assumes nothing.
+use Rattle.std.specs.Prelude.{if◌then◌else◌}
 use mathlib.Core.Path.{◌≡◌, refl, sym, ap, ap₂, ◌∙◌}
 use mathlib.Core.Bool.{Bool, true, false, ◌&&◌, ◌||◌, not, true≢false, false≢true, or-true, and_assoc, and_comm}
 use mathlib.Core.List.{List, [], ◌∷◌}
@@ -7,7 +8,7 @@ use native.Mathlib.Omega.{arith}
 use lib.Dec.{eqb, ltb}
 use lib.ListN.{length, length-map}
 use borrow.Author.Tests.{ltb-true, lt-ltb, le-ltb, ne_eqb}
-use Rattle.lists.specs.Lists.{if◌then◌else◌, Bytes, same, all, any, elem, known}
+use Rattle.lists.specs.Lists.{Bytes, same, all, any, elem, known}
 use Rattle.lists.proofs.Tests.{by-test, by_order, and_left, and_right}
 use Rattle.lists.proofs.Same.{same-is}
 use Rattle.refusals.specs.Order.{◌or_else◌, refuse_if}
@@ -41,7 +42,7 @@ one Wrong = false
 known-right : (t : Bytes) → known t ((48 ∷ []) ∷ (49 ∷ []) ∷ []) ≡ right (output_of t)
 known-right t = tests (same t (48 ∷ [])) (same t (49 ∷ []))
   where
-    tests : (a b : Bool) → (a || (b || false)) ≡ right (if a then Zero else if b then One else Wrong)
+    tests : (a b : Bool) → (a || (b || false)) ≡ right (if a then Zero else (if b then One else Wrong))
     tests true b = refl
     tests false true = refl
     tests false false = refl
@@ -54,7 +55,7 @@ one-is t = by-test (same t (48 ∷ [])) (λ e. zero-case t (same-is t (48 ∷ []
     zero-case : (t : Bytes) → t ≡ 48 ∷ [] → same t (49 ∷ []) ≡ one (output_of t)
     zero-case t e = ap (λ (x : Bytes). same x (49 ∷ [])) e ∙ sym (ap (λ (x : Bytes). one (output_of x)) e)
 
-    tests : (a b : Bool) → a ≡ false → b ≡ one (if a then Zero else if b then One else Wrong)
+    tests : (a b : Bool) → a ≡ false → b ≡ one (if a then Zero else (if b then One else Wrong))
     tests true b e = absurd (true≢false e)
     tests false true e = refl
     tests false false e = refl

@@ -1,4 +1,5 @@
 -- Sizes counted declaration by declaration. Assumes nothing.
+use Rattle.std.specs.Prelude.{if◌then◌else◌}
 use mathlib.Core.Path.{◌≡◌, refl, sym, ap, ap₂, ◌∙◌, subst}
 use mathlib.Core.Bool.{Bool, true, false}
 use mathlib.Core.List.{List, ◌++◌, flat_map, append-nil}
@@ -9,7 +10,7 @@ use lib.Dec.{ltb}
 use lib.ListN.{length, take, length-append}
 use lib.Seq.{length-take-le}
 use borrow.Author.Tests.{lt-ltb, le-ltb}
-use Rattle.lists.specs.Lists.{if◌then◌else◌, sum_of}
+use Rattle.lists.specs.Lists.{sum_of}
 use Rattle.lists.proofs.Counting.{sum-append}
 use Rattle.lists.proofs.Places.{flat_map-append}
 use Rattle.blif_text.specs.Decls.{Def, Decl, ins_of, outs_of, defs_of, ins, outs, defs}

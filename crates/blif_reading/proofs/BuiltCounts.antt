@@ -1,4 +1,5 @@
 -- The gates built for definitions: how many there are, and how many pins they have in all. Assumes nothing.
+use Rattle.std.specs.Prelude.{if◌then◌else◌}
 use mathlib.Core.Path.{◌≡◌, refl, sym, ap, ◌∙◌, subst}
 use mathlib.Core.Bool.{Bool, true, false}
 use mathlib.Core.List.{List, [], ◌∷◌, map}
@@ -7,7 +8,7 @@ use native.Mathlib.Omega.{arith}
 use native.Mathlib.Nat.{suc-mul, add-mul, mul-suc}
 use lib.ListN.{length, length-map, length-append, length-take}
 use borrow.Author.Tests.{lt-ltb}
-use Rattle.lists.specs.Lists.{if◌then◌else◌, Bytes, sum_of}
+use Rattle.lists.specs.Lists.{Bytes, sum_of}
 use Rattle.lists.proofs.Counting.{sum-append}
 use Rattle.signal.specs.Signal.{Signal}
 use Rattle.signal.specs.Cell.{sig_cell}

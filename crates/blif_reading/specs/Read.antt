@@ -1,9 +1,9 @@
 -- What reading a text gives: refusals in order, and the network read (document 01, "Reading refuses, in order"). Refusal 1, which asks for
 -- lent cells, stands with the code. Assumes nothing: these are definitions.
-use Rattle.std.specs.Prelude.{Bool, true, false, ◌&&◌, ◌||◌, not, ℕ, ◌+◌, ◌-◌, ◌*◌, eqb, leb, ltb, length}
+use Rattle.std.specs.Prelude.{Bool, true, false, ◌&&◌, ◌||◌, not, ℕ, ◌+◌, ◌-◌, ◌*◌, eqb, leb, ltb, length, if◌then◌else◌}
 use mathlib.Core.List.{List, [], ◌∷◌, ◌++◌, map, flat_map}
 use Rattle.std.proofs.Math.Option.{Option, none, some}
-use Rattle.lists.specs.Lists.{if◌then◌else◌, Bytes, all, any, sum_of, elem, known}
+use Rattle.lists.specs.Lists.{Bytes, all, any, sum_of, elem, known}
 use Rattle.refusals.specs.Order.{◌or_else◌, refuse_if}
 use Rattle.refusals.specs.declared.Refusal.{Refusal}
 use Rattle.refusals.specs.declared.Refusal.TheVariants as refusal

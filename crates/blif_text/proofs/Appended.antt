@@ -1,5 +1,6 @@
 -- Whole lines with further ones behind them: their statements come first, and where one of them stops, those behind declare nothing.
 -- Assumes nothing.
+use Rattle.std.specs.Prelude.{if◌then◌else◌}
 use mathlib.Core.Path.{◌≡◌, refl, sym, ap, ap₂, ◌∙◌, subst}
 use mathlib.Core.Bool.{true, false, ◌&&◌, true≢false}
 use mathlib.Core.List.{List, [], ◌∷◌, ◌++◌, map, flat_map, head_d, map-append}
@@ -8,7 +9,7 @@ use native.Mathlib.Omega.{arith}
 use lib.Dec.{eqb}
 use lib.ListN.{length, get_or, take}
 use borrow.Author.Tests.{eqb-true}
-use Rattle.lists.specs.Lists.{if◌then◌else◌, Bytes, any}
+use Rattle.lists.specs.Lists.{Bytes, any}
 use Rattle.lists.proofs.Tests.{by-test}
 use Rattle.lists.proofs.Places.{flat_map-append}
 use Rattle.refusals.specs.Order.{◌or_else◌}
@@ -25,7 +26,7 @@ last-next x y l d = let place : suc (length (y ∷ l) - 1) ≡ length (x ∷ y �
 
 -- the lines of a byte and those of the others
 by_line : ℕ → Bytes → List Bytes → List Bytes
-by_line c s ls = if eqb 13 c && eqb 10 (head_d s 0) then ls else if eqb 10 c then [] ∷ ls else cons_first c ls
+by_line c s ls = if eqb 13 c && eqb 10 (head_d s 0) then ls else (if eqb 10 c then [] ∷ ls else cons_first c ls)
 
 line_first : (c : ℕ) (s : Bytes) → lines (c ∷ s) ≡ by_line c s (lines s)
 unfolding lines drop_cr split by_line

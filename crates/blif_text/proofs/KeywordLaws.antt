@@ -1,4 +1,5 @@
 -- The tests of a keyword, one after the other. Assumes nothing.
+use Rattle.std.specs.Prelude.{if◌then◌else◌}
 use mathlib.Core.Path.{◌≡◌, refl, sym, ap, ◌∙◌}
 use mathlib.Core.Bool.{Bool, true, false}
 use mathlib.Core.List.{List, [], ◌∷◌, ◌++◌, head_d}
@@ -7,7 +8,7 @@ use native.Mathlib.Omega.{arith}
 use lib.Dec.{eqb}
 use lib.ListN.{length, get_or, take, drop, take-append-drop}
 use lib.Seq.{drop-cons}
-use Rattle.lists.specs.Lists.{if◌then◌else◌, Bytes, any, same}
+use Rattle.lists.specs.Lists.{Bytes, any, same}
 use Rattle.lists.proofs.Tests.{by-test, or_left, or_right}
 use Rattle.blif_text.specs.Keywords.{Spelling, spelling, keywords, leading_dot, keyword_among, keyword_of}
 use Rattle.blif_text.specs.declared.Keyword.{Keyword}

@@ -1,4 +1,5 @@
 -- The cells of a line's tokens, by what stands at its front. Assumes nothing.
+use Rattle.std.specs.Prelude.{if◌then◌else◌}
 use mathlib.Core.Path.{◌≡◌, refl, sym, ap, ap₂, ◌∙◌}
 use mathlib.Core.Bool.{Bool, true, false, false≢true}
 use mathlib.Core.List.{List, [], ◌∷◌, ◌++◌, map-append, append_assoc, append-nil}
@@ -8,7 +9,7 @@ use lib.Dec.{eqb}
 use lib.ListN.{length, take, length-append, length-map}
 use lib.Seq.{take-append-add, take-append_seam, get_or-append-add}
 use borrow.Author.Tests.{eqb-true}
-use Rattle.lists.specs.Lists.{if◌then◌else◌, Bytes, any}
+use Rattle.lists.specs.Lists.{Bytes, any}
 use Rattle.lists.proofs.Tests.{by-test, or_left, or_right}
 use Rattle.blif_text.specs.Lines.{split, cut, continues, before, is_blank, non_empty}
 use Rattle.blif_text.specs.Between.PlaceRows.{byte_at, bytes_at, kept, place_tokens, place_rows}

@@ -1,4 +1,5 @@
 -- The cells of a text's tokens hold them: each is a place within the text, and row by row they are the text's. Assumes nothing.
+use Rattle.std.specs.Prelude.{if◌then◌else◌}
 use mathlib.Core.Path.{◌≡◌, refl, sym, ap, ap₂, ◌∙◌, subst}
 use mathlib.Core.Bool.{Bool, true, false}
 use mathlib.Core.List.{List, [], ◌∷◌, ◌++◌, map, head_d}
@@ -9,7 +10,7 @@ use lib.Dec.{eqb}
 use lib.ListN.{length, get_or, take, drop}
 use lib.Seq.{drop-cons, get_or-take}
 use borrow.Author.Tests.{eqb-true}
-use Rattle.lists.specs.Lists.{if◌then◌else◌, Bytes, filter, range}
+use Rattle.lists.specs.Lists.{Bytes, filter, range}
 use Rattle.lists.proofs.Every.{Every, every-nil, every-cons, every_append, every-place}
 use Rattle.lists.proofs.Places.{place-get_or}
 use Rattle.lists.proofs.Range.{length-range}

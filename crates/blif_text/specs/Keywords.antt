@@ -1,7 +1,7 @@
 -- The seven keywords (document 01, src/io/blif.rs). Assumes nothing: these are definitions.
-use Rattle.std.specs.Prelude.{Bool, eqb}
+use Rattle.std.specs.Prelude.{Bool, eqb, if◌then◌else◌}
 use mathlib.Core.List.{List, [], ◌∷◌, head_d}
-use Rattle.lists.specs.Lists.{if◌then◌else◌, Bytes, bytes, same}
+use Rattle.lists.specs.Lists.{Bytes, bytes, same}
 use Rattle.blif_text.specs.declared.Keyword.{Keyword}
 use Rattle.blif_text.specs.declared.Keyword.TheVariants as key
 

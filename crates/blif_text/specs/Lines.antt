@@ -1,7 +1,7 @@
 -- Lines, comments, continuations and tokens of a text (document 01, src/io/blif.rs). Assumes nothing: these are definitions.
-use Rattle.std.specs.Prelude.{Bool, true, false, ◌&&◌, ◌||◌, not, ℕ, ◌-◌, eqb, leb, length, get_or, take}
+use Rattle.std.specs.Prelude.{Bool, true, false, ◌&&◌, ◌||◌, not, ℕ, ◌-◌, eqb, leb, length, get_or, take, if◌then◌else◌}
 use mathlib.Core.List.{List, [], ◌∷◌, ◌++◌, head_d}
-use Rattle.lists.specs.Lists.{if◌then◌else◌, Bytes, any, filter}
+use Rattle.lists.specs.Lists.{Bytes, any, filter}
 
 -- ---- lines
 

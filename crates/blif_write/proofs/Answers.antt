@@ -1,11 +1,12 @@
 -- What `write_blif` answers: a refusal over zeros, or a text that fits. Assumes nothing.
+use Rattle.std.specs.Prelude.{if◌then◌else◌}
 use mathlib.Core.Path.{◌≡◌, ap, ◌∙◌}
 use mathlib.Core.Bool.{Bool, false}
 use Prim.Native.Nat.{ℕ, ◌≤◌}
 use lib.Dec.{ltb}
 use lib.ListN.{length}
 use borrow.Author.Tests.{ltb-false}
-use Rattle.lists.specs.Lists.{if◌then◌else◌, Bytes, any}
+use Rattle.lists.specs.Lists.{Bytes, any}
 use Rattle.lists.proofs.Tests.{by-test, or_left, or_right}
 use Rattle.refusals.specs.declared.Refusal.{Refusal}
 use Rattle.refusals.specs.declared.Refusal.TheVariants as refusal

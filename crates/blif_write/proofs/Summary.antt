@@ -1,10 +1,11 @@
 -- What `write_blif` answers, as a reviewer would read it. Assumes nothing.
 --   writing-refuses  which refusals writing answers
+use Rattle.std.specs.Prelude.{if◌then◌else◌}
 use mathlib.Core.Path.{◌≡◌}
 use mathlib.Core.Bool.{Bool, true, false, not}
 use Prim.Native.Nat.{ℕ}
 use native.Mathlib.Omega.{arith}
-use Rattle.lists.specs.Lists.{if◌then◌else◌, any}
+use Rattle.lists.specs.Lists.{any}
 use Rattle.refusals.specs.Numbers.{InWriting}
 use Rattle.refusals.specs.declared.Refusal.{Refusal}
 use Rattle.refusals.specs.declared.Refusal.TheVariants as refusal
@@ -21,9 +22,9 @@ writing-refuses l n r = go (not (is_network l)) (any wide (net_of l).gates) (too
   where
     go : (a b c : Bool)
         → (if a then refused_text refusal.NotANetwork n
-        else if b then refused_text refusal.WideExclusive n
-        else if c then refused_text refusal.TextDoesNotFit n
-        else written_text (text_of (net_of l)) n).answer ≡ Refused r
+        else (if b then refused_text refusal.WideExclusive n
+        else (if c then refused_text refusal.TextDoesNotFit n
+        else written_text (text_of (net_of l)) n))).answer ≡ Refused r
         → InWriting r
     go true b c e = let q : r ≡ refusal.NotANetwork = cc in rw q (record { low = omega arith; high = omega arith })
     go false true c e = let q : r ≡ refusal.WideExclusive = cc in rw q (record { low = omega arith; high = omega arith })

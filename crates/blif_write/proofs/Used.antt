@@ -1,4 +1,5 @@
 -- The marks say which signals are used inverted, and the inverters written by them are those of the network. Assumes nothing.
+use Rattle.std.specs.Prelude.{if◌then◌else◌}
 use mathlib.Core.Path.{◌≡◌, refl, sym, ◌∙◌, ap, ap₂}
 use mathlib.Core.Bool.{Bool, true, false, not, ◌&&◌, ◌||◌, cond, or_assoc}
 use mathlib.Core.List.{List, [], ◌∷◌, ◌++◌, map, flat_map, append_assoc}
@@ -9,7 +10,7 @@ use lib.Dec.{eqb}
 use lib.ListN.{length, get_or, set, replicate, length-replicate, get_or-replicate}
 use lib.Seq.{get_or-set_same, get_or-set_other}
 use borrow.Author.Tests.{eqb-true, eqb-false}
-use Rattle.lists.specs.Lists.{Bytes, if◌then◌else◌, filter, range}
+use Rattle.lists.specs.Lists.{Bytes, filter, range}
 use Rattle.lists.proofs.Places.{flat_map-append}
 use Rattle.lists.proofs.Tests.{by-test, and-true, and-false}
 use Rattle.signal.specs.Signal.{Node, Const, Input, Var, Signal}

@@ -1,4 +1,5 @@
 -- The whole text, and what `write_blif` answers. Assumes nothing.
+use Rattle.std.specs.Prelude.{if◌then◌else◌}
 use mathlib.Core.Path.{◌≡◌, sym, ◌∙◌, ap, ap₂}
 use mathlib.Core.Bool.{Bool, true, false, ◌||◌, or-true}
 use mathlib.Core.List.{List, [], ◌∷◌, ◌++◌, map, flat_map, append_assoc}
@@ -8,7 +9,7 @@ use lib.Dec.{ltb}
 use lib.ListN.{length, get_or, take, drop, length-append, length-drop}
 use lib.Seq.{take-append-le, length-take-le}
 use borrow.Author.Tests.{lt-ltb, le-ltb}
-use Rattle.lists.specs.Lists.{if◌then◌else◌, Bytes, bytes, zeros, any}
+use Rattle.lists.specs.Lists.{Bytes, bytes, zeros, any}
 use Rattle.lists.proofs.Places.{flat_map-append}
 use Rattle.lists.proofs.Over.{length-overwrite, take-overwrite}
 use Rattle.lists.proofs.OverAt.{zeros-behind}

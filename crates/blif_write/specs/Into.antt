@@ -1,7 +1,7 @@
 -- What `write_blif` answers and leaves in the output slice (document 01, "Writing refuses, in order"). Assumes nothing: these are
 -- definitions.
-use Rattle.std.specs.Prelude.{Bool, not, ◌||◌, ℕ, ltb, length}
-use Rattle.lists.specs.Lists.{if◌then◌else◌, Bytes, zeros, any, overwrite}
+use Rattle.std.specs.Prelude.{Bool, not, ◌||◌, ℕ, ltb, length, if◌then◌else◌}
+use Rattle.lists.specs.Lists.{Bytes, zeros, any, overwrite}
 use Rattle.refusals.specs.declared.Refusal.{Refusal}
 use Rattle.refusals.specs.declared.Refusal.TheVariants as refusal
 use Rattle.network.specs.Cells.{Lent, net_of, is_network}
@@ -38,6 +38,6 @@ too_long t n = ltb n (length t) || ltb max_text (length t)
 unfoldable pub write_into : Lent → ℕ → WriteOutcome
 write_into l n =
     if not (is_network l) then refused_text refusal.NotANetwork n
-    else if any wide (net_of l).gates then refused_text refusal.WideExclusive n
-    else if too_long (text_of (net_of l)) n then refused_text refusal.TextDoesNotFit n
-    else written_text (text_of (net_of l)) n
+    else (if any wide (net_of l).gates then refused_text refusal.WideExclusive n
+    else (if too_long (text_of (net_of l)) n then refused_text refusal.TextDoesNotFit n
+    else written_text (text_of (net_of l)) n))

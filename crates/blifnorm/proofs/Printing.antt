@@ -1,11 +1,12 @@
 -- What is printed, from what the reader and the writer answer. Assumes nothing.
+use Rattle.std.specs.Prelude.{if◌then◌else◌}
 use mathlib.Core.Path.{◌≡◌, refl, sym, ap, ◌∙◌, subst}
 use mathlib.Core.Bool.{Bool, true, false, true≢false, false≢true}
 use mathlib.Core.List.{List}
 use Prim.Native.Nat.{ℕ}
 use native.Mathlib.Omega.{arith}
 use lib.ListN.{length, length-replicate}
-use Rattle.lists.specs.Lists.{if◌then◌else◌, Bytes, zeros, any, overwrite}
+use Rattle.lists.specs.Lists.{Bytes, zeros, any, overwrite}
 use Rattle.lists.proofs.Over.{take-overwrite}
 use Rattle.lists.proofs.Tests.{by-test}
 use Rattle.network.specs.Cells.{Lent, lent, is_network, net_of}

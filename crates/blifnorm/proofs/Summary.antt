@@ -1,9 +1,10 @@
 -- What `blifnorm` prints, as a reviewer would read it. Assumes nothing.
+use Rattle.std.specs.Prelude.{if◌then◌else◌}
 use mathlib.Core.Path.{◌≡◌, sym, ap, ◌∙◌}
 use mathlib.Core.Bool.{Bool, true, false}
 use mathlib.Core.List.{map}
 use Prim.Native.Nat.{ℕ}
-use Rattle.lists.specs.Lists.{if◌then◌else◌, Bytes, zeros, any, overwrite}
+use Rattle.lists.specs.Lists.{Bytes, zeros, any, overwrite}
 use Rattle.signal.specs.Cell.{sig_cell}
 use Rattle.refusals.specs.declared.Refusal.{Refusal}
 use Rattle.refusals.specs.declared.Refusal.TheVariants as refusal

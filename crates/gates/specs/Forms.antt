@@ -1,9 +1,9 @@
 -- Form numbers, pin counts and start values (document 01, src/network/gates.rs): "In lent cells these are the form numbers 1 to 14, in this order".
 -- Assumes nothing: these are definitions.
-use Rattle.std.specs.Prelude.{Bool, true, false, cond, List, [], ◌∷◌, ℕ, eqb, leb, length}
+use Rattle.std.specs.Prelude.{Bool, true, false, cond, List, [], ◌∷◌, ℕ, eqb, leb, length, if◌then◌else◌}
 use Rattle.std.proofs.Math.Option.{Option, none, some}
 use Rattle.std.proofs.Math.ListN.{get_elem?}
-use Rattle.lists.specs.Lists.{if◌then◌else◌, filter, optional}
+use Rattle.lists.specs.Lists.{filter, optional}
 use Rattle.signal.specs.Signal.{Signal}
 use Rattle.signal.specs.Cell.{bit_of}
 use Rattle.gates.specs.Gate.{Form, And2, Xor2, And3, Xor3, Maj3, Mux3, AndN, OrN, NandN, NorN, XorN, XnorN, Buf, Gate, Comb, Dff, start_bit}

@@ -1,4 +1,5 @@
 -- The search through a list: what it finds stands there, and it finds all that stands there once. Assumes nothing.
+use Rattle.std.specs.Prelude.{if◌then◌else◌}
 use mathlib.Core.Path.{◌≡◌, refl, sym, ap, ◌∙◌}
 use mathlib.Core.List.Memᴰ
 use mathlib.Core.List.{List, [], ◌∷◌, Memᴰ}
@@ -8,7 +9,7 @@ use mathlib.Core.Logic.{⊎_elim}
 use Prim.Native.Nat.{ℕ, zero, suc}
 use native.Mathlib.Omega.{arith}
 use lib.ListN.{get_elem?}
-use Rattle.lists.specs.Lists.{if◌then◌else◌, Bytes, same, Dup, here, there, find}
+use Rattle.lists.specs.Lists.{Bytes, same, Dup, here, there, find}
 use Rattle.lists.proofs.Places.{place-mem}
 use Rattle.lists.proofs.Same.{same_refl, same-is}
 

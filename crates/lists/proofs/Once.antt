@@ -1,10 +1,11 @@
 -- Lists without an element twice: a join, a part, a map of such lists is one. Assumes nothing.
+use Rattle.std.specs.Prelude.{if◌then◌else◌}
 use mathlib.Core.Path.{◌≡◌, refl, sym, ap, ◌∙◌, subst}
 use mathlib.Core.Bool.{Bool, true, false}
 use mathlib.Core.List.Memᴰ
 use mathlib.Core.List.{List, [], ◌∷◌, ◌++◌, map, Memᴰ}
 use mathlib.Core.Logic.{◌⊎◌, inl, inr, ⊎_elim}
-use Rattle.lists.specs.Lists.{if◌then◌else◌, filter, Dup, here, there}
+use Rattle.lists.specs.Lists.{filter, Dup, here, there}
 
 module _ {A : Type 0} where
   pub once-nil : Dup {A = A} [] → ⊥

@@ -1,15 +1,9 @@
 -- Lists, as every layer above uses them. Assumes nothing: these are definitions.
-use Rattle.std.specs.Prelude.{Bool, true, false, ◌&&◌, ◌||◌, cond, ℕ, zero, suc, ◌+◌, eqb, replicate}
+use Rattle.std.specs.Prelude.{Bool, true, false, ◌&&◌, ◌||◌, cond, ℕ, zero, suc, ◌+◌, eqb, replicate, if◌then◌else◌}
 use mathlib.Core.List.{List, [], ◌∷◌, Memᴰ}
 use Rattle.std.proofs.Math.Option.{Option, none, some, map}
 use Prim.Native.Char.{code}
 use Prim.Native.String.{String}
-
-infixr 10 if◌then◌else◌
--- the first where the test holds, else the second; both are computed, so at most one of them may call the function being defined
-abbrev pub if◌then◌else◌ {ℓ} : {A : Type ℓ} → Bool → A → A → A
-if◌then◌else◌ true a b = a
-if◌then◌else◌ false a b = b
 
 -- the bytes of a text, each below 256; a slice of bytes at entry or exit is such a list
 abbrev pub Bytes : Type 0

@@ -1,4 +1,5 @@
 -- What is printed for two texts, and why. Assumes nothing.
+use Rattle.std.specs.Prelude.{if◌then◌else◌}
 use mathlib.Core.Path.{◌≡◌, refl, sym, ap, ◌∙◌}
 use mathlib.Core.Bool.{Bool, true, false}
 use mathlib.Core.List.{List, [], ◌∷◌, ◌++◌}
@@ -10,7 +11,7 @@ use lib.Dec.{eqb}
 use lib.ListN.{length, take, length-append}
 use lib.Seq.{take_all, length-take-le}
 use borrow.Author.Tests.{lt-ltb, lt-leb, ne_eqb}
-use Rattle.lists.specs.Lists.{if◌then◌else◌, Bytes, bytes}
+use Rattle.lists.specs.Lists.{Bytes, bytes}
 use Rattle.lists.proofs.Tests.{by_order}
 use Rattle.refusals.specs.Numbers.{number_of}
 use Rattle.refusals.specs.Order.{◌or_else◌, refuse_if}

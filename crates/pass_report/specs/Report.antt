@@ -2,9 +2,9 @@
 --   verdicts_of outs           how many rows of outputs accept and how many reject
 --   judged result t           the counts for the commands t, of what was read; or a refusal
 --   report_of netlist sheet    the bytes printed
-use Rattle.std.specs.Prelude.{Bool, false, not, List, [], ◌∷◌, ◌++◌, ℕ, eqb, length}
+use Rattle.std.specs.Prelude.{Bool, false, not, List, [], ◌∷◌, ◌++◌, ℕ, eqb, length, if◌then◌else◌}
 use Rattle.std.proofs.Math.Option.{Option, none, some}
-use Rattle.lists.specs.Lists.{if◌then◌else◌, Bytes, bytes, filter}
+use Rattle.lists.specs.Lists.{Bytes, bytes, filter}
 use Rattle.refusals.specs.declared.Refusal.TheVariants as refusal
 use Rattle.network.specs.Net.{Net}
 use Rattle.network.specs.Settle.{run}

@@ -4,10 +4,10 @@
 --   command_text s   the command rows as a text of rows
 --   sheet_text s     the one text of a sheet
 --   IsSheet s       what is a sheet
-use Rattle.std.specs.Prelude.{◌≡◌, Bool, true, ◌&&◌, ◌||◌, not, ℕ, ◌≤◌, eqb, leb, length, take, drop}
+use Rattle.std.specs.Prelude.{◌≡◌, Bool, true, ◌&&◌, ◌||◌, not, ℕ, ◌≤◌, eqb, leb, length, take, drop, if◌then◌else◌}
 use mathlib.Core.List.{List, [], ◌∷◌, ◌++◌, flat_map}
 use Rattle.std.proofs.Math.Option.{Option, none, some}
-use Rattle.lists.specs.Lists.{if◌then◌else◌, Bytes, bytes, same, all, any}
+use Rattle.lists.specs.Lists.{Bytes, bytes, same, all, any}
 use Rattle.blif_text.specs.Lines.{split, ends_in_lf}
 use Rattle.blif_writing.specs.Names.{decimal}
 use Rattle.printed_lines.specs.Lines.{key_line, count_line}

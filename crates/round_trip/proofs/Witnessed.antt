@@ -19,7 +19,7 @@ use Rattle.network.proofs.Lent.{network-laid}
 use Rattle.sort_order.specs.Order.{uses, use_count, recorded, order, sort_order}
 use Rattle.sort_order.specs.Sorted.{sorted}
 use Rattle.sort_order.proofs.Summary.{loop-exactly}
-use Rattle.blif_text.specs.Lines.{cons_first, split, drop_c_r, lines, cut, continues, before, joined, is_blank, non_empty, tokens}
+use Rattle.blif_text.specs.Lines.{cons_first, split, drop_cr, lines, cut, continues, before, joined, is_blank, non_empty, tokens}
 use Rattle.blif_text.specs.Keywords.{keyword_of}
 use Rattle.blif_text.specs.Statements.{model_stmt, init_of, init_among, latch_with, latch_stmt, stmt_of, parsed_line, parsed, stmts}
 use Rattle.blif_text.specs.Decls.{cubes, decls, ins_of, outs_of, defs_of, ins, outs, defs, decls_of}
@@ -70,7 +70,7 @@ free l =
 
 -- its text is within the sizes
 sized : too_large (decls_of (text_of net)) ≡ false
-unfolding flat_map head_d same cons_first split drop_c_r lines cut continues before joined is_blank non_empty tokens model_stmt init_of init_among latch_with latch_stmt stmt_of keyword_of parsed_line parsed stmts cubes decls ins_of outs_of defs_of ins outs defs spaced line added gate_count pin_count too_large decls_of
+unfolding flat_map head_d same cons_first split drop_cr lines cut continues before joined is_blank non_empty tokens model_stmt init_of init_among latch_with latch_stmt stmt_of keyword_of parsed_line parsed stmts cubes decls ins_of outs_of defs_of ins outs defs spaced line added gate_count pin_count too_large decls_of
 sized = refl
 
 -- its one flip-flop is plain

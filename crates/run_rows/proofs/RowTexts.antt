@@ -1,4 +1,5 @@
 -- Rows of 0 and 1 as texts: a line read into a table of bits one character after the other, and bits written as a line. Assumes nothing.
+use Rattle.std.specs.Prelude.{if◌then◌else◌}
 use mathlib.Core.Path.{◌≡◌, refl, sym, ap, ◌∙◌, subst}
 use mathlib.Core.Bool.{Bool, true, false, ◌&&◌}
 use mathlib.Core.List.{List, [], ◌∷◌, map, append-nil}
@@ -9,7 +10,7 @@ use mir.Val.{bool_byte}
 use lib.Dec.{eqb}
 use lib.ListN.{length, get_or, take, drop, set, length-append, length-map, drop_of_length-le, get_or-map}
 use lib.Seq.{drop-cons, length-take-le, get_or-take}
-use Rattle.lists.specs.Lists.{if◌then◌else◌, Bytes, same, all}
+use Rattle.lists.specs.Lists.{Bytes, same, all}
 use Rattle.lists.proofs.Tests.{and-true, below_next}
 use Rattle.lists.proofs.Places.{drop-next}
 use Rattle.lists.proofs.Over.{overwrite-is}

@@ -1,9 +1,9 @@
 -- What `run_rows` answers and leaves in the output slice (document 02, CR 1: "Try a sequence on the netlist"). Assumes nothing: these are
 -- definitions.
 --   run_into l t n   of the network l and the rows' text t, into n bytes
-use Rattle.std.specs.Prelude.{Bool, not, List, ℕ, ltb, length}
+use Rattle.std.specs.Prelude.{Bool, not, List, ℕ, ltb, length, if◌then◌else◌}
 use Rattle.std.proofs.Math.Option.{Option, none, some}
-use Rattle.lists.specs.Lists.{if◌then◌else◌, Bytes, all, zeros, overwrite}
+use Rattle.lists.specs.Lists.{Bytes, all, zeros, overwrite}
 use Rattle.refusals.specs.declared.Refusal.{Refusal}
 use Rattle.refusals.specs.declared.Refusal.TheVariants as refusal
 use Rattle.gates.specs.Gate.{is_plain}
@@ -47,6 +47,6 @@ run_on net (some rows) n = output_rows (rows_text (run net rows)) n
 unfoldable pub run_into : Lent → Bytes → ℕ → RunOutcome
 run_into l t n =
     if not (is_network l) then refused_run refusal.NotANetwork n
-    else if not (topo_sorted (net_of l)) then refused_run refusal.NotSorted n
-    else if not (all is_plain (net_of l).gates) then refused_run refusal.OtherFlipFlop n
-    else run_on (net_of l) (rows_of (net_of l).inputs t) n
+    else (if not (topo_sorted (net_of l)) then refused_run refusal.NotSorted n
+    else (if not (all is_plain (net_of l).gates) then refused_run refusal.OtherFlipFlop n
+    else run_on (net_of l) (rows_of (net_of l).inputs t) n))

@@ -2,10 +2,10 @@
 --   row_text bits, rows_text rows   rows of bits as a text
 --   rows_of n text                 the rows of n bits that a text has; none where it has others
 --   Wide n rows                   each row has n bits
-use Rattle.std.specs.Prelude.{◌≡◌, Bool, true, false, ◌&&◌, ◌||◌, ℕ, zero, suc, ◌/◌, eqb, length, take, drop}
+use Rattle.std.specs.Prelude.{◌≡◌, Bool, true, false, ◌&&◌, ◌||◌, ℕ, zero, suc, ◌/◌, eqb, length, take, drop, if◌then◌else◌}
 use mathlib.Core.List.{List, [], ◌∷◌, ◌++◌, map, Memᴰ}
 use Rattle.std.proofs.Math.Option.{Option, none, some}
-use Rattle.lists.specs.Lists.{if◌then◌else◌, Bytes, same, all}
+use Rattle.lists.specs.Lists.{Bytes, same, all}
 
 -- ---- from bits to text
 

@@ -1,4 +1,5 @@
 -- What C's `refused` tells: 0 exactly on success, else a number of reading, of writing or of a run. Assumes nothing.
+use Rattle.std.specs.Prelude.{if◌then◌else◌}
 use mathlib.Core.Path.{◌≡◌, refl, sym, ap, ◌∙◌, subst}
 use mathlib.Core.Bool.{Bool, true, false, not}
 use mathlib.Core.List.{List}
@@ -9,7 +10,7 @@ use native.Mathlib.Omega.{arith}
 use lib.Dec.{ltb}
 use lib.ListN.{length}
 use borrow.Author.Tests.{not-false}
-use Rattle.lists.specs.Lists.{if◌then◌else◌, Bytes, any, all}
+use Rattle.lists.specs.Lists.{Bytes, any, all}
 use Rattle.lists.proofs.Tests.{by-test}
 use Rattle.refusals.specs.Numbers.{number_of, InReading, InWriting, InRunning}
 use Rattle.refusals.specs.declared.Refusal.{Refusal}
@@ -93,9 +94,9 @@ write-zero l n e = go (not (is_network l)) (any wide (net_of l).gates) (too_long
   where
     go : (a b c : Bool) → not (is_network l) ≡ a → any wide (net_of l).gates ≡ b → too_long (text_of (net_of l)) n ≡ c
         → (text_for (if a then refused_text refusal.NotANetwork n
-        else if b then refused_text refusal.WideExclusive n
-        else if c then refused_text refusal.TextDoesNotFit n
-        else written_text (text_of (net_of l)) n).answer).refused ≡ 0
+        else (if b then refused_text refusal.WideExclusive n
+        else (if c then refused_text refusal.TextDoesNotFit n
+        else written_text (text_of (net_of l)) n))).answer).refused ≡ 0
         → WrittenFrom l n
     go true b c p q s z = absurd (omega (arith, z))
     go false true c p q s z = absurd (omega (arith, z))

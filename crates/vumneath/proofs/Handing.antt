@@ -1,11 +1,12 @@
 -- What reading and writing answer fits into 32 bits, and each answer is handed over as it is. Assumes nothing.
+use Rattle.std.specs.Prelude.{if◌then◌else◌}
 use mathlib.Core.Path.{◌≡◌, refl, sym, ap, ◌∙◌, subst}
 use mathlib.Core.Bool.{Bool, true, false}
 use mathlib.Core.List.{List}
 use Prim.Native.Nat.{ℕ, ◌≤◌}
 use native.Mathlib.Omega.{arith}
 use lib.ListN.{length}
-use Rattle.lists.specs.Lists.{if◌then◌else◌, Bytes}
+use Rattle.lists.specs.Lists.{Bytes}
 use Rattle.refusals.specs.declared.Refusal.TheVariants as refusal
 use Rattle.network.specs.Cells.{Lent, counts_of}
 use Rattle.network.specs.Between.Sizes.{WithinSizes}

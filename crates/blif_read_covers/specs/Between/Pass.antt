@@ -1,14 +1,14 @@
 -- A pass over covers, as far as it has come: what a line gives, and the refusal of what is left (document 01, refusals 12 and 13).
 -- Assumes nothing: these are definitions.
-use Rattle.std.specs.Prelude.{Bool, true, false, ◌&&◌, [], ◌∷◌, ℕ, zero, suc, eqb, ltb}
-use Rattle.lists.specs.Lists.{if◌then◌else◌, Bytes, same}
+use Rattle.std.specs.Prelude.{Bool, true, false, ◌&&◌, [], ◌∷◌, ℕ, zero, suc, eqb, ltb, if◌then◌else◌}
+use Rattle.lists.specs.Lists.{Bytes, same}
 use Rattle.blif_read_covers.specs.declared.Output.{Output}
 use Rattle.blif_read_covers.specs.declared.Output.TheVariants.{Zero, One, Wrong}
 use Rattle.blif_read_covers.specs.declared.Outputs.{Outputs}
 
 -- "an output other than 0, 1" is wrong
 abbrev pub output_of : Bytes → Output
-output_of t = if same t (48 ∷ []) then Zero else if same t (49 ∷ []) then One else Wrong
+output_of t = if same t (48 ∷ []) then Zero else (if same t (49 ∷ []) then One else Wrong)
 
 -- one output more among those of a cover's lines
 abbrev pub with_output : Outputs → Output → Outputs

@@ -1,7 +1,7 @@
 -- The rows of a text by the places of their bytes: the rules of Lines and Rows, over places instead of bytes (document 01, "A name is a
 -- part of the caller's text, held by its place"). Assumes nothing: these are definitions.
-use Rattle.std.specs.Prelude.{Bool, ◌&&◌, not, List, [], ◌∷◌, map, ℕ, ◌+◌, ◌-◌, eqb, length, get_or, take}
-use Rattle.lists.specs.Lists.{if◌then◌else◌, Bytes, filter, range}
+use Rattle.std.specs.Prelude.{Bool, ◌&&◌, not, List, [], ◌∷◌, map, ℕ, ◌+◌, ◌-◌, eqb, length, get_or, take, if◌then◌else◌}
+use Rattle.lists.specs.Lists.{Bytes, filter, range}
 use Rattle.blif_text.specs.Lines.{split, cut, continues, before, is_blank, non_empty}
 
 -- the byte at a place

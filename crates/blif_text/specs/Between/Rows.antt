@@ -1,6 +1,6 @@
 -- The rows of a text: the tokens of each statement, line by line (document 01, src/io/blif.rs). Assumes nothing: these are definitions.
-use Rattle.std.specs.Prelude.{List, [], ◌∷◌, ◌-◌, length, take}
-use Rattle.lists.specs.Lists.{if◌then◌else◌, Bytes, filter}
+use Rattle.std.specs.Prelude.{List, [], ◌∷◌, ◌-◌, length, take, if◌then◌else◌}
+use Rattle.lists.specs.Lists.{Bytes, filter}
 use Rattle.refusals.specs.declared.Refusal.TheVariants as refusal
 use Rattle.blif_text.specs.Lines.{lines, cut, continues, before, non_empty, tokens}
 use Rattle.blif_text.specs.Statements.{Parsed, bad, stmt_of}

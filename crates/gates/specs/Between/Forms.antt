@@ -1,8 +1,8 @@
 -- Beside specs/Forms: the code's types as forms, which contracts between the crates and proofs use, and no promise reaches.
 -- Assumes nothing: these are definitions.
-use Rattle.std.specs.Prelude.{Bool, false, List, ℕ, eqb, leb}
+use Rattle.std.specs.Prelude.{Bool, false, List, ℕ, eqb, leb, if◌then◌else◌}
 use Rattle.std.proofs.Math.Option.{Option, none}
-use Rattle.lists.specs.Lists.{if◌then◌else◌, optional}
+use Rattle.lists.specs.Lists.{optional}
 use Rattle.signal.specs.Signal.{Signal}
 use Rattle.gates.specs.Gate.{Form, And2, Xor2, And3, Xor3, Maj3, Mux3, AndN, OrN, NandN, NorN, XorN, XnorN, Buf, Gate}
 use Rattle.gates.specs.declared.Kind.{Kind}
