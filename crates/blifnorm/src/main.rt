@@ -60,7 +60,7 @@ fn answer(
 }
 
 // Prints what is answered for a text.
-fn print_answer(text: &[u8]) {
+fn print_answer(rt: &impl Print, errors: &impl Print, text: &[u8]) {
     let mut out = [0u8; 32768];
     let mut gates = [0u32; 4096];
     let mut pins = [0u32; 16384];
@@ -76,16 +76,22 @@ fn print_answer(text: &[u8]) {
         &mut work_gates,
         &mut work_pins,
     );
-    print_front(&out, end, b"blifnorm: standard output cannot be written\n");
+    print_front(
+        rt,
+        errors,
+        &out,
+        end,
+        b"blifnorm: standard output cannot be written\n",
+    );
 }
 
 // A text has at most 32,768 bytes; one byte more is read, so that a longer one is refused.
-fn main() {
+fn main(rt: HostRuntime) {
     let mut text = [0u8; 32769];
-    let n = read_open(0, &mut text);
+    let n = read_open(&mut rt.stdin(), &mut text);
     if n > 32769 {
-        io::write_all(2, b"blifnorm: standard input cannot be read\n");
+        let _ = eprintln!(rt; "blifnorm: standard input cannot be read");
         return;
     }
-    print_answer(&text[..n]);
+    print_answer(&rt, &rt.stderr(), &text[..n]);
 }

@@ -10,6 +10,8 @@ ghost use Rattle.pass_report.specs.Report.{report_of};
 
 use pass_report::pass_report;
 use program_io::{print_front, read_open};
+use std::fs::File;
+use std::rt::Files;
 
 // Writes into out the report on a netlist and a sheet, and gives back its length.
 fn answer(netlist: &[u8], sheet: &[u8], out: &mut [u8]) -> usize
@@ -33,10 +35,12 @@ fn answer(netlist: &[u8], sheet: &[u8], out: &mut [u8]) -> usize
 }
 
 // Prints the report on two texts. The longest has 61 bytes.
-fn print_answer(netlist: &[u8], sheet: &[u8]) {
+fn print_answer(rt: &impl Print, errors: &impl Print, netlist: &[u8], sheet: &[u8]) {
     let mut out = [0u8; 64];
     let end = answer(netlist, sheet, &mut out);
     print_front(
+        rt,
+        errors,
         &out,
         end,
         b"passreport: standard output cannot be written\n",
@@ -44,15 +48,13 @@ fn print_answer(netlist: &[u8], sheet: &[u8]) {
 }
 
 // Reads the file of a name; one that cannot be opened or read reads as empty.
-fn read_file(name: &[u8], text: &mut [u8]) -> usize
+fn read_file(rt: &impl Files, name: &str, text: &mut [u8]) -> usize
     ensures { result ≤ length text.old }
 {
-    let file = os::open_read(name);
-    if file < 0 {
-        return 0;
-    }
-    let n = read_open(file, text);
-    libc::close(file);
+    let n = match File::open(rt, name) {
+        Ok(mut file) => read_open(&mut file, text),
+        Err(_) => 0,
+    };
     if n > text.len() {
         return 0;
     }
@@ -60,10 +62,10 @@ fn read_file(name: &[u8], text: &mut [u8]) -> usize
 }
 
 // A netlist has at most 32,768 bytes and a sheet 40,960; one byte more of each is read, so that a longer one is refused.
-fn main() {
+fn main(rt: HostRuntime) {
     let mut netlist = [0u8; 32769];
     let mut sheet = [0u8; 40961];
-    let n = read_file(b"netlist.blif", &mut netlist);
-    let m = read_file(b"sheet.txt", &mut sheet);
-    print_answer(&netlist[..n], &sheet[..m]);
+    let n = read_file(&rt, "netlist.blif", &mut netlist);
+    let m = read_file(&rt, "sheet.txt", &mut sheet);
+    print_answer(&rt, &rt.stderr(), &netlist[..n], &sheet[..m]);
 }

@@ -3,28 +3,29 @@
 
 ghost use Rattle.std.specs.Prelude.{◌+◌, ◌≤◌, length};
 
+use std::io::Read;
+
 // Prints the first n bytes, where there are as many, or says on standard error that it cannot.
-pub fn print_front(bytes: &[u8], n: usize, cannot: &[u8]) {
+pub fn print_front(rt: &impl Print, errors: &impl Print, bytes: &[u8], n: usize, cannot: &[u8]) {
     if n > bytes.len() {
         return;
     }
-    if io::write_all(1, &bytes[..n]) {
+    if rt.write_all(&bytes[..n]).is_ok() {
         return;
     }
-    io::write_all(2, cannot);
+    let _ = errors.write_all(cannot);
 }
 
 // One read of an open file: how many bytes came, none at its end, or more than there is room for where the read failed.
-fn read_some(file: i32, bytes: &mut [u8]) -> usize {
-    let got = libc::read(file, bytes);
-    if got < 0 {
-        return bytes.len() + 1;
+fn read_some(file: &mut impl Read, bytes: &mut [u8]) -> usize {
+    match file.read(bytes) {
+        Ok(n) => n,
+        Err(_) => bytes.len() + 1,
     }
-    io::count(got, bytes)
 }
 
 // Reads an open file to its end or until the slice is full: how many bytes came, or one more than there is room for where a read failed.
-pub fn read_open(file: i32, text: &mut [u8]) -> usize
+pub fn read_open(file: &mut impl Read, text: &mut [u8]) -> usize
     ensures { result ≤ length text.old + 1 }
 {
     let mut done = 0;

@@ -1,9 +1,11 @@
 // What the programs that replay stored answers share: numbers on standard input, cells on standard output.
 #![tactic(auto)]
 
-ghost use Rattle.std.specs.Prelude.{◌≡◌, ◌^◌, ◌<◌, set};
+ghost use Rattle.std.specs.Prelude.{◌≡◌, ◌^◌, ◌<◌, IfOk, set};
 
 use network::Counts;
+use std::io;
+use std::io::Read;
 
 // A hexadecimal digit.
 fn digit(c: u8) -> u32
@@ -15,43 +17,57 @@ fn digit(c: u8) -> u32
     c as u32 % 16
 }
 
+// Reads until the slice is full or the input ends; what lies behind the end stays as it was.
+pub fn read_full(input: &mut impl Read, bytes: &mut [u8]) -> io::Result<()> {
+    let mut done = 0;
+    while done < bytes.len() {
+        let n = input.read(&mut bytes[done..])?;
+        if n == 0 {
+            return Ok(());
+        }
+        done += n;
+    }
+    Ok(())
+}
+
 // The next number: eight hexadecimal digits and a separator.
-pub fn read_word() -> u32
-    ensures { result < 2 ^ 32 }
+pub fn read_word(input: &mut impl Read) -> io::Result<u32>
+    ensures { IfOk result (λ word. word < 2 ^ 32) }
 {
     let mut bytes = [0u8; 9];
-    io::read_full(0, &mut bytes);
+    read_full(input, &mut bytes)?;
     let mut word = 0u32;
     for i in 0..8 {
         word = word % 0x1000_0000 * 16 + digit(bytes[i]);
     }
-    word
+    Ok(word)
 }
 
 // One more than the largest word.
 pub const WORD: usize = 0x1_0000_0000;
 
 // The next number of two words, the upper one first.
-fn read_count() -> usize {
-    let upper = read_word() as usize % WORD;
-    let lower = read_word() as usize % WORD;
-    upper * WORD + lower
+fn read_count(input: &mut impl Read) -> io::Result<usize> {
+    let upper = read_word(input)? as usize % WORD;
+    let lower = read_word(input)? as usize % WORD;
+    Ok(upper * WORD + lower)
 }
 
 // The next four numbers as counts.
-pub fn read_counts() -> Counts
-    ensures { (result.inputs < 2 ^ 64) × (result.gates < 2 ^ 64) × (result.pins < 2 ^ 64) × (result.outputs < 2 ^ 64) }
+pub fn read_counts(input: &mut impl Read) -> io::Result<Counts>
+    ensures { IfOk result (λ counts.
+        (counts.inputs < 2 ^ 64) × (counts.gates < 2 ^ 64) × (counts.pins < 2 ^ 64) × (counts.outputs < 2 ^ 64)) }
 {
-    let inputs = read_count();
-    let gates = read_count();
-    let pins = read_count();
-    let outputs = read_count();
-    Counts {
+    let inputs = read_count(input)?;
+    let gates = read_count(input)?;
+    let pins = read_count(input)?;
+    let outputs = read_count(input)?;
+    Ok(Counts {
         inputs,
         gates,
         pins,
         outputs,
-    }
+    })
 }
 
 // Puts a word into cell i, if there is one.
@@ -64,78 +80,81 @@ pub fn put_word(cells: &mut [u32], i: usize, word: u32)
 }
 
 // The next words, one for each cell.
-pub fn read_words(cells: &mut [u32]) {
+pub fn read_words(input: &mut impl Read, cells: &mut [u32]) -> io::Result<()> {
     let n = cells.len();
     for i in 0..n {
-        cells[i] = read_word();
+        cells[i] = read_word(input)?;
     }
+    Ok(())
 }
 
 // A word, a number and the end of the line.
-pub fn print_line(word: &[u8], n: usize) {
-    io::write_all(1, word);
-    io::print_decimal(1, n as u64);
-    io::write_all(1, b"\n");
+pub fn print_line(rt: &impl Print, word: &[u8], n: usize) -> io::Result<()> {
+    rt.write_all(word)?;
+    println!(rt; "{n}")
 }
 
 // A blank and a cell.
-fn print_cell(cell: u32) {
-    io::write_all(1, b" ");
-    io::print_hex(1, cell as u64, 1);
+fn print_cell(rt: &impl Print, cell: u32) -> io::Result<()> {
+    print!(rt; " {cell:x}")
 }
 
 // A word and the first n cells, on a line.
-pub fn print_cells(word: &[u8], cells: &[u32], n: usize) {
-    io::write_all(1, word);
+pub fn print_cells(rt: &impl Print, word: &[u8], cells: &[u32], n: usize) -> io::Result<()> {
+    rt.write_all(word)?;
     if n > cells.len() {
-        io::write_all(1, b" more than are lent\n");
-        return;
+        return println!(rt; " more than are lent");
     }
     let mut i = 0;
     while i < n {
-        print_cell(cells[i]);
+        print_cell(rt, cells[i])?;
         i += 1;
     }
-    io::write_all(1, b"\n");
+    println!(rt)
 }
 
 // A line, unless every cell from place n on is v.
-pub fn expect_each(cells: &[u32], n: usize, v: u32, line: &[u8]) {
+pub fn expect_each(
+    rt: &impl Print,
+    cells: &[u32],
+    n: usize,
+    v: u32,
+    line: &[u8],
+) -> io::Result<()> {
     let mut i = n;
     while i < cells.len() {
         if cells[i] != v {
-            io::write_all(1, line);
-            return;
+            return rt.write_all(line);
         }
         i += 1;
     }
+    Ok(())
 }
 
 // A line that no stored answer has, unless every byte from place n on is zero.
-pub fn expect_zero_bytes(bytes: &[u8], n: usize) {
+pub fn expect_zero_bytes(rt: &impl Print, bytes: &[u8], n: usize) -> io::Result<()> {
     let mut i = n;
     while i < bytes.len() {
         if bytes[i] != 0 {
-            io::write_all(1, b"not zero\n");
-            return;
+            return println!(rt; "not zero");
         }
         i += 1;
     }
+    Ok(())
 }
 
 // A length and the first n bytes; the others must be zero.
-pub fn print_bytes(bytes: &[u8], n: usize) {
-    print_line(b"length=", n);
+pub fn print_bytes(rt: &impl Print, bytes: &[u8], n: usize) -> io::Result<()> {
+    print_line(rt, b"length=", n)?;
     if n > bytes.len() {
-        io::write_all(1, b"more than are lent\n");
-        return;
+        return println!(rt; "more than are lent");
     }
-    io::write_all(1, &bytes[..n]);
-    expect_zero_bytes(bytes, n);
+    rt.write_all(&bytes[..n])?;
+    expect_zero_bytes(rt, bytes, n)
 }
 
 // A refusal's number; every byte must be zero.
-pub fn print_refused(bytes: &[u8], number: u32) {
-    print_line(b"refused=", number as usize);
-    expect_zero_bytes(bytes, 0);
+pub fn print_refused(rt: &impl Print, bytes: &[u8], number: u32) -> io::Result<()> {
+    print_line(rt, b"refused=", number as usize)?;
+    expect_zero_bytes(rt, bytes, 0)
 }

@@ -5,29 +5,31 @@
 #![tactic(auto)]
 
 use pass_report::pass_report;
-use replay::{expect_each, expect_zero_bytes, print_line, put_word, read_word};
+use replay::{expect_each, expect_zero_bytes, print_line, put_word, read_full, read_word};
+use std::io;
+use std::io::Read;
 
 const ONES: u32 = 0xffff_ffff;
 
 // A report behind its length; bytes behind it must be zero. Of one that is longer than the slice, what the slice has.
-fn print_report(out: &[u8], n: usize) {
-    print_line(b"length=", n);
+fn print_report(rt: &impl Print, out: &[u8], n: usize) -> io::Result<()> {
+    print_line(rt, b"length=", n)?;
     if n > out.len() {
-        io::write_all(1, out);
-        io::write_all(1, b"\ncut\n");
-        return;
+        rt.write_all(out)?;
+        return println!(rt; "\ncut");
     }
-    io::write_all(1, &out[..n]);
-    expect_zero_bytes(out, n);
+    rt.write_all(&out[..n])?;
+    expect_zero_bytes(rt, out, n)
 }
 
 // A line that no stored answer has, unless every cell is zero.
-fn expect_zero(cells: &[u32]) {
-    expect_each(cells, 0, 0, b"not zero\n");
+fn expect_zero(rt: &impl Print, cells: &[u32]) -> io::Result<()> {
+    expect_each(rt, cells, 0, 0, b"not zero\n")
 }
 
 // Makes the report and prints it; every cell must be zero then.
 fn report_into(
+    rt: &impl Print,
     netlist: &[u8],
     sheet: &[u8],
     gates: &mut [u32],
@@ -36,20 +38,22 @@ fn report_into(
     work_gates: &mut [u32],
     work_pins: &mut [u32],
     out: &mut [u8],
-) {
+) -> io::Result<()> {
     let n = pass_report(
         netlist, sheet, gates, pins, outputs, work_gates, work_pins, out,
     );
-    print_report(out, n);
-    expect_zero(gates);
-    expect_zero(pins);
-    expect_zero(outputs);
-    expect_zero(work_gates);
-    expect_zero(work_pins);
+    print_report(rt, out, n)?;
+    expect_zero(rt, gates)?;
+    expect_zero(rt, pins)?;
+    expect_zero(rt, outputs)?;
+    expect_zero(rt, work_gates)?;
+    expect_zero(rt, work_pins)
 }
 
 // The next netlist and sheet, as long as their slices.
 fn replay_texts(
+    rt: &impl Print,
+    input: &mut impl Read,
     netlist: &mut [u8],
     sheet: &mut [u8],
     gates: &mut [u32],
@@ -58,28 +62,32 @@ fn replay_texts(
     work_gates: &mut [u32],
     work_pins: &mut [u32],
     out: &mut [u8],
-) {
-    io::read_full(0, netlist);
-    io::read_full(0, sheet);
+) -> io::Result<()> {
+    read_full(input, netlist)?;
+    read_full(input, sheet)?;
     report_into(
-        netlist, sheet, gates, pins, outputs, work_gates, work_pins, out,
-    );
+        rt, netlist, sheet, gates, pins, outputs, work_gates, work_pins, out,
+    )
 }
 
 // The next netlist and sheet, by the lengths that stand before them.
 fn replay_lengths(
+    rt: &impl Print,
+    input: &mut impl Read,
     gates: &mut [u32],
     pins: &mut [u32],
     outputs: &mut [u32],
     work_gates: &mut [u32],
     work_pins: &mut [u32],
     out: &mut [u8],
-) {
+) -> io::Result<()> {
     let mut netlist = [0u8; 32770];
     let mut sheet = [0u8; 40962];
-    let n = read_word() as usize % 32771;
-    let m = read_word() as usize % 40963;
+    let n = read_word(input)? as usize % 32771;
+    let m = read_word(input)? as usize % 40963;
     replay_texts(
+        rt,
+        input,
         &mut netlist[..n],
         &mut sheet[..m],
         gates,
@@ -88,18 +96,18 @@ fn replay_lengths(
         work_gates,
         work_pins,
         out,
-    );
+    )
 }
 
 // The next report: its number, then what is answered.
-fn replay_report(number: u32) {
-    print_line(b"report ", number as usize);
-    let l = read_word() as usize % 101;
-    let g = read_word() as usize % 4098;
-    let p = read_word() as usize % 16386;
-    let o = read_word() as usize % 258;
-    let wg = read_word() as usize % 4098;
-    let wp = read_word() as usize % 16386;
+fn replay_report(rt: &impl Print, input: &mut impl Read, number: u32) -> io::Result<()> {
+    print_line(rt, b"report ", number as usize)?;
+    let l = read_word(input)? as usize % 101;
+    let g = read_word(input)? as usize % 4098;
+    let p = read_word(input)? as usize % 16386;
+    let o = read_word(input)? as usize % 258;
+    let wg = read_word(input)? as usize % 4098;
+    let wp = read_word(input)? as usize % 16386;
     let mut gates = [ONES; 4097];
     let mut pins = [ONES; 16385];
     let mut outputs = [ONES; 257];
@@ -107,30 +115,34 @@ fn replay_report(number: u32) {
     let mut work_pins = [ONES; 16385];
     let mut out = [165u8; 100];
     replay_lengths(
+        rt,
+        input,
         &mut gates[..g],
         &mut pins[..p],
         &mut outputs[..o],
         &mut work_gates[..wg],
         &mut work_pins[..wp],
         &mut out[..l],
-    );
+    )
 }
 
 // What is told of a byte behind a report, and of a cell.
-fn show_told() {
-    io::write_all(1, b"told\n");
+fn show_told(rt: &impl Print) -> io::Result<()> {
+    println!(rt; "told")?;
     let out = [b'o', b'k', b'\n', 1];
-    print_report(&out, 3);
-    print_report(&out, 5);
+    print_report(rt, &out, 3)?;
+    print_report(rt, &out, 5)?;
     let mut cells = [0u32; 4097];
     put_word(&mut cells, 4096, 1);
-    expect_zero(&cells);
+    expect_zero(rt, &cells)
 }
 
-fn main() {
-    show_told();
-    let reports = read_word();
+fn main(rt: HostRuntime) -> io::Result<()> {
+    let mut input = rt.stdin();
+    show_told(&rt)?;
+    let reports = read_word(&mut input)?;
     for i in 0..reports {
-        replay_report(i);
+        replay_report(&rt, &mut input, i)?;
     }
+    Ok(())
 }

@@ -6,95 +6,98 @@
 use network::{Counts, GATE_CELLS};
 use replay::{expect_each, print_cells, put_word, read_word};
 use sort::{Attempt, Sorted, sort_network};
+use std::io;
+use std::io::Read;
 
 const ONES: u32 = 0xffff_ffff;
 
 // The next n numbers, as far as the cells have room.
-fn read_words(cells: &mut [u32], n: usize) {
+fn read_words(input: &mut impl Read, cells: &mut [u32], n: usize) -> io::Result<()> {
     for i in 0..cells.len() {
         if i >= n {
-            return;
+            return Ok(());
         }
-        cells[i] = read_word();
+        cells[i] = read_word(input)?;
     }
+    Ok(())
 }
 
 // The next four numbers as counts.
-fn read_counts() -> Counts {
-    let inputs = read_word() as usize;
-    let gates = read_word() as usize;
-    let pins = read_word() as usize;
-    let outputs = read_word() as usize;
-    Counts {
+fn read_counts(input: &mut impl Read) -> io::Result<Counts> {
+    let inputs = read_word(input)? as usize;
+    let gates = read_word(input)? as usize;
+    let pins = read_word(input)? as usize;
+    let outputs = read_word(input)? as usize;
+    Ok(Counts {
         inputs,
         gates,
         pins,
         outputs,
-    }
+    })
 }
 
 // A word and the first n cells; the others must be as before.
-fn print_part(word: &[u8], cells: &[u32], n: usize) {
-    print_cells(word, cells, n);
-    expect_each(cells, n, ONES, b"changed\n");
+fn print_part(rt: &impl Print, word: &[u8], cells: &[u32], n: usize) -> io::Result<()> {
+    print_cells(rt, word, cells, n)?;
+    expect_each(rt, cells, n, ONES, b"changed\n")
 }
 
 // The cells of gates, pins and outputs in use; the others must be as before.
 fn print_network(
+    rt: &impl Print,
     new_gates: &[u32],
     g: usize,
     new_pins: &[u32],
     p: usize,
     outputs: &[u32],
     o: usize,
-) {
-    print_part(b"gates", new_gates, g);
-    print_part(b"pins", new_pins, p);
-    print_part(b"outputs", outputs, o);
+) -> io::Result<()> {
+    print_part(rt, b"gates", new_gates, g)?;
+    print_part(rt, b"pins", new_pins, p)?;
+    print_part(rt, b"outputs", outputs, o)
 }
 
 // The answer and the cells. Where there is no order, no new cell is in use, and the outputs are those lent.
 fn print_answer(
+    rt: &impl Print,
     attempt: Attempt,
     records: usize,
     new_gates: &[u32],
     new_pins: &[u32],
     outputs: &[u32],
     o: usize,
-) {
+) -> io::Result<()> {
     match attempt {
         Attempt::Refused => {
-            io::write_all(1, b"refused\n");
-            print_network(new_gates, 0, new_pins, 0, outputs, o);
+            println!(rt; "refused")?;
+            print_network(rt, new_gates, 0, new_pins, 0, outputs, o)
         }
         Attempt::Done(answer) => match answer {
             Sorted::Order(n) => {
-                io::write_all(1, b"sorted\n");
-                print_network(new_gates, records, new_pins, n, outputs, o);
+                println!(rt; "sorted")?;
+                print_network(rt, new_gates, records, new_pins, n, outputs, o)
             }
             Sorted::Loop => {
-                io::write_all(1, b"loop\n");
-                print_network(new_gates, 0, new_pins, 0, outputs, o);
+                println!(rt; "loop")?;
+                print_network(rt, new_gates, 0, new_pins, 0, outputs, o)
             }
         },
     }
 }
 
 // The next network: its number, then the sort's answer and cells.
-fn replay_network(number: u32) {
-    io::write_all(1, b"network ");
-    io::print_decimal(1, number as u64);
-    io::write_all(1, b"\n");
-    let counts = read_counts();
+fn replay_network(rt: &impl Print, input: &mut impl Read, number: u32) -> io::Result<()> {
+    println!(rt; "network {number}")?;
+    let counts = read_counts(input)?;
     let records = counts.gates % 0x1_0000_0000 * GATE_CELLS;
     let mut gates = [0u32; 4100];
     let mut pins = [0u32; 16385];
     let mut outputs = [ONES; 258];
     let mut new_gates = [ONES; 4100];
     let mut new_pins = [ONES; 16385];
-    read_words(&mut gates, records);
-    read_words(&mut pins, counts.pins);
-    read_words(&mut outputs, counts.outputs);
+    read_words(input, &mut gates, records)?;
+    read_words(input, &mut pins, counts.pins)?;
+    read_words(input, &mut outputs, counts.outputs)?;
     let attempt = sort_network(
         counts,
         &gates,
@@ -104,18 +107,19 @@ fn replay_network(number: u32) {
         &mut new_pins,
     );
     print_answer(
+        rt,
         attempt,
         records,
         &new_gates,
         &new_pins,
         &outputs,
         counts.outputs,
-    );
+    )
 }
 
 // What is told of a network without cells in use: kind 0, 1 or 2 where the last cell of gates, pins or outputs is not as before, kind 3 where
 // more outputs are in use than are lent.
-fn show_kind(kind: u32) {
+fn show_kind(rt: &impl Print, kind: u32) -> io::Result<()> {
     let mut gates = [ONES; 4100];
     let mut pins = [ONES; 16385];
     let mut outputs = [ONES; 258];
@@ -126,22 +130,24 @@ fn show_kind(kind: u32) {
     if kind == 3 {
         o = 259;
     }
-    print_network(&gates, 0, &pins, 0, &outputs, o);
+    print_network(rt, &gates, 0, &pins, 0, &outputs, o)
 }
 
 // Every line that tells of something wrong, before the answers, none of which has one.
-fn show_told() {
-    io::write_all(1, b"told\n");
-    show_kind(0);
-    show_kind(1);
-    show_kind(2);
-    show_kind(3);
+fn show_told(rt: &impl Print) -> io::Result<()> {
+    println!(rt; "told")?;
+    show_kind(rt, 0)?;
+    show_kind(rt, 1)?;
+    show_kind(rt, 2)?;
+    show_kind(rt, 3)
 }
 
-fn main() {
-    show_told();
-    let networks = read_word();
+fn main(rt: HostRuntime) -> io::Result<()> {
+    let mut input = rt.stdin();
+    show_told(&rt)?;
+    let networks = read_word(&mut input)?;
     for i in 0..networks {
-        replay_network(i);
+        replay_network(&rt, &mut input, i)?;
     }
+    Ok(())
 }

@@ -10,113 +10,122 @@ use blif_text::{
     Run, Statement, first_bad, mark_tokens, row_end, statement_at, token, token_length, token_start,
 };
 use refusals::Checked;
-use replay::read_word;
+use replay::{read_full, read_word};
+use std::io;
+use std::io::Read;
 
 // A blank and the token of a cell.
-fn print_token(text: &[u8], cell: u32) {
+fn print_token(rt: &impl Print, text: &[u8], cell: u32) -> io::Result<()> {
     if token_start(cell) + token_length(cell) <= text.len() {
-        io::write_all(1, b" ");
-        io::write_all(1, token(text, cell));
+        rt.write_all(b" ")?;
+        rt.write_all(token(text, cell))?;
     }
+    Ok(())
 }
 
 // The tokens of cells.
-fn print_tokens(text: &[u8], cells: &[u32]) {
+fn print_tokens(rt: &impl Print, text: &[u8], cells: &[u32]) -> io::Result<()> {
     for i in 0..cells.len() {
-        print_token(text, cells[i]);
+        print_token(rt, text, cells[i])?;
     }
+    Ok(())
 }
 
 // A keyword and the tokens of a run.
-fn print_names(keyword: &[u8], text: &[u8], cells: &[u32], run: Run) {
-    io::write_all(1, keyword);
+fn print_names(
+    rt: &impl Print,
+    keyword: &[u8],
+    text: &[u8],
+    cells: &[u32],
+    run: Run,
+) -> io::Result<()> {
+    rt.write_all(keyword)?;
     let first = run.first;
     if first > cells.len() {
-        return;
+        return Ok(());
     }
     if run.count > cells.len() - first {
-        return;
+        return Ok(());
     }
     let end = first + run.count;
-    print_tokens(text, &cells[first..end]);
+    print_tokens(rt, text, &cells[first..end])
 }
 
 // A refusal's number.
-fn print_refusal(n: u32) {
-    io::write_all(1, b"refused ");
-    io::print_decimal(1, n as u64);
+fn print_refusal(rt: &impl Print, n: u32) -> io::Result<()> {
+    print!(rt; "refused {n}")
 }
 
 // A statement, and the end of its line.
-fn print_statement(text: &[u8], cells: &[u32], s: Statement) {
+fn print_statement(rt: &impl Print, text: &[u8], cells: &[u32], s: Statement) -> io::Result<()> {
     match s {
-        Statement::Model => {
-            io::write_all(1, b"model");
-        }
-        Statement::End => {
-            io::write_all(1, b"end");
-        }
-        Statement::Exdc => {
-            io::write_all(1, b"exdc");
-        }
-        Statement::Inputs(run) => print_names(b"inputs", text, cells, run),
-        Statement::Outputs(run) => print_names(b"outputs", text, cells, run),
-        Statement::Names(run) => print_names(b"names", text, cells, run),
-        Statement::Latch(run) => print_names(b"latch", text, cells, run),
-        Statement::Cube(run) => print_names(b"cube", text, cells, run),
-        Statement::Refused(r) => print_refusal(r.number()),
+        Statement::Model => print!(rt; "model")?,
+        Statement::End => print!(rt; "end")?,
+        Statement::Exdc => print!(rt; "exdc")?,
+        Statement::Inputs(run) => print_names(rt, b"inputs", text, cells, run)?,
+        Statement::Outputs(run) => print_names(rt, b"outputs", text, cells, run)?,
+        Statement::Names(run) => print_names(rt, b"names", text, cells, run)?,
+        Statement::Latch(run) => print_names(rt, b"latch", text, cells, run)?,
+        Statement::Cube(run) => print_names(rt, b"cube", text, cells, run)?,
+        Statement::Refused(r) => print_refusal(rt, r.number())?,
     }
-    io::write_all(1, b"\n");
+    println!(rt)
 }
 
 // Every statement of a text whose tokens are marked.
-fn print_rows(text: &[u8], cells: &[u32])
+fn print_rows(rt: &impl Print, text: &[u8], cells: &[u32]) -> io::Result<()>
     requires { TokensMarked text.now cells.now (length cells.now) }
 {
     let mut at = 0;
     while at < cells.len() {
         let end = row_end(cells, at);
-        print_statement(text, cells, statement_at(text, cells, at, end));
+        print_statement(rt, text, cells, statement_at(text, cells, at, end))?;
         at = end;
     }
+    Ok(())
 }
 
 // The first refusal of a text, or its statements.
-fn print_text(text: &[u8], cells: &mut [u32])
+fn print_text(rt: &impl Print, text: &[u8], cells: &mut [u32]) -> io::Result<()>
     requires { (length text.now ≤ max_text) × (max_tokens ≤ length cells.old) }
 {
     let n = mark_tokens(text, cells);
     let bad = first_bad(text, &cells[..n]);
     if let Checked::Refused(r) = bad {
-        print_refusal(r.number());
-        io::write_all(1, b"\n");
-        return;
+        print_refusal(rt, r.number())?;
+        return println!(rt);
     }
-    print_rows(text, &cells[..n]);
+    print_rows(rt, text, &cells[..n])
 }
 
 // The next text, as long as the slice: its number, then what is found in it.
-fn replay_into(number: u32, text: &mut [u8], cells: &mut [u32])
+fn replay_into(
+    rt: &impl Print,
+    input: &mut impl Read,
+    number: u32,
+    text: &mut [u8],
+    cells: &mut [u32],
+) -> io::Result<()>
     requires { (length text.old ≤ max_text) × (max_tokens ≤ length cells.old) }
 {
-    io::read_full(0, text);
-    io::write_all(1, b"text ");
-    io::print_decimal(1, number as u64);
-    io::write_all(1, b"\n");
-    print_text(text, cells);
+    read_full(input, text)?;
+    println!(rt; "text {number}")?;
+    print_text(rt, text, cells)
 }
 
 // The next text, by the length that stands before it.
-fn replay_text(number: u32) {
+fn replay_text(rt: &impl Print, input: &mut impl Read, number: u32) -> io::Result<()> {
     let mut text = [0u8; 32768];
     let mut cells = [0u32; 16384];
-    let n = read_word() as usize % 32769;
-    replay_into(number, &mut text[..n], &mut cells);
+    let n = read_word(input)? as usize % 32769;
+    replay_into(rt, input, number, &mut text[..n], &mut cells)
 }
 
-fn main() {
-    let texts = read_word();
+fn main(rt: HostRuntime) -> io::Result<()> {
+    let mut input = rt.stdin();
+    let texts = read_word(&mut input)?;
     for i in 0..texts {
-        replay_text(i);
+        replay_text(&rt, &mut input, i)?;
     }
+    Ok(())
 }

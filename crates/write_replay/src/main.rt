@@ -8,29 +8,33 @@ use blif_write::{WriteAnswer, write_blif};
 use lists::cell_at;
 use network::Counts;
 use replay::{print_bytes, print_line, print_refused, put_word, read_counts, read_word};
+use std::io;
+use std::io::Read;
 
 // The next words, as cells and once more to compare them with.
-fn read_words(cells: &mut [u32], kept: &mut [u32]) {
+fn read_words(input: &mut impl Read, cells: &mut [u32], kept: &mut [u32]) -> io::Result<()> {
     let n = cells.len();
     for i in 0..n {
-        let word = read_word();
+        let word = read_word(input)?;
         put_word(cells, i, word);
         put_word(kept, i, word);
     }
+    Ok(())
 }
 
 // A line that no stored answer has, unless the cells are those kept.
-fn expect_same(cells: &[u32], kept: &[u32]) {
+fn expect_same(rt: &impl Print, cells: &[u32], kept: &[u32]) -> io::Result<()> {
     for i in 0..cells.len() {
         if cell_at(cells, i) != cell_at(kept, i) {
-            io::write_all(1, b"changed\n");
-            return;
+            return println!(rt; "changed");
         }
     }
+    Ok(())
 }
 
 // An answer; every lent cell must be as it was.
 fn print_answer(
+    rt: &impl Print,
     answer: WriteAnswer,
     out: &[u8],
     gates: &[u32],
@@ -39,32 +43,35 @@ fn print_answer(
     kept_pins: &[u32],
     outputs: &[u32],
     kept_outputs: &[u32],
-) {
+) -> io::Result<()> {
     match answer {
-        WriteAnswer::Written(n) => print_bytes(out, n),
-        WriteAnswer::Refused(refusal) => print_refused(out, refusal.number()),
+        WriteAnswer::Written(n) => print_bytes(rt, out, n)?,
+        WriteAnswer::Refused(refusal) => print_refused(rt, out, refusal.number())?,
     }
-    expect_same(gates, kept_gates);
-    expect_same(pins, kept_pins);
-    expect_same(outputs, kept_outputs);
+    expect_same(rt, gates, kept_gates)?;
+    expect_same(rt, pins, kept_pins)?;
+    expect_same(rt, outputs, kept_outputs)
 }
 
 // Reads the cells of a network, writes it and prints the answer.
 fn replay_cells(
+    rt: &impl Print,
+    input: &mut impl Read,
     counts: Counts,
     gates: &mut [u32],
     pins: &mut [u32],
     outputs: &mut [u32],
     kept: &mut [u32],
     out: &mut [u8],
-) {
+) -> io::Result<()> {
     let mut kept_gates = [0u32; 4101];
     let mut kept_outputs = [0u32; 258];
-    read_words(gates, &mut kept_gates);
-    read_words(pins, kept);
-    read_words(outputs, &mut kept_outputs);
+    read_words(input, gates, &mut kept_gates)?;
+    read_words(input, pins, kept)?;
+    read_words(input, outputs, &mut kept_outputs)?;
     let answer = write_blif(counts, gates, pins, outputs, out);
     print_answer(
+        rt,
         answer,
         out,
         gates,
@@ -73,35 +80,37 @@ fn replay_cells(
         kept,
         outputs,
         &kept_outputs,
-    );
+    )
 }
 
 // The next network: its number, then what writing answers.
-fn replay_network(number: u32) {
-    print_line(b"network ", number as usize);
-    let counts = read_counts();
-    let l = read_word() as usize % 32801;
-    let g = read_word() as usize % 4102;
-    let p = read_word() as usize % 16387;
-    let o = read_word() as usize % 259;
+fn replay_network(rt: &impl Print, input: &mut impl Read, number: u32) -> io::Result<()> {
+    print_line(rt, b"network ", number as usize)?;
+    let counts = read_counts(input)?;
+    let l = read_word(input)? as usize % 32801;
+    let g = read_word(input)? as usize % 4102;
+    let p = read_word(input)? as usize % 16387;
+    let o = read_word(input)? as usize % 259;
     let mut gates = [0u32; 4101];
     let mut pins = [0u32; 16386];
     let mut outputs = [0u32; 258];
     let mut kept = [0u32; 16386];
     let mut out = [165u8; 32800];
     replay_cells(
+        rt,
+        input,
         counts,
         &mut gates[..g],
         &mut pins[..p],
         &mut outputs[..o],
         &mut kept,
         &mut out[..l],
-    );
+    )
 }
 
 // What is told of a text without bytes and of a refusal: kind 0 where the last byte is not zero, kind 1, 2 or 3 where the last cell of gates,
 // pins or outputs has changed, kind 4 where the text is longer than the slice.
-fn show_kind(kind: u32) {
+fn show_kind(rt: &impl Print, kind: u32) -> io::Result<()> {
     let mut gates = [0u32; 4101];
     let mut pins = [0u32; 16386];
     let mut outputs = [0u32; 258];
@@ -118,6 +127,7 @@ fn show_kind(kind: u32) {
         length = 32801;
     }
     print_answer(
+        rt,
         WriteAnswer::Written(length),
         &out,
         &gates,
@@ -126,24 +136,26 @@ fn show_kind(kind: u32) {
         &kept_pins,
         &outputs,
         &kept_outputs,
-    );
-    print_refused(&out, 20);
+    )?;
+    print_refused(rt, &out, 20)
 }
 
 // Every line that tells of something wrong, before the answers, none of which has one.
-fn show_told() {
-    io::write_all(1, b"told\n");
-    show_kind(0);
-    show_kind(1);
-    show_kind(2);
-    show_kind(3);
-    show_kind(4);
+fn show_told(rt: &impl Print) -> io::Result<()> {
+    println!(rt; "told")?;
+    show_kind(rt, 0)?;
+    show_kind(rt, 1)?;
+    show_kind(rt, 2)?;
+    show_kind(rt, 3)?;
+    show_kind(rt, 4)
 }
 
-fn main() {
-    show_told();
-    let networks = read_word();
+fn main(rt: HostRuntime) -> io::Result<()> {
+    let mut input = rt.stdin();
+    show_told(&rt)?;
+    let networks = read_word(&mut input)?;
     for i in 0..networks {
-        replay_network(i);
+        replay_network(&rt, &mut input, i)?;
     }
+    Ok(())
 }
