@@ -127,7 +127,7 @@ pub fn text(r: &mut Numbers) -> String {
 fn signal(s: &Signal) -> String {
     let bare = s.without_inversion();
     let node = if bare.is_constant() {
-        "zeroS".to_string()
+        "zero_s".to_string()
     } else if bare.is_input() {
         format!("plain (Input {})", bare.input())
     } else {
@@ -135,7 +135,7 @@ fn signal(s: &Signal) -> String {
     };
     match (s.is_inverted(), bare.is_constant()) {
         (false, _) => node,
-        (true, true) => "oneS".to_string(),
+        (true, true) => "one_s".to_string(),
         (true, false) => format!("invert ({node})"),
     }
 }
@@ -149,14 +149,14 @@ const FORMS: [&str; 14] = ["", "And2", "Xor2", "And3", "Xor3", "Maj3", "Mux3", "
 fn gate(g: &Node) -> String {
     if g.is_flop() {
         let [d, e, r] = [0, 1, 2].map(|k| signal(&g.pins[k]));
-        return format!("Dff (record {{ dataIn = {d}; enable = {e}; reset = {r}; start = {} }})", g.start == 1);
+        return format!("Dff (record {{ data_in = {d}; enable = {e}; reset = {r}; start = {} }})", g.start == 1);
     }
     format!("Comb {} ({})", FORMS[g.form as usize], listed(g.pins.iter().map(signal).collect()))
 }
 
 fn net(p: &Plain) -> String {
     let gates = listed(p.gates.iter().map(gate).collect());
-    format!("netFrom {} ({gates}) ({})", p.inputs, listed(p.outputs.iter().map(signal).collect()))
+    format!("net_from {} ({gates}) ({})", p.inputs, listed(p.outputs.iter().map(signal).collect()))
 }
 
 fn quoted(text: &str) -> String {
@@ -172,23 +172,42 @@ pub fn plain_flops(mut p: Plain) -> Plain {
     p
 }
 
-// The file specs/Stored.antt of that crate.
+// The file specs/Stored.antt of that crate, with all that its checks may use.
 const HEAD: &str = "-- Texts and networks made from a seed, with Quaigh's answers and document 02's start values (tests/oracle/checks). Assumes nothing: these
 -- are definitions.
-use mathlib.Core.Bool.{true, false}
-use mathlib.Core.List.{List, [], _∷_}
-use Rattle·lists.specs.Lists.{bytes}
-use Rattle·signal.specs.Signal.{Input, Var, plain, zeroS, oneS, invert}
-use Rattle·gates.specs.Gate.{And2, Xor2, And3, Xor3, Maj3, Mux3, AndN, OrN, NandN, NorN, XorN, XnorN, Buf, Comb, Dff}
-use Rattle·network.specs.Net.{netFrom}
-use Rattle·worked_cases·specs.specs.Checks.{Check, reads, writes, network, number}
+use Rattle.std.specs.Prelude.{true, false, List, [], ◌∷◌}
+use Rattle.lists.specs.Lists.{bytes}
+use Rattle.signal.specs.Signal.{Input, Var, plain, zero_s, one_s, invert}
+use Rattle.gates.specs.Gate.{And2, Xor2, And3, Xor3, Maj3, Mux3, AndN, OrN, NandN, NorN, XorN, XnorN, Buf, Comb, Dff}
+use Rattle.network.specs.Net.{net_from}
+use Rattle.worked_cases.specs.Checks.{Check, reads, writes, network, number}
 
 -- the checks
 unfoldable pub stored : List Check
 stored =
 ";
 
-// Checks of `readText` and `textOf`: COUNT texts and a network for every four; tells how often each answer occurs.
+// What the list uses whatever its checks are.
+const ALWAYS: [&str; 4] = ["List", "[]", "◌∷◌", "Check"];
+
+// The file's head for such checks, which imports what they use and nothing else.
+fn head(checks: &str) -> String {
+    let words: Vec<&str> = checks.split(|c: char| !c.is_alphanumeric() && c != '_').collect();
+    let mut s = String::new();
+    for line in HEAD.lines() {
+        let Some((module, names)) = line.strip_prefix("use ").and_then(|l| l.strip_suffix('}')).and_then(|l| l.split_once(".{")) else {
+            s += &format!("{line}\n");
+            continue;
+        };
+        let used: Vec<&str> = names.split(", ").filter(|n| ALWAYS.contains(n) || words.contains(n)).collect();
+        if !used.is_empty() {
+            s += &format!("use {module}.{{{}}}\n", used.join(", "));
+        }
+    }
+    s
+}
+
+// Checks of `read_text` and `text_of`: COUNT texts and a network for every four; tells how often each answer occurs.
 pub fn checks(seed: u64, count: usize) -> String {
     let mut r = Numbers(seed);
     let mut parts = Vec::new();
@@ -211,5 +230,6 @@ pub fn checks(seed: u64, count: usize) -> String {
         }
     }
     eprintln!("{texts} texts, {} networks; answers (0 for read): {seen:?}", parts.len() - texts);
-    format!("{HEAD}    {}\n    ∷ []\n", parts.join("\n    ∷ "))
+    let list = parts.join("\n    ∷ ");
+    format!("{}    {list}\n    ∷ []\n", head(&list))
 }
