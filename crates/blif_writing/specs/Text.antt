@@ -36,11 +36,11 @@ abbrev pub field : Bytes → Option Bytes → Bytes
 field key none = []
 field key (some x) = spaced ((key ++ x) ∷ [])
 
--- "A latch is `.latch d x_n 0`", its start value "in place of the fixed 0, in `.latch` and after `init=` alike" (document 02, CR 4)
+-- "A latch is `.latch d xN 0`", its start value "in place of the fixed 0, in `.latch` and after `init=` alike" (document 02, CR 4)
 abbrev pub latch_line : LatchDef Bytes → Bytes
 latch_line d = bytes ".latch" ++ spaced (d.input ∷ d.output ∷ init_bytes d.init ∷ [])
 
--- "`.flop D=d Q=x_n init=0`, then ` E=e` unless enable is one, then ` R=r` unless reset is zero", its start value too "in place of the fixed 0"
+-- "`.flop D=d Q=xN init=0`, then ` E=e` unless enable is one, then ` R=r` unless reset is zero", its start value too "in place of the fixed 0"
 abbrev pub flop_line : LatchDef Bytes → Bytes
 flop_line d =
     bytes ".flop" ++ (spaced ((bytes "D=" ++ d.input) ∷ (bytes "Q=" ++ d.output) ∷ (bytes "init=" ++ init_bytes d.init) ∷ []) ++ (field (bytes "E=") d.enable ++ field (bytes "R=") d.reset))

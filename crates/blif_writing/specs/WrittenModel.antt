@@ -121,7 +121,7 @@ module _ {Name : Type 0} (name : Signal → Name) where
   abbrev pub buf_block : ℕ → List Signal → Block Name
   buf_block g ps = Cover (map (λ (s : Signal). name (bare s)) ps) (gate_name g) (cover_row true (map (λ (s : Signal). col_of (not s.inv)) ps) ∷ [])
 
-  -- "a gate is `.names`, its inputs' names and `x_n`", and its form's lines
+  -- "a gate is `.names`, its inputs' names and `xN`", and its form's lines
   abbrev pub form_block : ℕ → Form → List Signal → Block Name
   form_block g f ps = Cover (map name ps) (gate_name g) (lines_of f (length ps))
 

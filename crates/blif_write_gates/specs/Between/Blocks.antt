@@ -20,7 +20,7 @@ field_text v key s = cond (is_const v s) [] (key ++ name_bytes s)
 abbrev pub stored_latch : Signal → Signal → Signal → Bool → ℕ → LatchDef Bytes
 stored_latch d e r v g = latch_of name_bytes g (record { data_in = d; enable = e; reset = r; start = v })
 
--- "`.flop D=d Q=x_n init=0`, then ` E=e` unless enable is one, then ` R=r` unless reset is zero", the start value "in place of the fixed 0"
+-- "`.flop D=d Q=xN init=0`, then ` E=e` unless enable is one, then ` R=r` unless reset is zero", the start value "in place of the fixed 0"
 unfoldable pub flop_text : Signal → Signal → Signal → Bool → ℕ → Bytes
 flop_text d e r v g = line (flop_line (stored_latch d e r v g))
 
