@@ -67,10 +67,6 @@ pub record Passed (text tokens : List ℕ) (n at count i : ℕ) : Type 0 where
   pub counted : count ≡ length seen
   pub same : decls (stmts_from text tokens n i) ≡ decls (stmts_from text tokens n at)
 
--- before the first
-pub passed_start : {text tokens : List ℕ} {n at : ℕ} → StmtsAt text tokens n at → Passed text tokens n at 0 at
-passed_start c = record { seen = []; low = omega arith; place = omega arith; rest = c; rows = refl; lines = refl; counted = refl; same = refl }
-
 module _ {text tokens : List ℕ} {n at count i : ℕ} (c : Passed text tokens n at count i) where
   -- one more
   pub passed-next : {end : ℕ} → RowIs text tokens n i end key.Cube → Passed text tokens n at (count + 1) end

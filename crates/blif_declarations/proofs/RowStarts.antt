@@ -1,4 +1,5 @@
 -- The row at a place: its statement is the first of those from there on. Assumes nothing.
+use Rattle.refusals.specs.Order.{fine}
 use mathlib.Core.Path.{◌≡◌, refl, sym, ap, ◌∙◌}
 use mathlib.Core.Bool.{false}
 use mathlib.Core.List.{List, [], ◌∷◌, map}
@@ -9,15 +10,14 @@ use lib.Seq.{slice, slice_empty, length-slice}
 use borrow.Author.Tests.{lt-ltb, le-ltb}
 use Rattle.lists.specs.Lists.{Bytes}
 use Rattle.lists.proofs.Tests.{by_order, by-test, below_next}
-use Rattle.refusals.specs.declared.Checked.TheVariants.{Fine}
 use Rattle.refusals.proofs.Order.{refused-ne-fine}
 use Rattle.blif_text.specs.Statements.{Stmt, first_bad, stmts}
 use Rattle.blif_text.specs.Between.Rows.{row_stmt}
 use Rattle.blif_text.specs.Between.Places.{is_first, token_of, tokens_of, grouped}
 use Rattle.blif_text.specs.Keywords.{keyword_of}
 use Rattle.blif_text.specs.Between.PlacedStatements.{run_tokens, latch_in, init_in, start_of, parsed_from, RowTo, names_run, started_latch, statement_of, refusal_in}
-use Rattle.blif_text.specs.declared.Start.{Start}
-use Rattle.blif_text.specs.declared.Start.TheVariants as start
+use Rattle.std.specs.Prelude.{Bool, Some, None}
+use Rattle.std.specs.declared.option.Option as std-option
 use Rattle.blif_text.specs.Between.Walk.{rows_from, stmts_from, RowsAt, StmtsAt}
 use Rattle.blif_text.specs.declared.Keyword.{Keyword}
 use Rattle.blif_text.specs.declared.Keyword.TheVariants as key
@@ -50,7 +50,7 @@ unfolding grouped
 none-loose text = refl
 
 -- no statement is bad
-none-bad : first_bad [] ≡ Fine
+none-bad : first_bad [] ≡ fine
 unfolding first_bad
 none-bad = refl
 
@@ -93,21 +93,20 @@ module _ {text cells : List ℕ} {n at r : ℕ} (c : StmtsAt text cells n at) (h
     are = stmts-are c h w ∙ ap (λ (k : Keyword). stmts (parsed_from text cells (statement_of text cells k at r) ∷ map row_stmt (rows_from text cells n r))) (sym e)
 
     -- which is no refusal
-    fine : refusal_in (statement_of text cells keyword at r) ≡ Fine
-    fine = ap (λ (k : Keyword). refusal_in (statement_of text cells k at r)) e ∙ stmts-parsed_from c h w
+    unrefused : refusal_in (statement_of text cells keyword at r) ≡ fine
+    unrefused = ap (λ (k : Keyword). refusal_in (statement_of text cells k at r)) e ∙ stmts-parsed_from c h w
 
   -- a latch whose start value is no refusal
-  latch-good : (s : Start) → stmts_from text cells n at ≡ stmts (parsed_from text cells (started_latch s (names_run at r)) ∷ map row_stmt (rows_from text cells n r))
-      → refusal_in (started_latch s (names_run at r)) ≡ Fine → stmts_from text cells n at ≡ Stmt.latch (latch_in text cells (names_run at r)) ∷ stmts_from text cells n r
+  latch-good : (s : std-option.Option Bool) → stmts_from text cells n at ≡ stmts (parsed_from text cells (started_latch s (names_run at r)) ∷ map row_stmt (rows_from text cells n r))
+      → refusal_in (started_latch s (names_run at r)) ≡ fine → stmts_from text cells n at ≡ Stmt.latch (latch_in text cells (names_run at r)) ∷ stmts_from text cells n r
   unfolding stmts
-  latch-good start.Zero q f = q
-  latch-good start.One q f = q
-  latch-good start.Wrong q f = absurd (refused-ne-fine f)
+  latch-good (Some v) q f = q
+  latch-good None q f = absurd (refused-ne-fine f)
 
   row-starts : (k : Keyword) → k ≡ keyword_of (token_of text (get_or cells at 0)) → Starts text cells n at r k
   unfolding stmts
   row-starts key.Model e =
-      by_order 1 (r - at - 1) (λ m. rw (le-ltb (r - at - 1) 1 m) at (are e)) (λ m. absurd (refused-ne-fine (rw (lt-ltb (r - at - 1) 1 m) at (fine e))))
+      by_order 1 (r - at - 1) (λ m. rw (le-ltb (r - at - 1) 1 m) at (are e)) (λ m. absurd (refused-ne-fine (rw (lt-ltb (r - at - 1) 1 m) at (unrefused e))))
   row-starts key.End e = are e
   row-starts key.Exdc e = are e
   row-starts key.Inputs e = are e ∙ ap (λ (ns : List Bytes). Stmt.inputs ns ∷ stmts_from text cells n r) (run-names text cells (names_run at r))
@@ -115,10 +114,10 @@ module _ {text cells : List ℕ} {n at r : ℕ} (c : StmtsAt text cells n at) (h
   row-starts key.Names e = are e ∙ ap (λ (ns : List Bytes). Stmt.names ns ∷ stmts_from text cells n r) (run-names text cells (names_run at r))
   row-starts key.Latch e =
       by_order 2 (r - at - 1)
-      (λ m. (latch-good (start_of (init_in text cells (at + 3) r)) (rw (le-ltb (r - at - 1) 2 m) at (are e)) (rw (le-ltb (r - at - 1) 2 m) at (fine e)), omega arith))
-      (λ m. absurd (refused-ne-fine (rw (lt-ltb (r - at - 1) 2 m) at (fine e))))
+      (λ m. (latch-good (start_of (init_in text cells (at + 3) r)) (rw (le-ltb (r - at - 1) 2 m) at (are e)) (rw (le-ltb (r - at - 1) 2 m) at (unrefused e)), omega arith))
+      (λ m. absurd (refused-ne-fine (rw (lt-ltb (r - at - 1) 2 m) at (unrefused e))))
   row-starts key.Cube e = are e ∙ ap (λ (ns : List Bytes). Stmt.cube ns ∷ stmts_from text cells n r) cube-row
-  row-starts key.Unsupported e = refused-ne-fine (fine e)
+  row-starts key.Unsupported e = refused-ne-fine (unrefused e)
 
   pub row_is : {k : Keyword} → k ≡ keyword_of (token_of text (get_or cells at 0)) → RowIs text cells n at r k
   row_is {k} e = record { low = w.low; rest = stmts-next c h w; rows = rows_are c.rows h w; starts = row-starts k e }

@@ -1,4 +1,5 @@
 -- Names that are used: what is found in the index is defined, and what is not found is refusal 11. Assumes nothing.
+use Rattle.refusals.specs.Order.{fine}
 use mathlib.Core.Path.{◌≡◌, refl, sym, ap, ap₂, ◌∙◌}
 use mathlib.Core.Bool.{Bool, true, false, not, ◌&&◌, cond}
 use mathlib.Core.List.{List, [], ◌∷◌, ◌++◌, map, flat_map}
@@ -6,7 +7,6 @@ use Prim.Native.Nat.{ℕ}
 use Rattle.lists.specs.Lists.{Bytes, all, known}
 use Rattle.lists.proofs.Range.{all_append, all_map}
 use Rattle.lists.proofs.Tests.{by-test, and_left, and_right, and-false}
-use Rattle.refusals.specs.declared.Checked.TheVariants.{Fine}
 use Rattle.signal.specs.Cell.{sig_cell}
 use Rattle.blif_text.specs.Decls.{Decl, ins, outs, defs, defines, used_names}
 use Rattle.name_index.specs.Between.Search.{signal_in}
@@ -28,7 +28,7 @@ map-where p f g h (x ∷ l) e = ap₂ (λ y (ys : List _). y ∷ ys) (h x (and_l
 
 -- ---- the index's answers
 
-module _ (ds : List Decl) (named : naming false [] ds ≡ Fine) (sized : too_large ds ≡ false) where
+module _ (ds : List Decl) (named : naming false [] ds ≡ fine) (sized : too_large ds ≡ false) where
   -- the cell of a name's signal in the index
   abbrev sig : Bytes → ℕ
   sig x = signal_in (entries 0 0 ds) x

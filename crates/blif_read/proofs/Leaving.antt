@@ -1,54 +1,40 @@
 -- From the cells in use to every cell: what is left when all others are cleared. Assumes nothing.
-use Rattle.std.specs.Prelude.{if◌then◌else◌}
-use mathlib.Core.Path.{◌≡◌, refl, sym, ap, ◌∙◌, subst}
-use mathlib.Core.Bool.{Bool, true, false}
+use Rattle.std.specs.Prelude.{Result, Ok, Err}
+use mathlib.Core.Path.{◌≡◌, sym, ap, ◌∙◌, subst}
 use mathlib.Core.List.{List}
 use Prim.Native.Nat.{ℕ, ◌*◌, ◌^◌, ◌≤◌, ◌<◌}
 use native.Mathlib.Omega.{arith}
 use lib.ListN.{length, take, length-take}
 use Rattle.lists.specs.Lists.{Bytes, zeros, overwrite}
-use Rattle.refusals.specs.declared.Refusal.TheVariants as refusal
 use Rattle.network.specs.Cells.{counts_of}
 use Rattle.network.specs.Record.{gate_width}
 use Rattle.network.specs.declared.Counts.{Counts}
 use Rattle.network.proofs.Laying.{length-gate_cells}
-use Rattle.blif_reading.specs.Read.{Result, read, refused, read_text}
-use Rattle.blif_read.specs.Into.{Lengths, enough, read_outcome, leaving, filled, read_into, answered}
+use Rattle.blif_read.specs.Into.{Lengths, read_outcome, leaving, filled, read_into, answered}
 use Rattle.blif_read.specs.Between.Stages.{counts_in, Holds}
-use Rattle.blif_read.specs.declared.ReadAnswer.{ReadAnswer}
-use Rattle.blif_read.specs.declared.ReadAnswer.TheVariants.{Read, Refused}
-
--- ---- refusal 1
-
-pub few-refused : (text : Bytes) (n : Lengths) (gs ps os : List ℕ) → enough n ≡ false → Holds (answered text n) (Refused refusal.TooFewCells) gs ps os
-few-refused text n gs ps os e =
-    subst (λ (r : Result). Holds r (Refused refusal.TooFewCells) gs ps os) (sym (ap (λ (b : Bool). if b then read_text text else refused refusal.TooFewCells) e)) refl
-
-pub enough-answered : (text : Bytes) (n : Lengths) (a : ReadAnswer) (gs ps os : List ℕ) → enough n ≡ true → Holds (read_text text) a gs ps os
-    → Holds (answered text n) a gs ps os
-enough-answered text n a gs ps os e h =
-    subst (λ (r : Result). Holds r a gs ps os) (sym (ap (λ (b : Bool). if b then read_text text else refused refusal.TooFewCells) e)) h
+use Rattle.network.specs.Net.{Net}
+use Rattle.refusals.specs.declared.Refusal.{Refusal}
 
 -- ---- the other cells cleared
 
 -- the result's cells are what the answer keeps
-pub kept-filled : (r : Result) (a : ReadAnswer) (gs ps os : List ℕ) (n : Lengths) → Holds r a gs ps os
+pub kept-filled : (r : Result Net Refusal) (a : Result Counts Refusal) (gs ps os : List ℕ) (n : Lengths) → Holds r a gs ps os
     → leaving a (take ((counts_in a).gates * gate_width) gs) (take (counts_in a).pins ps) (take (counts_in a).outputs os) n ≡ filled r n
-kept-filled (refused r) a gs ps os n h =
-    ap (λ (x : ReadAnswer). leaving x (take ((counts_in x).gates * gate_width) gs) (take (counts_in x).pins ps) (take (counts_in x).outputs os) n) h
-kept-filled (read net) a gs ps os n h =
-    ap (λ (x : ReadAnswer). leaving x (take ((counts_in x).gates * gate_width) gs) (take (counts_in x).pins ps) (take (counts_in x).outputs os) n) h.0
-    ∙ (λ j. leaving (Read (counts_of net)) (h.1.gates_laid j) (h.1.pins_laid j) (h.1.outs_laid j) n)
+kept-filled (Err r) a gs ps os n h =
+    ap (λ (x : Result Counts Refusal). leaving x (take ((counts_in x).gates * gate_width) gs) (take (counts_in x).pins ps) (take (counts_in x).outputs os) n) h
+kept-filled (Ok net) a gs ps os n h =
+    ap (λ (x : Result Counts Refusal). leaving x (take ((counts_in x).gates * gate_width) gs) (take (counts_in x).pins ps) (take (counts_in x).outputs os) n) h.0
+    ∙ (λ j. leaving (Ok (counts_of net)) (h.1.gates_laid j) (h.1.pins_laid j) (h.1.outs_laid j) n)
 
 -- the records that an answer counts are within the cells
-counts-within : (r : Result) (a : ReadAnswer) (gs ps os : List ℕ) → Holds r a gs ps os → (counts_in a).gates * gate_width ≤ length gs
-counts-within (refused r) a gs ps os h = subst (λ (x : ReadAnswer). (counts_in x).gates * gate_width ≤ length gs) (sym h) (omega arith)
-counts-within (read net) a gs ps os h =
+counts-within : (r : Result Net Refusal) (a : Result Counts Refusal) (gs ps os : List ℕ) → Holds r a gs ps os → (counts_in a).gates * gate_width ≤ length gs
+counts-within (Err r) a gs ps os h = subst (λ (x : Result Counts Refusal). (counts_in x).gates * gate_width ≤ length gs) (sym h) (omega arith)
+counts-within (Ok net) a gs ps os h =
     let e : length (take (length net.gates * gate_width) gs) ≡ length net.gates * gate_width = ap length h.1.gates_laid ∙ length-gate_cells 0 net.gates in
-    subst (λ (x : ReadAnswer). (counts_in x).gates * gate_width ≤ length gs) (sym h.0) (omega (arith, e, length-take (length net.gates * gate_width) gs))
+    subst (λ (x : Result Counts Refusal). (counts_in x).gates * gate_width ≤ length gs) (sym h.0) (omega (arith, e, length-take (length net.gates * gate_width) gs))
 
 -- each slice is cleared behind what the answer counts, the working cells from the start
-pub all-cleared : (text : Bytes) (n : Lengths) (a : ReadAnswer) (k : Counts) (gs ps os g p o wg wp : List ℕ) → Holds (answered text n) a gs ps os
+pub all-cleared : (text : Bytes) (n : Lengths) (a : Result Counts Refusal) (k : Counts) (gs ps os g p o wg wp : List ℕ) → Holds (answered text n) a gs ps os
     → k ≡ counts_in a → length gs ≡ n.gates → length ps ≡ n.pins → length os ≡ n.outputs
     → g ≡ overwrite (take (k.gates * gate_width) gs) (zeros (length gs)) → p ≡ overwrite (take k.pins ps) (zeros (length ps)) → o ≡ overwrite (take k.outputs os) (zeros (length os))
     → wg ≡ zeros n.work_gates → wp ≡ zeros n.work_pins → read_outcome a g p o wg wp ≡ read_into text n
@@ -61,6 +47,6 @@ all-cleared text n a k gs ps os g p o wg wp h q lg lp lo eg ep eo ew ex =
     ∙ kept-filled (answered text n) a gs ps os n h
 
 -- so many cells can be counted
-pub counts-fit : (text : Bytes) (n : Lengths) (a : ReadAnswer) (k : Counts) (gs ps os : List ℕ) (m : ℕ) → Holds (answered text n) a gs ps os → k ≡ counts_in a → length gs ≡ m → m < 2 ^ 64
+pub counts-fit : (text : Bytes) (n : Lengths) (a : Result Counts Refusal) (k : Counts) (gs ps os : List ℕ) (m : ℕ) → Holds (answered text n) a gs ps os → k ≡ counts_in a → length gs ≡ m → m < 2 ^ 64
     → k.gates * gate_width < 2 ^ 64
 counts-fit text n a k gs ps os m h q e l = omega (arith, counts-within (answered text n) a gs ps os h, ap (λ (x : Counts). x.gates) q, e, l)

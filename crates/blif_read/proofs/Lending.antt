@@ -9,7 +9,7 @@ use native.Mathlib.Omega.{arith}
 use lib.Dec.{leb}
 use lib.ListN.{length, take, drop, length-drop, drop_of_length-le}
 use borrow.Rule.Slice.PartMut.{mid_of, put_mid, Post-is, mid_len}
-use borrow.Author.Tests.{le-leb, lt-leb, leb-true}
+use borrow.Author.Tests.{lt-leb, leb-true}
 use Rattle.lists.specs.Lists.{zeros, overwrite}
 use Rattle.lists.proofs.Tests.{and-false, and_left, and_right}
 use Rattle.blif_read.specs.Into.{Lengths, lengths, enough}
@@ -22,21 +22,9 @@ module _ (n : Lengths) where
   unfolding enough
   few-gates h = sym (simp (lt-leb (max_gates * gate_width) n.gates h))
 
-  pub few-pins : n.pins < 16384 → false ≡ enough n
-  unfolding enough
-  few-pins h = sym (simp (lt-leb 16384 n.pins h, and-false))
-
-  pub few-outputs : n.outputs < 256 → false ≡ enough n
-  unfolding enough
-  few-outputs h = sym (simp (lt-leb 256 n.outputs h, and-false))
-
   pub few-work-gates : n.work_gates < (max_gates * gate_width) → false ≡ enough n
   unfolding enough
   few-work-gates h = sym (simp (lt-leb (max_gates * gate_width) n.work_gates h, and-false))
-
-  pub the_last : (max_gates * gate_width) ≤ n.gates → 16384 ≤ n.pins → 256 ≤ n.outputs → (max_gates * gate_width) ≤ n.work_gates → leb 16384 n.work_pins ≡ enough n
-  unfolding enough
-  the_last a b c d = sym (simp (le-leb (max_gates * gate_width) n.gates a, le-leb 16384 n.pins b, le-leb 256 n.outputs c, le-leb (max_gates * gate_width) n.work_gates d))
 
 -- the cells that refusal 1 asks for are there
 pub enough-cells : (gs ps os wgs wps : List ℕ) → enough (lengths (length gs) (length ps) (length os) (length wgs) (length wps)) ≡ true → Enough gs ps os wgs wps
@@ -56,18 +44,6 @@ enough-cells gs ps os wgs wps e =
       outputs = leb-true 256 (length os) (and_right (a && b) c e2);
       work_gates = leb-true (max_gates * gate_width) (length wgs) (and_right (a && b && c) d e1);
       work_pins = leb-true 16384 (length wps) (and_right (a && b && c && d) f e);
-    }
-
--- slices of the same lengths have the same room
-pub enough-same : {gs ps os wgs wps gs' ps' os' wgs' wps' : List ℕ} → Enough gs ps os wgs wps → length gs' ≡ length gs → length ps' ≡ length ps
-    → length os' ≡ length os → length wgs' ≡ length wgs → length wps' ≡ length wps → Enough gs' ps' os' wgs' wps'
-enough-same h a b c d e =
-    record {
-      gates = omega (arith, h.gates, a);
-      pins = omega (arith, h.pins, b);
-      outputs = omega (arith, h.outputs, c);
-      work_gates = omega (arith, h.work_gates, d);
-      work_pins = omega (arith, h.work_pins, e);
     }
 
 -- ---- cells cleared

@@ -1,4 +1,6 @@
 -- From the index of names to the gates placed: refusals 7 to 13. Assumes nothing.
+use Rattle.refusals.specs.Order.{fine}
+use Rattle.std.specs.Prelude.{Ok, Err}
 use mathlib.Core.Path.{◌≡◌, sym, ap, ap₂, ◌∙◌, subst}
 use mathlib.Core.Bool.{Bool, true, false}
 use mathlib.Core.List.{List, [], ◌∷◌, ◌++◌, map, flat_map}
@@ -10,7 +12,6 @@ use Rattle.lists.specs.Lists.{Bytes, all, known, overwrite, sum_of}
 use Rattle.lists.proofs.Over.{take-overwrite}
 use Rattle.refusals.specs.declared.Refusal.{Refusal}
 use Rattle.refusals.specs.declared.Refusal.TheVariants as refusal
-use Rattle.refusals.specs.declared.Checked.TheVariants.{Fine, Refused}
 use Rattle.signal.specs.Cell.{sig_cell}
 use Rattle.network.specs.Sizes.{max_pins}
 use Rattle.blif_text.specs.Decls.{Def, latch, cover, Decl, decls, ins, outs, defs, defines, used_names, decls_of}
@@ -19,13 +20,12 @@ use Rattle.blif_text.specs.Between.Walk.{stmts_from, Inside}
 use Rattle.blif_text.specs.Between.Blocks.{defs_at}
 use Rattle.name_index.specs.Between.Search.{Entry, signal_in}
 use Rattle.name_index.specs.Between.Index.{entry_count, entries_of}
-use Rattle.blif_reading.specs.Read.{pin_count, too_large, naming, undefined, cover_faults, read_fault, refused, signal_of, read_text}
+use Rattle.blif_reading.specs.Read.{pin_count, naming, undefined, cover_faults, read_fault, signal_of, read_text}
 use Rattle.blif_reading.specs.Between.Working.{GatesIn, placed, placed_count}
 use Rattle.blif_read_names.specs.Between.Entries.{entries}
 use Rattle.blif_read_names.specs.Between.Tables.{Named, Tables}
 use Rattle.blif_read_names.specs.declared.Declared.{Declared}
 use Rattle.blif_read_signals.specs.Between.Resolve.{is_found, all_found, Resolved, PlacedBy, Signals}
-use Rattle.blif_read_signals.specs.declared.Placed.TheVariants as answer
 use Rattle.blif_read_signals.proofs.Placing.{pins-found, refused-found}
 use Rattle.blif_read.specs.Between.Stages.{Sized, Defining, Resolving, Placing}
 use Rattle.blif_reading.proofs.SizeLimits.{sizes-within}
@@ -36,25 +36,21 @@ use Rattle.blif_read.proofs.Found.{found_all, found-signals, found-signal, outpu
 -- ---- names
 
 module _ {text tokens : List ℕ} (c : Sized text tokens) where
-  -- what naming asks of the sizes
-  pub sized-again : too_large (decls (stmts_from text tokens (length tokens) 0)) ≡ false
-  sized-again = sym (ap too_large c.declared) ∙ c.sized
-
   -- the refusals of 7 to 10 are the text's
   naming-is : naming false [] (decls (stmts_from text tokens (length tokens) 0)) ≡ naming false [] (decls_of text)
   naming-is = sym (ap (naming false []) c.declared)
 
   -- a refusal of 7 to 10
-  pub name-refused : {r : Refusal} → naming false [] (decls (stmts_from text tokens (length tokens) 0)) ≡ Refused r → read_text text ≡ refused r
+  pub name-refused : {r : Refusal} → naming false [] (decls (stmts_from text tokens (length tokens) 0)) ≡ Err r → read_text text ≡ Err r
   name-refused h = refuses text _ c.left (sym naming-is ∙ h)
 
   module _ {index out_names blocks : List ℕ} where
     -- none
-    pub names-entered : {d : Declared} → naming false [] (decls (stmts_from text tokens (length tokens) 0)) ≡ Fine
+    pub names-entered : {d : Declared} → naming false [] (decls (stmts_from text tokens (length tokens) 0)) ≡ fine
         → Tables (decls (stmts_from text tokens (length tokens) 0)) text tokens (length tokens) index out_names blocks d.inputs d.gates d.outputs
         → Defining text tokens index out_names blocks d.inputs d.gates d.outputs
     names-entered {d} z h =
-        let e : naming false [] (decls_of text) ≡ Fine = sym naming-is ∙ z in
+        let e : naming false [] (decls_of text) ≡ fine = sym naming-is ∙ z in
         record {
           tables = subst (λ (ds : List Decl). Tables ds text tokens (length tokens) index out_names blocks d.inputs d.gates d.outputs) (sym c.declared) h;
           sized = c.sized;
@@ -98,7 +94,7 @@ module _ {text tokens index out_names blocks : List ℕ} {i g o : ℕ} (c : Defi
     all_known = h.found ∙ ap (all is_found) asked ∙ found_all ds c.once c.sized (outs ds)
 
     -- an output is undefined
-    pub output-refused : r ≡ false → read_text text ≡ refused refusal.Undefined
+    pub output-refused : r ≡ false → read_text text ≡ Err refusal.Undefined
     output-refused e =
         refuses-refuse_if text (undefined ds) refusal.Undefined (cover_faults (defs ds)) c.left (output-missing ds c.once c.sized (sym all_known ∙ e))
 
@@ -155,15 +151,15 @@ module _ {text tokens index os blocks : List ℕ} {i g o : ℕ} (c : Resolving t
 
   module _ {gates pins_in : List ℕ} where
     -- one is undefined
-    pub use-refused : {r : Refusal} → PlacedBy (signal_in (entries_of text index (entry_count index))) (defs_at text tokens (length tokens) blocks g) gates pins_in (answer.Refused r) → read_text text ≡ refused r
+    pub use-refused : {r : Refusal} → PlacedBy (signal_in (entries_of text index (entry_count index))) (defs_at text tokens (length tokens) blocks g) gates pins_in (Err r) → read_text text ≡ Err r
     use-refused h =
         let f = refused-found _ _ h.counted in
         refuses-refuse_if text (undefined (decls_of text)) refusal.Undefined (cover_faults (defs (decls_of text))) c.left
         (use-missing (decls_of text) c.once c.sized (sym uses-known ∙ f.0))
-        ∙ ap refused (sym f.1)
+        ∙ ap Err (sym f.1)
 
     -- none is
-    pub gates-placed : {used : ℕ} → PlacedBy (signal_in (entries_of text index (entry_count index))) (defs_at text tokens (length tokens) blocks g) gates pins_in (answer.Pins used)
+    pub gates-placed : {used : ℕ} → PlacedBy (signal_in (entries_of text index (entry_count index))) (defs_at text tokens (length tokens) blocks g) gates pins_in (Ok used)
         → Placing text tokens blocks i g o gates pins_in os used
     gates-placed {used} h =
         let f = pins-found _ _ h.counted in

@@ -3,30 +3,25 @@
 
 ghost use Rattle.std.specs.Prelude.{◌≡◌, ◌≤◌, leb, length, take};
 ghost use Rattle.lists.specs.Lists.{any, overwrite, zeros};
-ghost use Rattle.refusals.specs.declared.Checked.TheVariants.{Fine};
+ghost use Rattle.refusals.specs.Order.{fine};
 ghost use Rattle.blif_reading.specs.Read.{read_fault, read_text};
 ghost use Rattle.blif_read.specs.Into.{lengths, enough, read_outcome, read_into, answered};
 ghost use Rattle.blif_read.specs.Between.Stages.{counts_in, Holds, Enough, PlainText, Sized, Defining, Resolving, Placing};
 
 use blif_read_covers::check_covers;
 use blif_read_gates::build_covers;
-use blif_read_names::{Defined, build_name_to_sig};
-use blif_read_signals::{Placed, place_gates, resolve_names};
+use blif_read_names::build_name_to_sig;
+use blif_read_signals::{place_gates, resolve_names};
 use blif_read_sizes::too_large;
 use blif_text::{MAX_TEXT, first_bad, mark_tokens};
 use lists::fill_zero;
+use name_index::INDEX_CELLS;
 use network::{Counts, GATE_CELLS, MAX_GATES, MAX_OUTPUTS, MAX_PINS};
-use refusals::{Checked, Refusal};
-use sort::{Sorted, topo_sort};
-
-// The network's counts, or a refusal.
-#[derive(Clone, Copy)]
-pub enum ReadAnswer {
-    Read(Counts),
-    Refused(Refusal),
-}
+use refusals::Refusal;
+use sort::topo_sort;
 
 // Whether slices of these lengths have as many cells as reading may need.
+#[tactic(auto, unfolding(crate::specs::Into::enough))]
 fn enough_cells(
     gates: usize,
     pins: usize,
@@ -36,19 +31,11 @@ fn enough_cells(
 ) -> bool
     ensures { result ≡ enough (lengths gates pins outputs work_gates work_pins) }
 {
-    if gates < MAX_GATES * GATE_CELLS {
-        return false;
-    }
-    if pins < MAX_PINS {
-        return false;
-    }
-    if outputs < MAX_OUTPUTS {
-        return false;
-    }
-    if work_gates < MAX_GATES * GATE_CELLS {
-        return false;
-    }
-    work_pins >= MAX_PINS
+    gates >= MAX_GATES * GATE_CELLS
+        && pins >= MAX_PINS
+        && outputs >= MAX_OUTPUTS
+        && work_gates >= MAX_GATES * GATE_CELLS
+        && work_pins >= MAX_PINS
 }
 
 // Whether the text has a byte of 128 or more.
@@ -56,10 +43,8 @@ fn has_high_byte(text: &[u8]) -> bool
     ensures { result ≡ any (leb 128) text.now }
 {
     let mut high = false;
-    let mut i = 0;
-    while i < text.len() {
-        high = high | (text[i] >= 128);
-        i += 1;
+    for &byte in text {
+        high |= byte >= 128;
     }
     high
 }
@@ -83,12 +68,12 @@ fn read_built(
     outputs: &mut [u32],
     work_gates: &mut [u32],
     work_pins: &mut [u32],
-) -> ReadAnswer
+) -> Result<Counts, Refusal>
     requires enough { Enough gates.old pins.old outputs.old work_gates.old work_pins.old }
     requires tokens_in_bounds { marked.tokens ≤ length pins.old }
     requires placing { Placing text.now (take marked.tokens pins.old) gates.old marked.inputs marked.gates marked.outputs
         work_gates.old work_pins.old outputs.old used
-        × (read_fault text.now ≡ Fine) }
+        × (read_fault text.now ≡ fine) }
     ensures { Holds (read_text text.now) result gates.new pins.new outputs.new }
 {
     let n = marked.tokens;
@@ -100,15 +85,13 @@ fn read_built(
         pins: built.pins,
         outputs: marked.outputs,
     };
-    match topo_sort(counts, work_gates, work_pins, outputs, gates, pins) {
-        Sorted::Loop => ReadAnswer::Refused(Refusal::CombinationalLoop),
-        Sorted::Order(used_pins) => ReadAnswer::Read(Counts {
-            inputs: marked.inputs,
-            gates: built.gates,
-            pins: used_pins,
-            outputs: marked.outputs,
-        }),
-    }
+    let used_pins = topo_sort(counts, work_gates, work_pins, outputs, gates, pins).ok_or(
+        Refusal::CombinationalLoop,
+    )?;
+    Ok(Counts {
+        pins: used_pins,
+        ..counts
+    })
 }
 
 // Checks the covers: refusals 12 and 13.
@@ -121,7 +104,7 @@ fn read_covers(
     outputs: &mut [u32],
     work_gates: &mut [u32],
     work_pins: &mut [u32],
-) -> ReadAnswer
+) -> Result<Counts, Refusal>
     requires enough { Enough gates.old pins.old outputs.old work_gates.old work_pins.old }
     requires tokens_in_bounds { marked.tokens ≤ length pins.old }
     requires placing { Placing text.now (take marked.tokens pins.old) gates.old marked.inputs marked.gates marked.outputs
@@ -129,10 +112,7 @@ fn read_covers(
     ensures { Holds (read_text text.now) result gates.new pins.new outputs.new }
 {
     let n = marked.tokens;
-    let bad = check_covers(text, &pins[..n], gates, marked.gates);
-    if let Checked::Refused(refusal) = bad {
-        return ReadAnswer::Refused(refusal);
-    }
+    check_covers(text, &pins[..n], gates, marked.gates)?;
     read_built(
         text, used, marked, gates, pins, outputs, work_gates, work_pins,
     )
@@ -148,7 +128,7 @@ fn read_blocks(
     outputs: &mut [u32],
     work_gates: &mut [u32],
     work_pins: &mut [u32],
-) -> ReadAnswer
+) -> Result<Counts, Refusal>
     requires enough { Enough gates.old pins.old outputs.old work_gates.old work_pins.old }
     requires tokens_in_bounds { marked.tokens ≤ length pins.old }
     requires resolving { Resolving text.now (take marked.tokens pins.old) index.now outputs.old gates.old marked.inputs marked.gates
@@ -157,13 +137,10 @@ fn read_blocks(
 {
     let n = marked.tokens;
     let g = marked.gates;
-    let placed = place_gates(text, &pins[..n], index, gates, g, work_gates, work_pins);
-    match placed {
-        Placed::Refused(refusal) => ReadAnswer::Refused(refusal),
-        Placed::Pins(used) => read_covers(
-            text, used, marked, gates, pins, outputs, work_gates, work_pins,
-        ),
-    }
+    let used = place_gates(text, &pins[..n], index, gates, g, work_gates, work_pins)?;
+    read_covers(
+        text, used, marked, gates, pins, outputs, work_gates, work_pins,
+    )
 }
 
 // Gives each output its signal: refusal 11.
@@ -176,7 +153,7 @@ fn read_outputs(
     outputs: &mut [u32],
     work_gates: &mut [u32],
     work_pins: &mut [u32],
-) -> ReadAnswer
+) -> Result<Counts, Refusal>
     requires enough { Enough gates.old pins.old outputs.old work_gates.old work_pins.old }
     requires tokens_in_bounds { marked.tokens ≤ length pins.old }
     requires defining { Defining text.now (take marked.tokens pins.old) index.now work_pins.old gates.old marked.inputs
@@ -184,12 +161,13 @@ fn read_outputs(
     ensures { Holds (read_text text.now) result gates.new pins.new outputs.new }
 {
     let o = marked.outputs;
-    if !resolve_names(text, index, &work_pins[..o], outputs) {
-        return ReadAnswer::Refused(Refusal::Undefined);
+    if resolve_names(text, index, &work_pins[..o], outputs) {
+        read_blocks(
+            text, index, marked, gates, pins, outputs, work_gates, work_pins,
+        )
+    } else {
+        Err(Refusal::Undefined)
     }
-    read_blocks(
-        text, index, marked, gates, pins, outputs, work_gates, work_pins,
-    )
 }
 
 // Enters the names: refusals 7 to 10.
@@ -201,28 +179,23 @@ fn read_names(
     outputs: &mut [u32],
     work_gates: &mut [u32],
     work_pins: &mut [u32],
-) -> ReadAnswer
+) -> Result<Counts, Refusal>
     requires enough { Enough gates.old pins.old outputs.old work_gates.old work_pins.old }
     requires n_in_bounds { n ≤ length pins.old }
     requires sized { Sized text.now (take n pins.old) }
     ensures { Holds (read_text text.now) result gates.new pins.new outputs.new }
 {
-    let mut index = [0u32; 6145];
-    let defined = build_name_to_sig(text, &pins[..n], &mut index, work_pins, gates);
-    match defined {
-        Defined::Refused(refusal) => ReadAnswer::Refused(refusal),
-        Defined::Names(declared) => {
-            let marked = Marked {
-                tokens: n,
-                inputs: declared.inputs,
-                gates: declared.gates,
-                outputs: declared.outputs,
-            };
-            read_outputs(
-                text, &index, marked, gates, pins, outputs, work_gates, work_pins,
-            )
-        }
-    }
+    let mut index = [0u32; INDEX_CELLS];
+    let declared = build_name_to_sig(text, &pins[..n], &mut index, work_pins, gates)?;
+    let marked = Marked {
+        tokens: n,
+        inputs: declared.inputs,
+        gates: declared.gates,
+        outputs: declared.outputs,
+    };
+    read_outputs(
+        text, &index, marked, gates, pins, outputs, work_gates, work_pins,
+    )
 }
 
 // Marks the tokens: refusals 4 to 6.
@@ -233,20 +206,18 @@ fn read_tokens(
     outputs: &mut [u32],
     work_gates: &mut [u32],
     work_pins: &mut [u32],
-) -> ReadAnswer
+) -> Result<Counts, Refusal>
     requires enough { Enough gates.old pins.old outputs.old work_gates.old work_pins.old }
     requires plain_text { PlainText text.now }
     ensures { Holds (read_text text.now) result gates.new pins.new outputs.new }
 {
     let n = mark_tokens(text, pins);
-    let bad = first_bad(text, &pins[..n]);
-    if let Checked::Refused(refusal) = bad {
-        return ReadAnswer::Refused(refusal);
-    }
+    first_bad(text, &pins[..n])?;
     if too_large(text, &pins[..n]) {
-        return ReadAnswer::Refused(Refusal::SizePassed);
+        Err(Refusal::SizePassed)
+    } else {
+        read_names(text, n, gates, pins, outputs, work_gates, work_pins)
     }
-    read_names(text, n, gates, pins, outputs, work_gates, work_pins)
 }
 
 // Reads into cells that suffice: refusals 2 and 3.
@@ -257,17 +228,17 @@ fn read_text(
     outputs: &mut [u32],
     work_gates: &mut [u32],
     work_pins: &mut [u32],
-) -> ReadAnswer
+) -> Result<Counts, Refusal>
     requires { Enough gates.old pins.old outputs.old work_gates.old work_pins.old }
     ensures { Holds (read_text text.now) result gates.new pins.new outputs.new }
 {
     if text.len() > MAX_TEXT {
-        return ReadAnswer::Refused(Refusal::TextTooLong);
+        Err(Refusal::TextTooLong)
+    } else if has_high_byte(text) {
+        Err(Refusal::HighByte)
+    } else {
+        read_tokens(text, gates, pins, outputs, work_gates, work_pins)
     }
-    if has_high_byte(text) {
-        return ReadAnswer::Refused(Refusal::HighByte);
-    }
-    read_tokens(text, gates, pins, outputs, work_gates, work_pins)
 }
 
 // Reads into any cells: refusal 1.
@@ -278,30 +249,31 @@ fn read_cells(
     outputs: &mut [u32],
     work_gates: &mut [u32],
     work_pins: &mut [u32],
-) -> ReadAnswer
+) -> Result<Counts, Refusal>
     ensures { let n = lengths (length gates.old) (length pins.old) (length outputs.old)
         (length work_gates.old) (length work_pins.old) in
         Holds (answered text.now n) result gates.new pins.new outputs.new }
 {
-    if !enough_cells(
+    if enough_cells(
         gates.len(),
         pins.len(),
         outputs.len(),
         work_gates.len(),
         work_pins.len(),
     ) {
-        return ReadAnswer::Refused(Refusal::TooFewCells);
+        read_text(text, gates, pins, outputs, work_gates, work_pins)
+    } else {
+        Err(Refusal::TooFewCells)
     }
-    read_text(text, gates, pins, outputs, work_gates, work_pins)
 }
 
 // The counts of what was read; none of what was refused.
-fn counts_of(answer: ReadAnswer) -> Counts
+fn counts_of(answer: Result<Counts, Refusal>) -> Counts
     ensures { result ≡ counts_in answer }
 {
     match answer {
-        ReadAnswer::Read(counts) => counts,
-        ReadAnswer::Refused(_) => Counts {
+        Ok(counts) => counts,
+        Err(_) => Counts {
             inputs: 0,
             gates: 0,
             pins: 0,
@@ -327,7 +299,7 @@ pub fn read_blif(
     outputs: &mut [u32],
     work_gates: &mut [u32],
     work_pins: &mut [u32],
-) -> ReadAnswer
+) -> Result<Counts, Refusal>
     ensures { let n = lengths (length gates.old) (length pins.old) (length outputs.old)
         (length work_gates.old) (length work_pins.old) in
         read_outcome result gates.new pins.new outputs.new work_gates.new work_pins.new

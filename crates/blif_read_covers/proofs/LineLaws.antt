@@ -1,5 +1,5 @@
 -- A cube line as the row of its tokens: its columns, its output, and what it adds to a cover's refusal. Assumes nothing.
-use Rattle.std.specs.Prelude.{if◌then◌else◌}
+use Rattle.std.specs.Prelude.{if◌then◌else◌, ⊤, Result, Err}
 use mathlib.Core.Path.{◌≡◌, refl, sym, ap, ap₂, ◌∙◌}
 use mathlib.Core.Bool.{Bool, true, false, ◌&&◌, ◌||◌, not, true≢false, false≢true, or-true, and_assoc, and_comm}
 use mathlib.Core.List.{List, [], ◌∷◌}
@@ -13,8 +13,6 @@ use Rattle.lists.proofs.Tests.{by-test, by_order, and_left, and_right}
 use Rattle.lists.proofs.Same.{same-is}
 use Rattle.refusals.specs.Order.{◌or_else◌, refuse_if}
 use Rattle.refusals.specs.declared.Refusal.TheVariants as refusal
-use Rattle.refusals.specs.declared.Checked.{Checked}
-use Rattle.refusals.specs.declared.Checked.TheVariants.{Refused}
 use Rattle.blif_text.specs.Between.Places.{token_of, tokens_of}
 use Rattle.blif_text.specs.Decls.{columns, output, is_one}
 use Rattle.blif_text.proofs.ColumnLaws.{last_cell, last-output}
@@ -23,9 +21,10 @@ use Rattle.blif_read_covers.specs.Between.Pass.{output_of, with_output, right, f
 use Rattle.blif_read_covers.specs.declared.Output.{Output}
 use Rattle.blif_read_covers.specs.declared.Output.TheVariants.{Zero, One, Wrong}
 use Rattle.blif_read_covers.specs.declared.Outputs.{Outputs}
+use Rattle.refusals.specs.declared.Refusal.{Refusal}
 
 -- the refusal of the lines left of a cover with w columns, after these outputs: 12 at a wrong one, else 13 where outputs differ
-abbrev pub lines_fault : ℕ → Outputs → List (List Bytes) → Checked
+abbrev pub lines_fault : ℕ → Outputs → List (List Bytes) → Result ⊤ Refusal
 lines_fault w met ls =
     refuse_if (not (all (good_line w) ls)) refusal.WrongCubeLine
     or_else refuse_if ((met.one || any is_one ls) && (met.zero || not (all is_one ls))) refusal.OutputsDiffer
@@ -108,7 +107,7 @@ line-in text row h = record { some = h; counted = length-map row (token_of text)
 -- ---- refusals in order
 
 -- two tests in turn
-pub refuse_if-and : (a b : Bool) (x : Checked) → (refuse_if (not (a && b)) refusal.WrongCubeLine or_else x) ≡ (refuse_if (not a) refusal.WrongCubeLine or_else (refuse_if (not b) refusal.WrongCubeLine or_else x))
+pub refuse_if-and : (a b : Bool) (x : Result ⊤ Refusal) → (refuse_if (not (a && b)) refusal.WrongCubeLine or_else x) ≡ (refuse_if (not a) refusal.WrongCubeLine or_else (refuse_if (not b) refusal.WrongCubeLine or_else x))
 unfolding ◌or_else◌ refuse_if
 refuse_if-and true b x = refl
 refuse_if-and false b x = refl
@@ -126,7 +125,7 @@ module _ {ts : List Bytes} {m : ℕ} {out : Bytes} (w : ℕ) (met : Outputs) (ls
   cols = columns ts
 
   -- a line that does not fit is refused
-  pub misfit : fits m (length cols) w (output_of out) ≡ false → lines_fault w met (ts ∷ ls) ≡ Refused refusal.WrongCubeLine
+  pub misfit : fits m (length cols) w (output_of out) ≡ false → lines_fault w met (ts ∷ ls) ≡ Err refusal.WrongCubeLine
   unfolding ◌or_else◌ refuse_if
   misfit e = simp (good-is w l, e)
 

@@ -1,10 +1,11 @@
 -- What is left of the pass over covers, step by step. Each record says that the whole pass answers what is left; each law takes one such
 -- fact to the next. Assumes nothing.
+use Rattle.std.specs.Prelude.{⊤, Result, Err}
 use mathlib.Core.Path.{◌≡◌, sym, ap, ap₂, ◌∙◌, subst}
 use mathlib.Core.Bool.{Bool, true, false, not}
 use mathlib.Core.List.{List, ◌∷◌, map}
 use Prim.Native.Nat.{ℕ, suc, ◌+◌, ◌-◌, ◌≤◌, ◌<◌}
-use native.Mathlib.Nat.{sub-zero, sub-eq-zero_of_le}
+use native.Mathlib.Nat.{sub-eq-zero_of_le}
 use native.Mathlib.Omega.{arith}
 use lib.ListN.{length, get_or, take, drop, drop_of_length-le}
 use borrow.Author.Tests.{not-true, not-false}
@@ -13,12 +14,10 @@ use Rattle.lists.specs.Lists.{Bytes, all, range}
 use Rattle.lists.proofs.Places.{drop-next}
 use Rattle.lists.proofs.Range.{range_cons, range-end}
 use Rattle.lists.proofs.Tests.{by_order}
-use Rattle.refusals.specs.Order.{◌or_else◌, refuse_if}
+use Rattle.refusals.specs.Order.{◌or_else◌, refuse_if, fine}
 use Rattle.refusals.specs.declared.Refusal.TheVariants as refusal
-use Rattle.refusals.specs.declared.Checked.{Checked}
-use Rattle.refusals.specs.declared.Checked.TheVariants.{Fine, Refused}
 use Rattle.refusals.proofs.Order.{or_else-assoc}
-use Rattle.blif_text.specs.Between.Places.{max_tokens, InText, token_of, tokens_of}
+use Rattle.blif_text.specs.Between.Places.{InText, token_of, tokens_of}
 use Rattle.blif_text.specs.Decls.{columns}
 use Rattle.blif_text.specs.Between.PlacedStatements.{RowTo}
 use Rattle.blif_text.specs.Between.Walk.{rows_from, Inside, RowsAt}
@@ -31,13 +30,14 @@ use Rattle.blif_read_covers.specs.declared.Output.{Output}
 use Rattle.blif_read_covers.specs.declared.Outputs.{Outputs}
 use Rattle.blif_read_covers.proofs.CoverLaws.{no_output, block-fault, latch-none, cover-lines, none_left}
 use Rattle.blif_read_covers.proofs.LineLaws.{lines_fault, LineIn, line-in, misfit, fitting, refuse_if-and}
+use Rattle.refusals.specs.declared.Refusal.{Refusal}
 
 -- the refusal of the whole pass
-abbrev pub whole : Bytes → List ℕ → ℕ → List ℕ → ℕ → Checked
+abbrev pub whole : Bytes → List ℕ → ℕ → List ℕ → ℕ → Result ⊤ Refusal
 whole text tokens n blocks g = cover_faults (defs_at text tokens n blocks g)
 
 -- the refusal of the covers from cover j on
-abbrev pub rest : Bytes → List ℕ → ℕ → List ℕ → ℕ → ℕ → Checked
+abbrev pub rest : Bytes → List ℕ → ℕ → List ℕ → ℕ → ℕ → Result ⊤ Refusal
 rest text tokens n blocks g j = cover_faults (map (def_at text tokens n blocks) (range j (g - j)))
 
 -- covers from cover j on are left
@@ -78,19 +78,11 @@ unfolding cover_faults
 rest-is text tokens n blocks g j h = ap (λ (l : List ℕ). cover_faults (map (def_at text tokens n blocks) l)) (range_cons g j h)
 
 module _ {text tokens : List ℕ} {n : ℕ} {blocks : List ℕ} {g : ℕ} where
-  pub start : Blocks text tokens n blocks g → Covers text tokens n blocks g 0
-  start b = record { places = b; within = omega arith; is = rw sub-zero }
-
   module _ {j : ℕ} where
     -- the pass ends
-    pub end-pass : g ≤ j → Covers text tokens n blocks g j → Fine ≡ whole text tokens n blocks g
+    pub end-pass : g ≤ j → Covers text tokens n blocks g j → fine ≡ whole text tokens n blocks g
     unfolding cover_faults
     end-pass h v = sym (v.is ∙ ap (λ (l : List ℕ). cover_faults (map (def_at text tokens n blocks) l)) (range-end g j h))
-
-    -- a block's names end among the tokens
-    pub names-end : j < g → Covers text tokens n blocks g j → {first names lines : ℕ}
-        → (first ≡ first_name blocks j) × (names ≡ name_count blocks j) × (lines ≡ line_count blocks j) → first + names ≤ max_tokens
-    names-end h v {first} {names} e = omega (arith, (v.places.each j h).cover_names, v.places.few, e.0, e.1)
 
     -- the next cover
     pub enter-cover : j < g → Covers text tokens n blocks g j → {first names lines l : ℕ}
@@ -110,7 +102,7 @@ module _ {text tokens : List ℕ} {n : ℕ} {blocks : List ℕ} {g : ℕ} where
           is =
               v.is
               ∙ rest-is text tokens n blocks g j h
-              ∙ ap (λ (x : Checked). x or_else rest text tokens n blocks g (j + 1))
+              ∙ ap (λ (x : Result ⊤ Refusal). x or_else rest text tokens n blocks g (j + 1))
               (sym (λ i. cover_fault (def_from text tokens n (e.0 i) (e.1 i) (e.2 i)))
               ∙ block-fault text tokens n first names lines (omega (arith, b.cover_names, v.places.places.room))
               ∙ ap (λ (m : ℕ). lines_fault (names - 1) no_output (take m (rows_from text tokens n (first + names)))) q);
@@ -127,10 +119,10 @@ module _ {text tokens : List ℕ} {n : ℕ} {blocks : List ℕ} {g : ℕ} where
       through h =
           v.is
           ∙ ap (λ (m : ℕ). lines_fault (names - 1) met (take m (rows_from text tokens n at)) or_else rest text tokens n blocks g (j + 1)) (sub-eq-zero_of_le h)
-          ∙ ap (λ (x : Checked). x or_else rest text tokens n blocks g (j + 1)) (none_left (names - 1) met)
+          ∙ ap (λ (x : Result ⊤ Refusal). x or_else rest text tokens n blocks g (j + 1)) (none_left (names - 1) met)
 
       -- the lines are through, and differ in output
-      pub lines-differ : lines ≤ k → {b : Bool} → b ≡ differ met → b ≡ true → Refused refusal.OutputsDiffer ≡ whole text tokens n blocks g
+      pub lines-differ : lines ≤ k → {b : Bool} → b ≡ differ met → b ≡ true → Err refusal.OutputsDiffer ≡ whole text tokens n blocks g
       unfolding ◌or_else◌ refuse_if
       lines-differ h e t = sym (through h ∙ ap (λ (x : Bool). refuse_if x refusal.OutputsDiffer or_else rest text tokens n blocks g (j + 1)) (sym e ∙ t))
 
@@ -187,12 +179,12 @@ module _ {text tokens : List ℕ} {n : ℕ} {blocks : List ℕ} {g : ℕ} where
         line-left = v.is ∙ ap (λ (x : List (List Bytes)). lines_fault (names - 1) met x or_else rest text tokens n blocks g (j + 1)) lines_are
 
         -- a line that does not fit ends the pass
-        pub line-misfits : not b ≡ true → Refused refusal.WrongCubeLine ≡ whole text tokens n blocks g
+        pub line-misfits : not b ≡ true → Err refusal.WrongCubeLine ≡ whole text tokens n blocks g
         unfolding ◌or_else◌
         line-misfits t =
             sym
             (line-left
-            ∙ ap (λ (x : Checked). x or_else rest text tokens n blocks g (j + 1))
+            ∙ ap (λ (x : Result ⊤ Refusal). x or_else rest text tokens n blocks g (j + 1))
             (misfit (names - 1) met (take (lines - (k + 1)) (rows_from text tokens n end)) line (fits-is ∙ not-true b t)))
 
         -- of a line that fits, all columns are left
@@ -207,7 +199,7 @@ module _ {text tokens : List ℕ} {n : ℕ} {blocks : List ℕ} {g : ℕ} where
               enough = omega (arith, v.enough h, ap length (part-rows (v.rows h) (line-there h) w));
               is =
                   line-left
-                  ∙ ap (λ (x : Checked). x or_else rest text tokens n blocks g (j + 1))
+                  ∙ ap (λ (x : Result ⊤ Refusal). x or_else rest text tokens n blocks g (j + 1))
                   (fitting (names - 1) met (take (lines - (k + 1)) (rows_from text tokens n end)) line (fits-is ∙ not-false b t)
                   ∙ ap₂
                   (λ (c : Bytes) (x : Output). refuse_if (not (all is_column c)) refusal.WrongCubeLine or_else lines_fault (names - 1) (with_output met x) (take (lines - (k + 1)) (rows_from text tokens n end)))
@@ -218,7 +210,7 @@ module _ {text tokens : List ℕ} {n : ℕ} {blocks : List ℕ} {g : ℕ} where
 
     module _ {names lines k end : ℕ} {met : Outputs} {cols : Bytes} {o : Output} {i : ℕ} (v : Columns text tokens n blocks g j names lines k end met cols o i) where
       -- what is behind the line
-      abbrev behind : Checked
+      abbrev behind : Result ⊤ Refusal
       behind = lines_fault (names - 1) (with_output met o) (take (lines - (k + 1)) (rows_from text tokens n end)) or_else rest text tokens n blocks g (j + 1)
 
       -- the columns from column i on: column i, then the others
@@ -230,24 +222,9 @@ module _ {text tokens : List ℕ} {n : ℕ} {blocks : List ℕ} {g : ℕ} where
           ∙ refuse_if-and (is_column (get_or cols i 0)) (all is_column (drop (i + 1) cols)) behind
 
       -- a wrong column ends the pass
-      pub bad-column : i < length cols → {b : Bool} → b ≡ is_column (get_or cols i 0) → not b ≡ true → Refused refusal.WrongCubeLine ≡ whole text tokens n blocks g
+      pub bad-column : i < length cols → {b : Bool} → b ≡ is_column (get_or cols i 0) → not b ≡ true → Err refusal.WrongCubeLine ≡ whole text tokens n blocks g
       unfolding ◌or_else◌ refuse_if
       bad-column h {b} e t = sym (columns-are h ∙ ap (λ (x : Bool). refuse_if (not x) refusal.WrongCubeLine or_else (refuse_if (not (all is_column (drop (i + 1) cols))) refusal.WrongCubeLine or_else behind)) (sym e ∙ not-true b t))
-
-      -- the next column
-      pub next-column : i < length cols → {b : Bool} → b ≡ is_column (get_or cols i 0) → not b ≡ false
-          → Columns text tokens n blocks g j names lines k end met cols o (i + 1)
-      unfolding ◌or_else◌ refuse_if
-      next-column h {b} e t =
-          record {
-            places = v.places;
-            cover = v.cover;
-            line = v.line;
-            named = v.named;
-            rows = v.rows;
-            enough = v.enough;
-            is = columns-are h ∙ ap (λ (x : Bool). refuse_if (not x) refusal.WrongCubeLine or_else (refuse_if (not (all is_column (drop (i + 1) cols))) refusal.WrongCubeLine or_else behind)) (sym e ∙ not-false b t);
-          }
 
       -- the columns are through: the next line
       pub end_line : length cols ≤ i → {more : Outputs} → more ≡ with_output met o → Lines text tokens n blocks g j names lines end more (k + 1)
@@ -266,4 +243,4 @@ module _ {text tokens : List ℕ} {n : ℕ} {blocks : List ℕ} {g : ℕ} where
                 ∙ ap (λ (x : Outputs). lines_fault (names - 1) x (take (lines - (k + 1)) (rows_from text tokens n end)) or_else rest text tokens n blocks g (j + 1)) (sym e);
           }
 
-pub ruleset steps = (start, enter-cover, end-pass, line-there, line-inside, last-there, line-some, lines-differ, lines-agree, line-misfits, enter-line, bad-column, next-column, end_line, rules)
+pub ruleset steps = (enter-cover, end-pass, line-there, line-inside, last-there, lines-differ, lines-agree, line-misfits, enter-line, bad-column, end_line, rules)

@@ -8,7 +8,7 @@ ghost use Rattle.blif_read_covers.specs.Between.Pass.{output_of, with_output, di
 
 use blif_text::{Block, block_at, line_columns, row_end, token};
 use lists::equal;
-use refusals::{Checked, Refusal};
+use refusals::Refusal;
 
 // What a line's last token says of its output.
 #[derive(Clone, Copy)]
@@ -35,13 +35,7 @@ const NO_OUTPUT: Outputs = Outputs {
 fn is_column(b: u8) -> bool
     ensures { result ≡ is_column b }
 {
-    if b == b'0' {
-        return true;
-    }
-    if b == b'1' {
-        return true;
-    }
-    b == b'-'
+    matches!(b, b'0' | b'1' | b'-')
 }
 
 // The output that a line's last token names.
@@ -49,12 +43,12 @@ fn output_of(token: &[u8]) -> Output
     ensures { result ≡ output_of token.now }
 {
     if equal(token, b"0") {
-        return Output::Zero;
+        Output::Zero
+    } else if equal(token, b"1") {
+        Output::One
+    } else {
+        Output::Wrong
     }
-    if equal(token, b"1") {
-        return Output::One;
-    }
-    Output::Wrong
 }
 
 // One output more.
@@ -62,14 +56,8 @@ fn with_output(met: Outputs, output: Output) -> Outputs
     ensures { result ≡ with_output met output }
 {
     match output {
-        Output::Zero => Outputs {
-            zero: true,
-            one: met.one,
-        },
-        Output::One => Outputs {
-            zero: met.zero,
-            one: true,
-        },
+        Output::Zero => Outputs { zero: true, ..met },
+        Output::One => Outputs { one: true, ..met },
         Output::Wrong => met,
     }
 }
@@ -78,20 +66,14 @@ fn with_output(met: Outputs, output: Output) -> Outputs
 fn differ(met: Outputs) -> bool
     ensures { result ≡ differ met }
 {
-    if met.zero {
-        return met.one;
-    }
-    false
+    met.zero && met.one
 }
 
 // How many cube lines a block has; a latch, told by no name, has none.
 fn line_count(block: Block) -> usize
     ensures { result ≡ lines_in block.names block.lines }
 {
-    if block.names == 0 {
-        return 0;
-    }
-    block.lines
+    if block.names == 0 { 0 } else { block.lines }
 }
 
 // Whether a line of a cover of this many names has one or two tokens, a column for each name but the last, and an output.
@@ -99,54 +81,41 @@ fn line_fits(tokens: usize, columns: usize, names: usize, output: Output) -> boo
     requires { (0 < tokens) × (0 < names) }
     ensures { result ≡ fits tokens columns (names - 1) output }
 {
-    if 2 < tokens {
-        return false;
-    }
-    if columns != names - 1 {
-        return false;
-    }
-    match output {
-        Output::Wrong => false,
-        _ => true,
-    }
+    tokens <= 2 && columns == names - 1 && !matches!(output, Output::Wrong)
 }
 
 // The first refusal among the covers, if there is one: the first wrong column of the first wrong line ends the whole pass.
-pub fn check_covers(text: &[u8], tokens: &[u32], blocks: &[u32], g: usize) -> Checked
+pub fn check_covers(text: &[u8], tokens: &[u32], blocks: &[u32], g: usize) -> Result<(), Refusal>
     requires { Blocks text.now tokens.now (length tokens.now) blocks.now g }
     ensures { result ≡ cover_faults (defs_at text.now tokens.now (length tokens.now) blocks.now g) }
 {
     let mut j: usize = 0;
     'pass: loop {
         if j >= g {
-            break 'pass Checked::Fine;
+            break 'pass Ok(());
         }
         let block = block_at(blocks, j);
         let lines = line_count(block);
         let mut at = block.first + block.names;
         let mut met = NO_OUTPUT;
-        let mut k: usize = 0;
-        while k < lines {
+        for _ in 0..lines {
             let end = row_end(tokens, at);
             let row = &tokens[at..end];
             let columns = line_columns(text, row);
             let output = output_of(token(text, row[row.len() - 1]));
             if !line_fits(row.len(), columns.len(), block.names, output) {
-                break 'pass Checked::Refused(Refusal::WrongCubeLine);
+                break 'pass Err(Refusal::WrongCubeLine);
             }
-            let mut i: usize = 0;
-            while i < columns.len() {
-                if !is_column(columns[i]) {
-                    break 'pass Checked::Refused(Refusal::WrongCubeLine);
+            for &column in columns {
+                if !is_column(column) {
+                    break 'pass Err(Refusal::WrongCubeLine);
                 }
-                i += 1;
             }
             met = with_output(met, output);
             at = end;
-            k += 1;
         }
         if differ(met) {
-            break 'pass Checked::Refused(Refusal::OutputsDiffer);
+            break 'pass Err(Refusal::OutputsDiffer);
         }
         j += 1;
     }

@@ -1,8 +1,9 @@
 -- The gates of one block: a latch, or a cover by its places. Assumes nothing.
+use Rattle.refusals.specs.Order.{fine}
 use mathlib.Core.Path.{◌≡◌, sym, ap, ◌∙◌, subst}
 use mathlib.Core.Bool.{true, not}
 use mathlib.Core.List.{List}
-use Prim.Native.Nat.{ℕ, zero, suc, ◌+◌, ◌-◌, ◌≤◌}
+use Prim.Native.Nat.{ℕ, ◌+◌, ◌-◌}
 use native.Mathlib.Omega.{arith}
 use lib.ListN.{length, take}
 use lib.Seq.{slice, length-take-le}
@@ -10,16 +11,14 @@ use borrow.Author.Tests.{not-false}
 use Rattle.lists.specs.Lists.{Bytes, all}
 use Rattle.network.specs.Record.{count_at}
 use Rattle.blif_text.specs.Decls.{Def, cover}
-use Rattle.blif_text.specs.Between.Places.{max_tokens, tokens_of}
+use Rattle.blif_text.specs.Between.Places.{tokens_of}
 use Rattle.blif_text.specs.Between.Walk.{rows_from}
 use Rattle.blif_text.specs.Between.Blocks.{first_name, name_count, line_count, def_from, def_at, BlockIn, Blocks}
 use Rattle.blif_text.proofs.BlockLaws.{cover-from}
 use Rattle.blif_reading.specs.Read.{good_line, added, cover_fault}
 use Rattle.refusals.specs.declared.Refusal.TheVariants as refusal
-use Rattle.refusals.specs.declared.Checked.TheVariants.{Fine}
 use Rattle.refusals.proofs.Order.{or_else-left, fine-refuse_if}
-use Rattle.blif_read_gates.specs.Between.Steps.{GoodRows, CoverRoom, CoverBuilt, BlockRoom, BlockBuilt}
-use Rattle.blif_read_gates.proofs.GateLaws.{kept-none}
+use Rattle.blif_read_gates.specs.Between.Steps.{GoodRows, CoverBuilt, BlockRoom, BlockBuilt}
 
 -- the cells of block j's record are these
 abbrev pub Cells : List ℕ → ℕ → ℕ → ℕ → ℕ → Type 0
@@ -30,26 +29,8 @@ def_is : (text tokens : List ℕ) (n : ℕ) (blocks : List ℕ) (j first names l
     → def_at text tokens n blocks j ≡ def_from text tokens n first names lines
 def_is text tokens n blocks j first names lines e = rw (e.0, e.1, e.2)
 
--- a latch's gate stays
-latch-stays : (text tokens : List ℕ) (n first names lines : ℕ) {j next at : ℕ} {gates pins_in : List ℕ} → names ≡ 0
-    → BlockBuilt (def_from text tokens n first names lines) j next at gates pins_in gates pins_in next at
-latch-stays text tokens n first zero lines e =
-    record {
-      kept = kept-none;
-      counted = omega arith;
-      end = omega arith;
-      main = λ signal_of g. g;
-      more = λ signal_of g i y q. absurd (let z : ◌≡◌ {A = ℕ} 0 1 = cc in omega arith);
-    }
-latch-stays text tokens n first (suc k) lines e = absurd (omega arith)
-
-pub latch-built : (text tokens : List ℕ) (n : ℕ) (blocks : List ℕ) {first names lines : ℕ} {j next at : ℕ} {gates pins_in : List ℕ} → names ≡ 0 → Cells blocks j first names lines
-    → BlockBuilt (def_at text tokens n blocks j) j next at gates pins_in gates pins_in next at
-latch-built text tokens n blocks {first} {names} {lines} {j} {next} {at} {gates} {pins_in} z e =
-    subst (λ (d : Def). BlockBuilt d j next at gates pins_in gates pins_in next at) (sym (def_is text tokens n blocks j first names lines e)) (latch-stays text tokens n first names lines z)
-
 -- no refusal 12
-pub cover-good : (ns : List Bytes) (ls : List (List Bytes)) → cover_fault (cover ns ls) ≡ Fine → all (good_line (length ns - 1)) ls ≡ true
+pub cover-good : (ns : List Bytes) (ls : List (List Bytes)) → cover_fault (cover ns ls) ≡ fine → all (good_line (length ns - 1)) ls ≡ true
 unfolding cover_fault
 cover-good ns ls e = not-false (all (good_line (length ns - 1)) ls) (fine-refuse_if (not (all (good_line (length ns - 1)) ls)) refusal.WrongCubeLine (or_else-left _ _ e))
 
@@ -57,10 +38,6 @@ module _ {text tokens : List ℕ} {n : ℕ} {blocks : List ℕ} {j first names l
     (bs : Blocks text tokens n blocks (j + 1)) (e : Cells blocks j first names lines) (room : BlockRoom (def_at text tokens n blocks j) j next at gates pins_in) where
   b : BlockIn text tokens n first names lines
   b = rw (e.0, e.1, e.2) (bs.each j (omega arith))
-
-  -- the names end among the tokens
-  pub cover-names : first + names ≤ max_tokens
-  cover-names = omega (arith, b.cover_names, bs.few)
 
   abbrev names_of : List Bytes
   names_of = tokens_of text (slice first (first + names) tokens)
@@ -84,17 +61,6 @@ module _ {text tokens : List ℕ} {n : ℕ} {blocks : List ℕ} {j first names l
         rows = b.behind (omega arith);
         enough = b.enough (omega arith);
         good = ap (λ (k : ℕ). all (good_line k) lines_of) here.counted ∙ cover-good names_of lines_of here.good;
-      }
-
-  -- there is room for its gates
-  pub cover-room : CoverRoom lines j next at gates pins_in
-  cover-room =
-      record {
-        room = here.room;
-        sources = omega (arith, here.sources, here.counted);
-        fits = rw (here.counted, ← lines_are) here.fits;
-        before = here.before;
-        low = rw (← lines_are) here.low;
       }
 
   -- and they are built

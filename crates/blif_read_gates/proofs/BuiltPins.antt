@@ -1,4 +1,5 @@
 -- The pins that building adds, with three for each latch, are those of the gates built. Assumes nothing.
+use Rattle.refusals.specs.Order.{fine}
 use mathlib.Core.Path.{◌≡◌, refl, sym, ap, ◌∙◌, subst}
 use mathlib.Core.Bool.{true}
 use mathlib.Core.List.{List, [], ◌∷◌, map}
@@ -8,7 +9,6 @@ use lib.ListN.{length, length-map}
 use Rattle.lists.specs.Lists.{Bytes, all, sum_of}
 use Rattle.lists.proofs.Counting.{sum-append}
 use Rattle.lists.proofs.Tests.{and_left, and_right}
-use Rattle.refusals.specs.declared.Checked.TheVariants.{Fine}
 use Rattle.refusals.proofs.Order.{or_else-left, or_else-right}
 use Rattle.signal.specs.Signal.{Signal}
 use Rattle.signal.specs.Cell.{sig_cell}
@@ -58,13 +58,13 @@ module _ (ss : List Signal) where
   cover-pins k (l ∷ m ∷ ls) g = omega (arith, run_long k (length (map line_of (l ∷ m ∷ ls))), length-map ls line_of, lines-pins (l ∷ m ∷ ls) g)
 
 module _ (signal_of : Bytes → Signal) where
-  def-pins : (k : ℕ) (d : Def) → cover_fault d ≡ Fine → pins_of (block_gate signal_of k (block_of d)) + sum_of pins_of (new_gates signal_of (block_of d)) ≡ built_pins d + latch_pins d
+  def-pins : (k : ℕ) (d : Def) → cover_fault d ≡ fine → pins_of (block_gate signal_of k (block_of d)) + sum_of pins_of (new_gates signal_of (block_of d)) ≡ built_pins d + latch_pins d
   def-pins k (latch l) e = refl
   def-pins k (cover ns ls) e =
       let wide : length ns - 1 ≡ length (map signal_of (cover_ins ns)) = sym (placed-long signal_of (cover ns ls)) in
       omega (arith, cover-pins (map signal_of (cover_ins ns)) k ls (subst (λ (n : ℕ). all (good_line n) ls ≡ true) wide (cover-good ns ls e)))
 
-  both-pins : (k : ℕ) (ds : List Def) → cover_faults ds ≡ Fine
+  both-pins : (k : ℕ) (ds : List Def) → cover_faults ds ≡ fine
       → sum_of pins_of (block_gates signal_of k (map block_of ds)) + sum_of pins_of (all_new_gates signal_of (map block_of ds)) ≡ sum_of built_pins ds + sum_of latch_pins ds
   unfolding cover_faults
   both-pins k [] e = refl
@@ -74,7 +74,7 @@ module _ (signal_of : Bytes → Signal) where
       (arith, def-pins k d (or_else-left (cover_fault d) (cover_faults ds) e), both-pins (k + length more) ds (or_else-right (cover_fault d) (cover_faults ds) e), sum-append pins_of more (all_new_gates signal_of (map block_of ds)))
 
   -- without refusal 12 or 13, whatever signals the names have
-  pub built-pins-are : (ds : List Def) → cover_faults ds ≡ Fine → sum_of (λ g. length (pins g)) (built_gates signal_of ds) ≡ sum_of built_pins ds + sum_of latch_pins ds
+  pub built-pins-are : (ds : List Def) → cover_faults ds ≡ fine → sum_of (λ g. length (pins g)) (built_gates signal_of ds) ≡ sum_of built_pins ds + sum_of latch_pins ds
   built-pins-are ds e =
       let n = length (map block_of ds) in
       sum-append pins_of (block_gates signal_of n (map block_of ds)) (all_new_gates signal_of (map block_of ds)) ∙ both-pins n ds e

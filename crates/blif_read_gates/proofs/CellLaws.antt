@@ -2,11 +2,11 @@
 use mathlib.Core.Path.{◌≡◌, refl, sym, ap, ap₂, ◌∙◌}
 use mathlib.Core.Bool.{Bool, true, false, not, cond}
 use mathlib.Core.List.{List, [], ◌∷◌, ◌++◌, map}
-use Prim.Native.Nat.{ℕ, zero, suc, ◌+◌, ◌%◌, ◌^◌, ◌≤◌, ◌<◌}
+use Prim.Native.Nat.{ℕ, ◌+◌, ◌%◌, ◌^◌, ◌≤◌, ◌<◌}
 use native.Mathlib.Omega.{arith}
 use lib.Dec.{eqb}
 use lib.ListN.{length, get_or, take, drop, length-append, length-map}
-use lib.Seq.{take-take, get_or-take, drop-cons}
+use lib.Seq.{take-take, get_or-take}
 use borrow.Author.Tests.{eq-eqb, ne_eqb}
 use Rattle.lists.specs.Lists.{Bytes}
 use Rattle.lists.specs.Between.Lists.{overwrite_at}
@@ -131,13 +131,6 @@ hand-many one at count ps h l =
     let n : length (take count (drop at ps)) ≡ count = length_run at count ps l in
     ap (λ (k : ℕ). G.Nary (cond one N.And N.Nand) (record { first = at; count = k })) (sym n)
     ∙ hand-many₀ one at (take count (drop at ps)) (omega (arith, n))
-
-pub hand-single : (one : Bool) (at count : ℕ) (ps : List ℕ) {a : ℕ} → count ≤ 1 → at < length ps → a ≡ single_cell one count (get_or ps at 0)
-    → G.Buf (record { a = a }) ≡ line_in_hand one at (take count (drop at ps))
-hand-single one at zero ps h l e = ap (λ (c : ℕ). G.Buf (record { a = c })) e
-hand-single one at (suc zero) ps h l e =
-    ap (λ (c : ℕ). G.Buf (record { a = c })) e ∙ ap (λ (s : List ℕ). line_in_hand one at (take 1 s)) (sym (drop-cons ps at 0 l))
-hand-single one at (suc (suc k)) ps h l e = absurd (omega arith)
 
 -- as many pins
 pub hand-long : (one : Bool) (at : ℕ) (cs : List ℕ) → pin_count (line_in_hand one at cs) ≡ length (line_cells one cs)

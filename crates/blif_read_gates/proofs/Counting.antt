@@ -1,4 +1,5 @@
 -- Gates and pins of definitions, counted, and the gates built of lists put together. Assumes nothing.
+use Rattle.refusals.specs.Order.{fine}
 use mathlib.Core.Path.{◌≡◌, refl, sym, ap, ap₂, ◌∙◌}
 use mathlib.Core.List.{List, [], ◌∷◌, ◌++◌, map, append_assoc}
 use mathlib.Core.Option.{some}
@@ -21,7 +22,6 @@ use Rattle.blif_reading.specs.Build.{line_gate, line_gates, block_gate, new_gate
 use Rattle.blif_reading.specs.Read.{gate_count, pin_count, added, cover_fault, cover_faults}
 use Rattle.blif_reading.specs.TextModel.{line_of, block_of}
 use Rattle.blif_reading.specs.Between.Working.{placed, placed_count}
-use Rattle.refusals.specs.declared.Checked.TheVariants.{Fine}
 use Rattle.refusals.proofs.Order.{or_else-left, or_else-right}
 use Rattle.blif_read_gates.specs.Between.Pins.{built_pins}
 use Rattle.blif_read_gates.specs.Between.Steps.{added_of, added_pins}
@@ -71,7 +71,7 @@ gates-split [] = refl
 gates-split (d ∷ ds) = omega (arith, gates-one d, gates-split ds)
 
 -- no definition has a fault
-pub no-fault : (ds : List Def) (j : ℕ) (d : Def) → cover_faults ds ≡ Fine → get_elem? ds j ≡ some d → cover_fault d ≡ Fine
+pub no-fault : (ds : List Def) (j : ℕ) (d : Def) → cover_faults ds ≡ fine → get_elem? ds j ≡ some d → cover_fault d ≡ fine
 unfolding cover_faults
 no-fault [] j d f e = absurd (let z : ◌≡◌ {A = ℕ} 0 1 = cc in omega arith)
 no-fault (x ∷ ds) zero d f e = let s : x ≡ d = cc in ap cover_fault (sym s) ∙ or_else-left (cover_fault x) (cover_faults ds) f
@@ -79,12 +79,12 @@ no-fault (x ∷ ds) (suc j) d f e = no-fault ds j d (or_else-right (cover_fault 
 
 -- ---- pins
 
-added-few : (d : Def) → cover_fault d ≡ Fine → built_pins d ≤ added_pins d
+added-few : (d : Def) → cover_fault d ≡ fine → built_pins d ≤ added_pins d
 added-few (latch l) e = omega arith
 added-few (cover ns ls) e = cover-few (length ns - 1) ls (cover-good ns ls e)
 
 -- the first j definitions add no more pins than they may
-pub built-few : (j : ℕ) (ds : List Def) → cover_faults ds ≡ Fine → sum_of built_pins (take j ds) ≤ sum_of added_pins (take j ds)
+pub built-few : (j : ℕ) (ds : List Def) → cover_faults ds ≡ fine → sum_of built_pins (take j ds) ≤ sum_of added_pins (take j ds)
 unfolding cover_faults
 built-few zero ds e = omega arith
 built-few (suc j) [] e = omega arith

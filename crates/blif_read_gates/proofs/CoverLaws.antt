@@ -15,7 +15,6 @@ use Rattle.signal.specs.Signal.{Signal, zero_s}
 use Rattle.signal.specs.Cell.{sig_cell}
 use Rattle.gates.specs.Gate.{OrN, AndN, Buf, Gate, Comb}
 use Rattle.network.specs.Sizes.{max_gates, max_pins}
-use Rattle.gates.specs.Between.Decode.{pin_count}
 use Rattle.gates.specs.declared.Gate as code
 use Rattle.gates.specs.declared.Gate.TheVariants as G
 use Rattle.gates.specs.declared.NaryType.TheVariants as N
@@ -110,16 +109,6 @@ module _ {text tokens : List ℕ} {n row count j next at : ℕ} {gates pins_in :
     omega (arith, join-pins count (count_at gates j), room.fits, room.room.pin_room),
     omega (arith, added-many count big, room.low),
   )
-
-  -- the gate that joins them can be put
-  pub joined-fit : (one : Bool) {x : code.Gate} → x ≡ join_in_hand one at count → RecordIn gates j × (at ≤ max_pins) × (pin_count x ≤ max_pins)
-  joined-fit one {x} e =
-      let k = join-pins count (count_at gates j) in
-      let n : pin_count x ≡ count = ap pin_count e in (
-        record-in {n = max_gates} (omega (arith, room.before, room.low)) room.room.gate_room,
-        omega (arith, room.fits),
-        omega (arith, n, k, room.fits),
-      )
 
   module _ (one : Bool) {source inputs : ℕ} {gates₁ pins₁ : List ℕ} (es : source ≡ first_at gates j) (ei : inputs ≡ count_at gates j)
       (eg : gates₁ ≡ overwrite_at (j * gate_width) (hand_record at (join_in_hand one at count)) gates) (ep : pins₁ ≡ overwrite_at at (join_cells next count) pins_in) where

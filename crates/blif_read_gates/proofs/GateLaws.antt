@@ -1,5 +1,5 @@
 -- Gates that stand in the cells while others are written. Assumes nothing.
-use mathlib.Core.Path.{◌≡◌, refl, sym, ap, ap₂, ◌∙◌, subst}
+use mathlib.Core.Path.{◌≡◌, sym, ap, ap₂, ◌∙◌, subst}
 use mathlib.Core.Bool.{Bool}
 use mathlib.Core.List.{List, map}
 use Prim.Native.Nat.{ℕ, ◌+◌, ◌*◌, ◌≤◌, ◌<◌}
@@ -32,10 +32,6 @@ pub gate-put : (gates pins_in : List ℕ) (at : ℕ) {gates' pins_in' t c : List
 gate-put gates pins_in at {h = h} x eg ep ec et er l fit = rw (eg, ep, ec, et, er) (gate-written gates pins_in at h x l (omega arith))
 
 -- ---- gates kept
-
--- nothing is written
-pub kept-none : {keep : ℕ → Type 0} {gates pins_in : List ℕ} {at : ℕ} → GatesKept keep gates pins_in at gates pins_in at
-kept-none = record { low = omega arith; front = refl; stay = λ h x k g. g }
 
 -- one step, then another
 pub kept_then : {keep : ℕ → Type 0} {gates pins_in gates' pins_in' gates'' pins_in'' : List ℕ} {at at' at'' : ℕ}
@@ -108,12 +104,6 @@ module _ (columns : Bytes) (one : Bool) (source at h : ℕ) {m : ℕ} (gates pin
           records = p.records ∙ ap (λ (y : code.Gate). overwrite_at (h * gate_width) (hand_record at y) gates) hand-is;
           end = p.end ∙ ap (λ (k : ℕ). at + k) hand-count;
         }
-
--- the same columns and output
-pub line-named : {columns columns' : Bytes} {one one' : Bool} {source at h : ℕ} {gates pins_in gates' pins_in' : List ℕ} {r : ℕ} → columns ≡ columns' → one ≡ one'
-    → LinePut columns one source at h gates pins_in gates' pins_in' r → LinePut columns' one' source at h gates pins_in gates' pins_in' r
-line-named {columns} {columns'} {one} {one'} {source} {at} {h} {gates} {pins_in} {gates'} {pins_in'} {r} a b p =
-    subst (λ (cs : Bytes). LinePut cs one' source at h gates pins_in gates' pins_in' r) a (subst (λ (o : Bool). LinePut columns o source at h gates pins_in gates' pins_in' r) b p)
 
 -- room for a line with as many columns
 pub room-wide : {width width' source at h : ℕ} {gates pins_in : List ℕ} → width ≡ width' → LineRoom width source at h gates pins_in → LineRoom width' source at h gates pins_in

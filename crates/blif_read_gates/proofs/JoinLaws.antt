@@ -5,7 +5,7 @@ use Prim.Native.Nat.{ℕ, zero, suc, ◌+◌, ◌-◌, ◌^◌, ◌≤◌, ◌<�
 use native.Mathlib.Omega.{arith}
 use lib.ListN.{length, set}
 use Rattle.lists.specs.Between.Lists.{overwrite_at}
-use Rattle.lists.proofs.Laying.{Laying, laying-start, laying-next, laying-done}
+use Rattle.lists.proofs.Laying.{Laying, laying-next, laying-done}
 use Rattle.signal.specs.Cell.{sig_cell}
 use Rattle.signal.specs.Between.Cell.{gate_cell}
 use Rattle.signal.proofs.Cells.{gate-cell}
@@ -20,12 +20,6 @@ join_cells k n = map sig_cell (gate_run k n)
 pub record Joining (pins₀ pins_in : List ℕ) (at next count i : ℕ) : Type 0 where
   pub within : i ≤ count
   pub laying : Laying (join_cells next count) pins₀ at (join_cells (next + i) (count - i)) pins_in (at + i)
-
-pub joining-start : {pins_in : List ℕ} {at next count : ℕ} → Joining pins_in pins_in at next count 0
-joining-start {pins_in} {at} {next} {count} =
-    let f : next + 0 ≡ next = omega arith in
-    let g : count - 0 ≡ count = omega arith in
-    record { within = omega arith; laying = laying-start (ap₂ join_cells f g) (omega arith) }
 
 pub joining-next : {pins₀ pins_in : List ℕ} {at next count i x : ℕ} → next + count ≤ max_gates → i < count → x ≡ gate_cell (next + i) → Joining pins₀ pins_in at next count i
     → Joining pins₀ (set pins_in (at + i) x) at next count (i + 1)

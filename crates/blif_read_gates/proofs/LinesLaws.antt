@@ -28,7 +28,7 @@ use Rattle.blif_read_gates.specs.Between.Pins.{line_pins}
 use Rattle.blif_read_gates.specs.Between.Steps.{LineRoom, LinePut, GoodRow, GoodRows, LinesRoom, LinesPut}
 use Rattle.blif_read_gates.proofs.CellLaws.{run-front}
 use Rattle.blif_read_gates.proofs.RowLaws.{row_tokens, row-wide}
-use Rattle.blif_read_gates.proofs.GateLaws.{kept-none, kept_then, kept-some, room-wide, line_kept, line_same, line-gate}
+use Rattle.blif_read_gates.proofs.GateLaws.{kept_then, kept-some, room-wide, line_kept, line_same, line-gate}
 use Rattle.blif_read_gates.proofs.PinLaws.{line-pins, lines-few}
 
 -- a place of two lists is one of the first, or of the second
@@ -42,10 +42,6 @@ append-place (a ∷ l) m (suc i) y e = ⊎_elim inl (λ p. inr (p.0, omega (arit
 pub one_place : {A : Type 0} (x : A) (k : ℕ) (y : A) → get_elem? (x ∷ []) k ≡ some y → (k ≡ 0) × (x ≡ y)
 one_place x zero y e = (refl, cc)
 one_place x (suc k) y e = absurd (let z : ◌≡◌ {A = ℕ} 0 1 = cc in omega arith)
-
--- no line yet
-pub lines_none : {inputs source at next : ℕ} {gates pins_in : List ℕ} → LinesPut [] inputs source at next gates pins_in gates pins_in at
-lines_none = record { kept = kept-none; end = omega arith; each = λ ss e i y q. absurd (let z : ◌≡◌ {A = ℕ} 0 1 = cc in omega arith) }
 
 -- one line more
 module _ {ls : List (List Bytes)} {inputs source start next at r : ℕ} {gates₀ pins₀ gates pins_in gates' pins_in' : List ℕ} (x : List Bytes) (before : source + inputs ≤ start)
@@ -89,10 +85,6 @@ pub record Putting (text tokens : List ℕ) (n first count inputs : ℕ) (gates�
   pub same-gates : length gates ≡ length gates₀
   pub same-pins : length pins_in ≡ length pins₀
   pub put : LinesPut (take i (rows_from text tokens n first)) inputs source start next gates₀ pins₀ gates pins_in at
-
-pub putting-start : {text tokens : List ℕ} {n first count inputs : ℕ} {gates : List ℕ} {next : ℕ} {pins_in : List ℕ} {source start : ℕ} → GoodRows text tokens n first count inputs
-    → Putting text tokens n first count inputs gates next pins_in source start gates pins_in first start 0
-putting-start g = record { within = omega arith; rows = g.rows; left = refl; same-gates = refl; same-pins = refl; put = lines_none }
 
 module _ {text tokens : List ℕ} {n first count inputs : ℕ} {gates₀ : List ℕ} {next : ℕ} {pins₀ : List ℕ} {source start : ℕ} {gates pins_in : List ℕ} {row at i : ℕ}
     (g : GoodRows text tokens n first count inputs) (room : LinesRoom inputs count source start next gates₀ pins₀)

@@ -1,8 +1,8 @@
--- Literals written one after the other, and the pins of a line's gate. Assumes nothing.
+-- Literals written one after the other. Assumes nothing.
 use mathlib.Core.Path.{◌≡◌, refl, sym, ap, ap₂, ◌∙◌}
-use mathlib.Core.Bool.{Bool, true, false, cond}
+use mathlib.Core.Bool.{true, false}
 use mathlib.Core.List.{List, [], ◌∷◌, ◌++◌}
-use Prim.Native.Nat.{ℕ, zero, suc, ◌+◌, ◌≤◌, ◌<◌}
+use Prim.Native.Nat.{ℕ, ◌+◌, ◌≤◌, ◌<◌}
 use native.Mathlib.Omega.{arith}
 use lib.Dec.{eqb}
 use lib.ListN.{length, get_or, take, drop, set, length-append, drop_of_length-le}
@@ -11,11 +11,9 @@ use borrow.Author.Tests.{eq-eqb, ne_eqb}
 use Rattle.lists.specs.Lists.{Bytes}
 use Rattle.lists.specs.Between.Lists.{overwrite_at}
 use Rattle.lists.proofs.OverAt.{overwrite_at-nil}
-use Rattle.lists.proofs.Laying.{one_store, Laying, laying-start, laying-more, laying-done}
+use Rattle.lists.proofs.Laying.{one_store, Laying, laying-more, laying-done}
 use Rattle.lists.proofs.Places.{drop-next, length_run}
-use Rattle.signal.specs.Signal.{zero_s, xor_s}
-use Rattle.signal.specs.Cell.{sig_cell, sig_of}
-use Rattle.blif_read_gates.specs.Between.Steps.{turn_cell, column_cells, literal_cells, literals_at, single_cell}
+use Rattle.blif_read_gates.specs.Between.Steps.{turn_cell, column_cells, literal_cells, literals_at}
 use Rattle.blif_read_gates.proofs.CellLaws.{overwrite-front, front_at, front_less, one-literal}
 
 -- ---- one column
@@ -55,18 +53,7 @@ pub record Writing (columns pins₀ pins_in : List ℕ) (source at m i : ℕ) : 
   pub laying : Laying (literals_at columns source pins₀) pins₀ at (literal_cells (drop i columns) (drop i (sources_of columns pins₀ source))) pins_in (at + m)
   pub counted : m + length (literal_cells (drop i columns) (drop i (sources_of columns pins₀ source))) ≡ length (literals_at columns source pins₀)
 
-pub writing_start : {columns pins_in : List ℕ} {source at : ℕ} → Writing columns pins_in pins_in source at 0 0
-writing_start = record { within = omega arith; few = omega arith; front = refl; laying = laying-start refl (omega arith); counted = omega arith }
-
 module _ {columns pins₀ pins_in : List ℕ} {source at m i : ℕ} (before : source + length columns ≤ at) (room : at + length columns ≤ length pins₀) (w : Writing columns pins₀ pins_in source at m i) where
-  -- the literal's pin is there
-  pub writing-room : i < length columns → at + m < length pins_in
-  writing-room l = omega (arith, w.few, w.laying.kept)
-
-  -- so is its source's
-  pub writing-source : i < length columns → source + i < length pins_in
-  writing-source l = omega (arith, w.laying.kept)
-
   module _ (l : i < length columns) where
     abbrev src : List ℕ
     src = sources_of columns pins₀ source
@@ -108,15 +95,3 @@ module _ {columns pins₀ pins_in : List ℕ} {source at m i : ℕ} (before : so
       let e : drop i columns ≡ [] = drop_of_length-le columns h in
       let z : literal_cells (drop i columns) (drop i (sources_of columns pins₀ source)) ≡ [] = ap (λ (b : List ℕ). literal_cells b (drop i (sources_of columns pins₀ source))) e in
       (laying-done w.laying z, omega (arith, w.counted, ap length z))
-
--- ---- the pins of a line's gate
-
--- a line without literals
-pub single-none : (one : Bool) (count literal z x : ℕ) → count ≡ 0 → z ≡ sig_cell zero_s → x ≡ sig_cell (xor_s (sig_of z) one) → x ≡ single_cell one count literal
-single-none true count literal z x e d q = q ∙ ap (λ (y : ℕ). sig_cell (xor_s (sig_of y) true)) d ∙ ap (λ (n : ℕ). single_cell true n literal) (sym e)
-single-none false count literal z x e d q = q ∙ ap (λ (y : ℕ). sig_cell (xor_s (sig_of y) false)) d ∙ ap (λ (n : ℕ). single_cell false n literal) (sym e)
-
--- a line with a literal
-pub single-some : (one : Bool) (count literal : ℕ) → (count ≡ 0 → ⊥) → single_cell one count literal ≡ cond one literal (turn_cell literal)
-single-some one zero literal n = absurd (n refl)
-single-some one (suc m) literal n = refl

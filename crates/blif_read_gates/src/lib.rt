@@ -60,15 +60,17 @@ fn write_literal(column: u8, source: u32, pins: &mut [u32], at: usize) -> usize
     ensures { (pins.new ≡ overwrite_at at (column_cells column source) pins.old)
         × (result ≡ length (column_cells column source)) }
 {
-    if column == b'0' {
-        pins[at] = Signal { a: source }.not().raw();
-        return 1;
+    match column {
+        b'0' => {
+            pins[at] = Signal { a: source }.not().raw();
+            1
+        }
+        b'1' => {
+            pins[at] = source;
+            1
+        }
+        _ => 0,
     }
-    if column == b'1' {
-        pins[at] = source;
-        return 1;
-    }
-    0
 }
 
 // Writes the literals of a line from pin at on; its sources are the pins from source on. Answers how many are written.
@@ -78,11 +80,9 @@ fn write_literals(columns: &[u8], pins: &mut [u32], source: usize, at: usize) ->
         × (result ≡ length (literals_at columns.now source pins.old)) }
 {
     let mut m = 0;
-    let mut i = 0;
-    while i < columns.len() {
+    for (i, column) in columns.iter().enumerate() {
         let cell = pins[source + i];
-        m += write_literal(columns[i], cell, pins, at + m);
-        i += 1;
+        m += write_literal(*column, cell, pins, at + m);
     }
     m
 }
@@ -97,9 +97,10 @@ fn single_pin(count: usize, pins: &[u32], at: usize, one: bool) -> u32
     }
     let literal = pins[at];
     if one {
-        return literal;
+        literal
+    } else {
+        Signal { a: literal }.not().raw()
     }
-    Signal { a: literal }.not().raw()
 }
 
 // The gate of a line, whose literals stand from pin at on.
@@ -108,26 +109,21 @@ fn line_gate(count: usize, pins: &[u32], at: usize, one: bool) -> Gate
     ensures { result ≡ line_in_hand one at (take count (drop at pins.now)) }
 {
     if count > 1 {
-        let run = PinRun { first: at, count };
-        if one {
-            return Gate::Nary(NaryType::And, run);
-        }
-        return Gate::Nary(NaryType::Nand, run);
+        let kind = if one { NaryType::And } else { NaryType::Nand };
+        Gate::Nary(kind, PinRun { first: at, count })
+    } else {
+        Gate::Buf(Signal {
+            a: single_pin(count, pins, at, one),
+        })
     }
-    Gate::Buf(Signal {
-        a: single_pin(count, pins, at, one),
-    })
 }
 
 // The gate that joins lines, whose gates' signals stand from pin at on.
 fn join_gate(one: bool, at: usize, count: usize) -> Gate
     ensures { result ≡ join_in_hand one at count }
 {
-    let run = PinRun { first: at, count };
-    if one {
-        return Gate::Nary(NaryType::Or, run);
-    }
-    Gate::Nary(NaryType::And, run)
+    let kind = if one { NaryType::Or } else { NaryType::And };
+    Gate::Nary(kind, PinRun { first: at, count })
 }
 
 // Lays a line's gate as gate h, its pins from pin at on. Answers the pins' end.
@@ -183,10 +179,8 @@ fn put_joins(pins: &mut [u32], at: usize, next: usize, count: usize)
     requires { (at + count ≤ length pins.old) × (next + count ≤ max_gates) }
     ensures { pins.new ≡ overwrite_at at (map sig_cell (gate_run next count)) pins.old }
 {
-    let mut k = 0;
-    while k < count {
+    for k in 0..count {
         pins[at + k] = Signal::from_var((next + k) as u32).raw();
-        k += 1;
     }
 }
 
@@ -209,13 +203,11 @@ fn build_lines(
 {
     let mut row = lines.row;
     let mut at = built.pins;
-    let mut k = 0;
-    while k < lines.count {
+    for k in 0..lines.count {
         let end = row_end(tokens, row);
         let line = &tokens[row..end];
         at = put_row(text, line, sources, gates, built.gates + k, pins, at);
         row = end;
-        k += 1;
     }
     at
 }
@@ -269,27 +261,25 @@ fn build_cover(
         built.gates built.pins gates.old pins.old
         gates.new pins.new result }
 {
-    if lines.count == 0 {
-        return lay_gate(gates, j, pins, built.pins, Gate::Buf(Signal::zero()));
+    match lines.count {
+        0 => lay_gate(gates, j, pins, built.pins, Gate::Buf(Signal::zero())),
+        1 => {
+            let sources = sources_at(gates, j);
+            let row = lines.row;
+            let end = row_end(tokens, row);
+            let line = &tokens[row..end];
+            put_row(text, line, sources, gates, j, pins, built.pins)
+        }
+        _ => join_lines(text, tokens, lines, j, gates, pins, built),
     }
-    if lines.count > 1 {
-        return join_lines(text, tokens, lines, j, gates, pins, built);
-    }
-    let sources = sources_at(gates, j);
-    let row = lines.row;
-    let end = row_end(tokens, row);
-    let line = &tokens[row..end];
-    put_row(text, line, sources, gates, j, pins, built.pins)
 }
 
 // How many gates a cover with this many lines adds.
+#[tactic(auto, unfolding(blif_reading::specs::Read::added))]
 fn new_gates(count: usize) -> usize
     ensures { result ≡ added count }
 {
-    if count > 1 {
-        return count;
-    }
-    0
+    if count > 1 { count } else { 0 }
 }
 
 // Builds the gates of block j: a latch's gate stays.
@@ -342,10 +332,8 @@ pub fn build_covers(
         gates: g,
         pins: used,
     };
-    let mut j = 0;
-    while j < g {
+    for j in 0..g {
         built = build_block(text, tokens, blocks, j, gates, pins, built);
-        j += 1;
     }
     built
 }

@@ -1,4 +1,5 @@
 -- The walk that enters names and places blocks, declaration by declaration. Assumes nothing.
+use Rattle.std.specs.Prelude.{⊤, Result, Ok, Err}
 use mathlib.Core.Path.{◌≡◌, refl, sym, ap, ◌∙◌, subst}
 use mathlib.Core.Bool.{false, not}
 use mathlib.Core.List.{List, [], ◌∷◌, ◌++◌, map, map-append}
@@ -16,19 +17,16 @@ use Rattle.blif_declarations.specs.Between.Declarations.{NextIs}
 use Rattle.blif_declarations.specs.declared.Declaration.TheVariants as next
 use Rattle.name_index.specs.Between.Search.{Entry}
 use Rattle.name_index.specs.Between.Index.{entry_count, entries_of, Index}
-use Rattle.refusals.specs.Order.{◌or_else◌, refuse_if}
+use Rattle.refusals.specs.Order.{◌or_else◌, refuse_if, fine}
 use Rattle.refusals.specs.declared.Refusal.TheVariants as refusal
-use Rattle.refusals.specs.declared.Checked.{Checked}
-use Rattle.refusals.specs.declared.Checked.TheVariants.{Fine, Refused}
 use Rattle.blif_reading.specs.Read.{naming}
 use Rattle.blif_read_names.specs.Between.Entries.{input_entries}
 use Rattle.blif_read_names.specs.Between.Naming.{names_in, InputsEntered, seen, walk_at, step_of, TablesTo, NamingSoFar, Steps, stops, goes}
 use Rattle.blif_read_names.specs.declared.Walk.{Walk}
-use Rattle.blif_read_names.specs.declared.Step.{Step}
-use Rattle.blif_read_names.specs.declared.Step.TheVariants as step
 use Rattle.blif_reading.proofs.SizeLimits.{sizes-within}
 use Rattle.blif_read_names.proofs.Tabling.{inside-more, tabled-model, tabled-end, tabled-inputs, tabled-outputs, outputs-few}
 use Rattle.blif_read_names.proofs.Refusing.{naming-model, naming-end, naming-inputs, naming-outputs}
+use Rattle.refusals.specs.declared.Refusal.{Refusal}
 
 -- ---- names of entries
 
@@ -58,8 +56,8 @@ module _ {text tokens : List ℕ} {n : ℕ} (run : Run) (p : Inside text tokens 
 -- ---- the walk goes on
 
 -- the step of a checked declaration, of what the check gave
-pub step_is : {s : Step} {b k : Checked} (w : Walk) → s ≡ step_of b w → b ≡ k → step_of k w ≡ s
-step_is w e q = sym (e ∙ ap (λ (x : Checked). step_of x w) q)
+pub stepped : {b k r : Result ⊤ Refusal} (w : Walk) → b ≡ k → b ≡ r → step_of k w ≡ step_of r w
+stepped w e q = ap (λ (x : Result ⊤ Refusal). step_of x w) (sym e ∙ q)
 
 module _ {text tokens : List ℕ} {n : ℕ} {index out blocks : List ℕ} {v : Walk} (c : NamingSoFar text tokens n index out blocks v) where
   -- the walk at another place, with these tables
@@ -89,12 +87,12 @@ module _ {text tokens : List ℕ} {n : ℕ} {index out blocks : List ℕ} {v : W
   left_as e = c.left ∙ ap (naming (seen v) (names_in text index (v.inputs + v.gates))) e
 
   -- a declaration is passed: its refusal counts, or the walk goes on
-  pub step-on : {index' out' blocks' : List ℕ} (b rest : Checked) (w : Walk) → v.at < w.at → naming false [] (decls (stmts_from text tokens n 0)) ≡ (b or_else rest)
-      → (b ≡ Fine → naming false [] (decls (stmts_from text tokens n 0)) ≡ rest → NamingSoFar text tokens n index' out' blocks' w)
+  pub step-on : {index' out' blocks' : List ℕ} (b rest : Result ⊤ Refusal) (w : Walk) → v.at < w.at → naming false [] (decls (stmts_from text tokens n 0)) ≡ (b or_else rest)
+      → (b ≡ fine → naming false [] (decls (stmts_from text tokens n 0)) ≡ rest → NamingSoFar text tokens n index' out' blocks' w)
       → Steps text tokens n index' out' blocks' v (step_of b w)
   unfolding ◌or_else◌
-  step-on Fine rest w h e g = goes h (g refl e)
-  step-on (Refused r) rest w h e g = stops e
+  step-on (Ok _) rest w h e g = goes h (g refl e)
+  step-on (Err r) rest w h e g = stops e
 
   module _ {behind : ℕ} {run : Run} where
     pub inputs_are : NextIs text tokens n v.at (next.Inputs run) behind
@@ -115,7 +113,7 @@ module _ {text tokens : List ℕ} {n : ℕ} {index out blocks : List ℕ} {v : W
 
   module _ (h : v.at < n) {behind : ℕ} where
     -- none is left
-    pub go-none : NextIs text tokens n v.at next.None behind → Steps text tokens n index out blocks v (step.Next (walk_at v behind))
+    pub go-none : NextIs text tokens n v.at next.None behind → Steps text tokens n index out blocks v (Ok (walk_at v behind))
     go-none x = goes x.low (on _ x.rest refl refl (left_as x.are) (tabled-as x.are))
 
     -- "7 at a second `.model`"
@@ -136,7 +134,7 @@ module _ {text tokens : List ℕ} {n : ℕ} {index out blocks : List ℕ} {v : W
         step-on _ _ _ x.low q (λ z e. on _ x.rest refl refl e (tabled-end (tabled-as x.are)))
 
     -- "10 when a name is defined twice by inputs"
-    pub go-inputs : {run : Run} {index' : List ℕ} {b : Checked} → NextIs text tokens n v.at (next.Inputs run) behind
+    pub go-inputs : {run : Run} {index' : List ℕ} {b : Result ⊤ Refusal} → NextIs text tokens n v.at (next.Inputs run) behind
         → InputsEntered text (lent tokens run) index (entry_count index) v.inputs index' b
         → Steps text tokens n index' out blocks v
         (step_of b (record { at = behind; models = v.models; inputs = v.inputs + run.count; gates = v.gates; outputs = v.outputs }))
@@ -149,7 +147,7 @@ module _ {text tokens : List ℕ} {n : ℕ} {index out blocks : List ℕ} {v : W
         let m = lent_length run x.rest.rows.places x.places in
         let k : v.inputs + v.gates + length cs ≡ v.inputs + run.count + v.gates = omega (arith, m) in
         let rest = naming (seen v) (names_in text index (v.inputs + v.gates) ++ ns) l in
-        let q = left_as (inputs_are x) ∙ naming-inputs (seen v) (names_in text index (v.inputs + v.gates)) l ns ∙ ap (λ (y : Checked). y or_else rest) (sym e.refused) in
+        let q = left_as (inputs_are x) ∙ naming-inputs (seen v) (names_in text index (v.inputs + v.gates)) l ns ∙ ap (λ (y : Result ⊤ Refusal). y or_else rest) (sym e.refused) in
         step-on b rest _ x.low q
         (λ z left.
         let a : entries_of text index' (v.inputs + run.count + v.gates) ≡ entries_of text index (v.inputs + v.gates) ++ input_entries v.inputs ns =
@@ -164,12 +162,12 @@ module _ {text tokens : List ℕ} {n : ℕ} {index out blocks : List ℕ} {v : W
     pub go-outputs : {run : Run} {out' : List ℕ} → NextIs text tokens n v.at (next.Outputs run) behind
         → take (v.outputs + length (lent tokens run)) out' ≡ take v.outputs out ++ lent tokens run → length out' ≡ length out
         → Steps text tokens n index out' blocks v
-        (step.Next (record { at = behind; models = v.models; inputs = v.inputs; gates = v.gates; outputs = v.outputs + run.count }))
+        (Ok (record { at = behind; models = v.models; inputs = v.inputs; gates = v.gates; outputs = v.outputs + run.count }))
     go-outputs {run} {out'} x e p =
         let cs = lent tokens run in
         let t = tabled-as (outputs-are x) in
         let w : ℕ → Walk = λ m. record { at = behind; models = v.models; inputs = v.inputs; gates = v.gates; outputs = v.outputs + m } in
-        subst (λ (m : ℕ). Steps text tokens n index out' blocks v (step.Next (w m))) (lent_length run x.rest.rows.places x.places)
+        subst (λ (m : ℕ). Steps text tokens n index out' blocks v (Ok (w m))) (lent_length run x.rest.rows.places x.places)
         (goes x.low
         (on _ x.rest p refl (left_as (outputs-are x) ∙ naming-outputs (seen v) (names_in text index (v.inputs + v.gates)) (decls (stmts_from text tokens n behind)) (tokens_of text cs))
         (tabled-outputs cs t e (inside-more (lent-inside run x.rest.rows.places x.places) t.outputs-in e (omega (arith, outputs-fit x, p))))))

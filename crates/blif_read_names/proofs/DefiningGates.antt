@@ -1,4 +1,5 @@
 -- The walk that enters names and places blocks, at latches and covers. Assumes nothing.
+use Rattle.std.specs.Prelude.{⊤, Result, Err}
 use mathlib.Core.Path.{◌≡◌, refl, sym, ap, ◌∙◌, subst}
 use mathlib.Core.List.{List, [], ◌∷◌, ◌++◌}
 use Prim.Native.Nat.{ℕ, ◌+◌, ◌-◌, ◌*◌, ◌≤◌, ◌<◌}
@@ -24,16 +25,14 @@ use Rattle.blif_declarations.proofs.RowStarts.{names-length}
 use Rattle.name_index.specs.Between.Index.{entry_count, entries_of, Index}
 use Rattle.refusals.specs.Order.{◌or_else◌, refuse_if}
 use Rattle.refusals.specs.declared.Refusal.TheVariants as refusal
-use Rattle.refusals.specs.declared.Checked.{Checked}
 use Rattle.blif_reading.specs.Read.{gate_count, naming}
 use Rattle.blif_read_names.specs.Between.Naming.{names_in, GateDefined, seen, walk_at, gate_walk, step_of, LatchStep, CoverStep, NamingSoFar, Steps, stops}
 use Rattle.blif_read_names.specs.declared.Walk.{Walk}
-use Rattle.blif_read_names.specs.declared.Step.{Step}
-use Rattle.blif_read_names.specs.declared.Step.TheVariants as step
 use Rattle.blif_reading.proofs.SizeLimits.{sizes-within}
 use Rattle.blif_read_names.proofs.Tabling.{blocks_more, defs-more, tabled-gate, gate-few}
 use Rattle.blif_read_names.proofs.Refusing.{naming-latch, naming-empty, naming-cover}
 use Rattle.blif_read_names.proofs.Defining.{names_more, on, tabled-as, left_as, step-on}
+use Rattle.refusals.specs.declared.Refusal.{Refusal}
 
 -- each latch and cover is at least one gate
 pub defs-few : (gs : List Def) → length gs ≤ sum_of gate_count gs
@@ -72,7 +71,7 @@ cover-defines ns ls = refl
 
 module _ {text tokens : List ℕ} {n : ℕ} {index out blocks : List ℕ} {v : Walk} (c : NamingSoFar text tokens n index out blocks v) where
   -- a gate is defined
-  go-gate : {d : Def} {x : Bytes} {a k l at : ℕ} {b : Checked} {index' blocks' : List ℕ} → v.at < at → StmtsAt text tokens n at
+  go-gate : {d : Def} {x : Bytes} {a k l at : ℕ} {b : Result ⊤ Refusal} {index' blocks' : List ℕ} → v.at < at → StmtsAt text tokens n at
       → decls (stmts_from text tokens n v.at) ≡ gate d ∷ decls (stmts_from text tokens n at)
       → naming (seen v) (names_in text index (v.inputs + v.gates)) (gate d ∷ decls (stmts_from text tokens n at))
       ≡ (refuse_if (known x (names_in text index (v.inputs + v.gates))) refusal.DefinedTwice or_else naming (seen v) (names_in text index (v.inputs + v.gates) ++ (x ∷ [])) (decls (stmts_from text tokens n at)))
@@ -86,7 +85,7 @@ module _ {text tokens : List ℕ} {n : ℕ} {index out blocks : List ℕ} {v : W
       let t = tabled-as c e in
       let few = sizes-within (decls (stmts_from text tokens n 0)) c.small in
       let room : v.gates * 3 + 2 < length blocks = omega (arith, gate-few t, defs-few (defs (decls (stmts_from text tokens n 0))), few.gates, c.blocks-room) in
-      step-on c b _ _ h (left_as c e ∙ q ∙ ap (λ (w : Checked). w or_else naming (seen v) (names_in text index (v.inputs + v.gates) ++ (x ∷ [])) (decls (stmts_from text tokens n at))) (sym s.refused))
+      step-on c b _ _ h (left_as c e ∙ q ∙ ap (λ (w : Result ⊤ Refusal). w or_else naming (seen v) (names_in text index (v.inputs + v.gates) ++ (x ∷ [])) (decls (stmts_from text tokens n at))) (sym s.refused))
       (λ z left.
       let g = ap (entries_of text index') (sym m) ∙ s.added z in
       on c _ r refl p
@@ -94,7 +93,7 @@ module _ {text tokens : List ℕ} {n : ℕ} {index out blocks : List ℕ} {v : W
       (tabled-gate t y (subst (Index text index') m (s.index_is z)) g (blocks_more v.gates a k l room t.blocks-in (s.block-is z) i)
       (defs-more v.gates a k l room t.blocks-in (s.block-is z) ∙ ap (λ (w : Def). defs_at text tokens n blocks v.gates ++ (w ∷ [])) f)))
 
-  module _ (h : v.at < n) {behind : ℕ} {index' blocks' : List ℕ} {w : Step} where
+  module _ (h : v.at < n) {behind : ℕ} {index' blocks' : List ℕ} {w : Result Walk Refusal} where
     -- a latch
     pub go-latch : {run : Run} → NextIs text tokens n v.at (next.Latch run) behind
         → LatchStep text tokens index blocks index' blocks' (walk_at v behind) run w → length blocks' ≡ length blocks → Steps text tokens n index' out blocks' v w
@@ -124,7 +123,7 @@ module _ {text tokens : List ℕ} {n : ℕ} {index out blocks : List ℕ} {v : W
       -- a cover without names: "9 when `.names` is empty"
       cover-none : block.names ≡ 0 → Steps text tokens n index' out blocks' v w
       cover-none z =
-          let e : w ≡ step.Refused refusal.NamesEmpty = s.walk ∙ ap (λ (b : Checked). step_of b (gate_walk (walk_at v behind))) (s.cover.empty z) in
+          let e : w ≡ Err refusal.NamesEmpty = s.walk ∙ ap (λ (b : Result ⊤ Refusal). step_of b (gate_walk (walk_at v behind))) (s.cover.empty z) in
           subst (Steps text tokens n index' out blocks' v) (sym e)
           (stops (left_as c x.are
           ∙ naming-empty (seen v) (names_in text index (v.inputs + v.gates)) (decls (stmts_from text tokens n behind)) (names text tokens run) lines (names-length text tokens run there ∙ z)))

@@ -1,18 +1,18 @@
--- Names of inputs entered one after the other, names of outputs copied, and a gate defined. Assumes nothing.
+-- Names of inputs entered one after the other, and a gate defined. Assumes nothing.
+use Rattle.refusals.specs.Order.{fine}
+use Rattle.std.specs.Prelude.{Err}
 use mathlib.Core.Path.{◌≡◌, refl, sym, ap, ap₂, ◌∙◌, subst}
 use mathlib.Core.Bool.{Bool, true, false, ◌||◌}
-use mathlib.Core.List.{List, [], ◌∷◌, ◌++◌, map, map-append, append_assoc, append-nil}
+use mathlib.Core.List.{List, [], ◌∷◌, ◌++◌, map, map-append, append_assoc}
 use Prim.Native.Nat.{ℕ, suc, ◌+◌, ◌*◌, ◌≤◌, ◌<◌}
 use native.Mathlib.Omega.{arith}
 use native.Mathlib.Numerals.{add-one}
 use lib.ListN.{length, get_or, take, drop, length-map, drop_of_length-le}
-use lib.Seq.{length-take-le, take_all, take-suc, take-add}
+use lib.Seq.{length-take-le, take_all, take-suc}
 use borrow.Author.Tests.{not-true, not-false}
 use Rattle.lists.specs.Lists.{Bytes, known}
 use Rattle.lists.specs.Between.Lists.{overwrite_at}
-use Rattle.lists.proofs.OverAt.{run-before, run-overwrite_at}
 use Rattle.lists.proofs.Places.{drop-next}
-use Rattle.lists.proofs.Laying.{Laying, laying-done}
 use Rattle.signal.specs.Signal.{Input, plain}
 use Rattle.signal.specs.Cell.{sig_cell}
 use Rattle.signal.specs.Between.Cell.{gate_cell, input_cell}
@@ -24,7 +24,6 @@ use Rattle.name_index.specs.Between.Search.{Entry, entry}
 use Rattle.name_index.specs.Between.Index.{entry_count, entries_of, Index, Entered}
 use Rattle.name_index.proofs.IndexLaws.{index-counted}
 use Rattle.refusals.specs.declared.Refusal.TheVariants as refusal
-use Rattle.refusals.specs.declared.Checked.TheVariants.{Fine, Refused}
 use Rattle.refusals.proofs.Order.{refused-ne-fine, refuse_if-yes, refuse_if-no}
 use Rattle.blif_reading.specs.Read.{defined_twice}
 use Rattle.blif_read_names.specs.Between.Entries.{input_entries}
@@ -66,19 +65,6 @@ pub record Entering (text names index₀ : List ℕ) (inputs : ℕ) (index : Lis
   pub added : entries_of text index (entry_count index) ≡ entries_of text index₀ (entry_count index₀) ++ input_entries inputs (tokens_of text (take j names))
   pub left : defined_twice (names_in text index₀ (entry_count index₀)) (tokens_of text names) ≡ defined_twice (names_in text index (entry_count index)) (tokens_of text (drop j names))
 
--- before the first
-pub entering-start : {text names index : List ℕ} {inputs : ℕ} → InputsFit text names index inputs → Entering text names index inputs index 0
-entering-start {text} {names} {index} f =
-    record {
-      fits = f;
-      high = omega arith;
-      kept = refl;
-      index_is = f.index_is;
-      entered = omega arith;
-      added = sym (append-nil (entries_of text index (entry_count index)));
-      left = refl;
-    }
-
 module _ {text names index₀ : List ℕ} {inputs : ℕ} {index : List ℕ} {j : ℕ} (c : Entering text names index₀ inputs index j) where
   module _ (h : j < length names) {index' : List ℕ} {s : ℕ} {r : Bool} (e : Entered text index (entry_count index) (get_or names j 0) s index' r) where
     -- the name at j
@@ -90,7 +76,7 @@ module _ {text names index₀ : List ℕ} {inputs : ℕ} {index : List ℕ} {j :
     names-next = ap (tokens_of text) (drop-next names j 0 h)
 
     -- it is known
-    pub entering-known : r ≡ false → InputsEntered text names index₀ (entry_count index₀) inputs index' (Refused refusal.DefinedTwice)
+    pub entering-known : r ≡ false → InputsEntered text names index₀ (entry_count index₀) inputs index' (Err refusal.DefinedTwice)
     entering-known z =
         let k : known x (names_in text index (entry_count index)) ≡ true = not-false _ (sym e.new ∙ z) in
         record {
@@ -129,7 +115,7 @@ module _ {text names index₀ : List ℕ} {inputs : ℕ} {index : List ℕ} {j :
         }
 
   -- all are entered
-  pub entering-done : length names ≤ j → InputsEntered text names index₀ (entry_count index₀) inputs index Fine
+  pub entering-done : length names ≤ j → InputsEntered text names index₀ (entry_count index₀) inputs index fine
   entering-done h =
       let q : entry_count index ≡ entry_count index₀ + length names = omega (arith, c.entered, c.high) in
       let earlier = names_in text index (entry_count index) in
@@ -142,22 +128,12 @@ module _ {text names index₀ : List ℕ} {inputs : ℕ} {index : List ℕ} {j :
             ∙ ap (λ (y : List ℕ). entries_of text index₀ (entry_count index₀) ++ input_entries inputs (tokens_of text y)) (take_all j names h);
       }
 
--- ---- outputs
-
--- all names are copied
-pub copied : {names out₀ left out : List ℕ} {outputs k : ℕ} → Laying names out₀ outputs left out k → left ≡ [] → outputs + length names ≤ length out₀
-    → take (outputs + length names) out ≡ take outputs out₀ ++ names
-copied {names} {out₀} {outputs = outputs} c e h =
-    ap (take (outputs + length names)) (laying-done c e)
-    ∙ take-add outputs (length names) (overwrite_at outputs names out₀)
-    ∙ ap₂ (λ (x y : List ℕ). x ++ y) (run-before outputs names out₀ 0 outputs (omega arith)) (run-overwrite_at outputs names out₀ h)
-
 -- ---- a gate
 
 module _ {text index : List ℕ} {g cell : ℕ} {block : Block} {blocks : List ℕ} {index' : List ℕ} {s : ℕ} {r : Bool}
     (f : GateFits text index g cell block blocks) (e : Entered text index (entry_count index) cell s index' r) where
   -- its name is known
-  pub gate-known : {blocks' : List ℕ} → r ≡ false → GateDefined text index (entry_count index) g (token_of text cell) block blocks index' blocks' (Refused refusal.DefinedTwice)
+  pub gate-known : {blocks' : List ℕ} → r ≡ false → GateDefined text index (entry_count index) g (token_of text cell) block blocks index' blocks' (Err refusal.DefinedTwice)
   gate-known z =
       record {
         refused = refuse_if-yes refusal.DefinedTwice (not-false _ (sym e.new ∙ z));
@@ -168,7 +144,7 @@ module _ {text index : List ℕ} {g cell : ℕ} {block : Block} {blocks : List �
 
   -- its name is new
   pub gate-new : {blocks' : List ℕ} → r ≡ true → s ≡ gate_cell g → blocks' ≡ overwrite_at (g * block_width) (block.first ∷ block.names ∷ block.lines ∷ []) blocks
-      → GateDefined text index (entry_count index) g (token_of text cell) block blocks index' blocks' Fine
+      → GateDefined text index (entry_count index) g (token_of text cell) block blocks index' blocks' fine
   gate-new z q b =
       record {
         refused = refuse_if-no refusal.DefinedTwice (not-true _ (sym e.new ∙ z));

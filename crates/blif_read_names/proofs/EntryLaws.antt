@@ -1,4 +1,5 @@
 -- The entries of declarations are the signals that the definition's search finds. Assumes nothing.
+use Rattle.refusals.specs.Order.{fine}
 use mathlib.Core.Path.{◌≡◌, refl, sym, ap, ap₂, ◌∙◌, subst}
 use mathlib.Core.Bool.{Bool, true, false, not, ◌||◌, cond, or_assoc, or_comm}
 use mathlib.Core.List.Memᴰ
@@ -16,7 +17,6 @@ use Rattle.lists.proofs.Tests.{by-test}
 use Rattle.lists.proofs.Known.{known-mem}
 use Rattle.lists.proofs.Every.{Every, every-nil, every-cons, every_append}
 use Rattle.lists.proofs.Places.{place-lt, mem-place, place-right, map-place}
-use Rattle.refusals.specs.declared.Checked.TheVariants.{Fine}
 use Rattle.signal.specs.Signal.{Signal, Input, Var, plain}
 use Rattle.signal.specs.Cell.{sig_cell}
 use Rattle.blif_text.specs.Decls.{Def, Decl, model, end, inputs, outputs, gate, ins_of, defs_of, ins, defs, defines}
@@ -78,7 +78,7 @@ entries-known x (gate d ∷ ds) i g =
 
 -- ---- each entry has the signal of its name
 
-module _ (all : List Decl) (named : naming false [] all ≡ Fine) where
+module _ (all : List Decl) (named : naming false [] all ≡ fine) where
   -- input i is input signal i
   input-at : (i : ℕ) (x : Bytes) → get_elem? (ins all) i ≡ some x → signal_of all x ≡ plain (Input i)
   input-at i x e = (looks (model_of all) (once-of all named)).input_at i x e
@@ -119,14 +119,14 @@ module _ (all : List Decl) (named : naming false [] all ≡ Fine) where
 -- ---- the laws
 
 -- the entries found are the signals of the definition's search
-pub entry-signal : (ds : List Decl) → naming false [] ds ≡ Fine → (x : Bytes)
+pub entry-signal : (ds : List Decl) → naming false [] ds ≡ fine → (x : Bytes)
     → signal_in (entries 0 0 ds) x ≡ cond (known x (ins ds ++ map defines (defs ds))) (sig_cell (signal_of ds x)) 0
 entry-signal ds e x =
     signal-known (λ (y : Bytes). sig_cell (signal_of ds y)) (entries 0 0 ds) x (right-entries ds e ds [] [] 0 0 refl refl refl refl)
     ∙ ap (λ (b : Bool). cond b (sig_cell (signal_of ds x)) 0) (entries-known x ds 0 0 ∙ sym (known-append x (ins ds) (map defines (defs ds))))
 
 -- a defined name's signal is not the constant zero
-defined-cell : (ds : List Decl) → naming false [] ds ≡ Fine → too_large ds ≡ false → (x : Bytes) → Memᴰ x (ins ds ++ map defines (defs ds))
+defined-cell : (ds : List Decl) → naming false [] ds ≡ fine → too_large ds ≡ false → (x : Bytes) → Memᴰ x (ins ds ++ map defines (defs ds))
     → 0 < sig_cell (signal_of ds x)
 defined-cell ds e s x m =
     ⊎_elim
@@ -141,7 +141,7 @@ defined-cell ds e s x m =
     (Memᴰ.append_cases (ins ds) m)
 
 -- a name that is defined is found: zero is no name's signal
-pub entry_found : (ds : List Decl) → naming false [] ds ≡ Fine → too_large ds ≡ false → (x : Bytes) → known x (ins ds ++ map defines (defs ds)) ≡ true
+pub entry_found : (ds : List Decl) → naming false [] ds ≡ fine → too_large ds ≡ false → (x : Bytes) → known x (ins ds ++ map defines (defs ds)) ≡ true
     → not (eqb 0 (signal_in (entries 0 0 ds) x)) ≡ true
 entry_found ds e s x k =
     let d = defined-cell ds e s x (known-mem x (ins ds ++ map defines (defs ds)) k) in

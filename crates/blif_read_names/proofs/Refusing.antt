@@ -1,4 +1,5 @@
 -- The refusals of 7 to 10, one declaration after the other. Assumes nothing.
+use Rattle.std.specs.Prelude.{Err}
 use mathlib.Core.Path.{◌≡◌, refl}
 use mathlib.Core.Bool.{Bool, true, not}
 use mathlib.Core.List.{List, [], ◌∷◌, ◌++◌}
@@ -9,7 +10,6 @@ use Rattle.blif_meaning.specs.Model.{LatchDef}
 use Rattle.blif_text.specs.Decls.{latch, cover, Decl, model, end, inputs, outputs, gate, cover_out}
 use Rattle.refusals.specs.Order.{◌or_else◌, refuse_if}
 use Rattle.refusals.specs.declared.Refusal.TheVariants as refusal
-use Rattle.refusals.specs.declared.Checked.TheVariants.{Refused}
 use Rattle.blif_reading.specs.Read.{defined_twice, naming}
 
 module _ (seen : Bool) (earlier : List Bytes) (ds : List Decl) where
@@ -34,7 +34,7 @@ module _ (seen : Bool) (earlier : List Bytes) (ds : List Decl) where
   unfolding naming
   naming-latch l = refl
 
-  pub naming-empty : (ns : List Bytes) (ls : List (List Bytes)) → length ns ≡ 0 → naming seen earlier (gate (cover ns ls) ∷ ds) ≡ Refused refusal.NamesEmpty
+  pub naming-empty : (ns : List Bytes) (ls : List (List Bytes)) → length ns ≡ 0 → naming seen earlier (gate (cover ns ls) ∷ ds) ≡ Err refusal.NamesEmpty
   unfolding naming
   naming-empty [] ls e = refl
   naming-empty (n ∷ ns) ls e = absurd (omega arith)

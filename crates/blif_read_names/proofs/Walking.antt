@@ -1,4 +1,6 @@
 -- The walk that enters names: what each declaration asks for, the walk's start and its end. Assumes nothing.
+use Rattle.refusals.specs.Order.{fine}
+use Rattle.std.specs.Prelude.{Ok, Err}
 use mathlib.Core.Path.{◌≡◌, refl, sym, ap, ◌∙◌, subst}
 use mathlib.Core.Bool.{Bool, false}
 use mathlib.Core.List.{List, [], ◌∷◌, flat_map, append-nil}
@@ -7,7 +9,6 @@ use native.Mathlib.Omega.{arith}
 use lib.ListN.{length, take, length-map}
 use Rattle.lists.specs.Lists.{Bytes, zeros}
 use Rattle.refusals.specs.declared.Refusal.{Refusal}
-use Rattle.refusals.specs.declared.Checked.TheVariants.{Fine, Refused}
 use Rattle.network.specs.Sizes.{max_gates, max_outputs}
 use Rattle.blif_text.specs.Decls.{Def, Decl, gate, decls, ins, outs, defs}
 use Rattle.blif_text.specs.Between.Places.{max_tokens, token_of, tokens_of}
@@ -25,8 +26,6 @@ use Rattle.blif_reading.specs.Read.{too_large, naming}
 use Rattle.blif_read_names.specs.Between.Naming.{names_in, InputsFit, CoverFits, seen, walk_at, LatchFits, TablesTo, NamingSoFar, Steps, stops, goes}
 use Rattle.blif_read_names.specs.Between.Tables.{Tables, DefinedBy}
 use Rattle.blif_read_names.specs.declared.Walk.{Walk}
-use Rattle.blif_read_names.specs.declared.Step.TheVariants as step
-use Rattle.blif_read_names.specs.declared.Defined.TheVariants as defined
 use Rattle.blif_reading.proofs.SizeLimits.{sizes-within}
 use Rattle.blif_read_names.proofs.Tabling.{inputs-few, gate-few}
 use Rattle.blif_read_names.proofs.Defining.{lent, lent-inside, tabled-as, inputs_are}
@@ -124,17 +123,17 @@ going_start {text} {tokens} {n} {index} {out} {blocks} c h s e o b =
     }
 
 -- the walk behind a declaration
-pub going_next : {text tokens : List ℕ} {n : ℕ} {index out blocks : List ℕ} {v w : Walk} → Steps text tokens n index out blocks v (step.Next w)
+pub going_next : {text tokens : List ℕ} {n : ℕ} {index out blocks : List ℕ} {v w : Walk} → Steps text tokens n index out blocks v (Ok w)
     → (v.at < w.at) × NamingSoFar text tokens n index out blocks w
 going_next (goes h g) = (h, g)
 
 -- the refusal of a declaration
-pub going-stop : {text tokens : List ℕ} {n : ℕ} {index out blocks : List ℕ} {v : Walk} {r : Refusal} → Steps text tokens n index out blocks v (step.Refused r)
-    → naming false [] (decls (stmts_from text tokens n 0)) ≡ Refused r
+pub going-stop : {text tokens : List ℕ} {n : ℕ} {index out blocks : List ℕ} {v : Walk} {r : Refusal} → Steps text tokens n index out blocks v (Err r)
+    → naming false [] (decls (stmts_from text tokens n 0)) ≡ Err r
 going-stop (stops e) = e
 
 -- no declaration, no refusal
-naming-none : {l : List Decl} → l ≡ [] → (seen : Bool) (earlier : List Bytes) → naming seen earlier l ≡ Fine
+naming-none : {l : List Decl} → l ≡ [] → (seen : Bool) (earlier : List Bytes) → naming seen earlier l ≡ fine
 unfolding naming
 naming-none e seen earlier = ap (naming seen earlier) e
 
@@ -161,7 +160,7 @@ tables-all {ds} {text} {tokens} {n} {index} {out} {blocks} {i} {g} {o} t =
 -- behind the last declaration
 pub going_done : {text tokens : List ℕ} {n : ℕ} {index out blocks : List ℕ} {w : Walk} → NamingSoFar text tokens n index out blocks w → n ≤ w.at
     → DefinedBy (decls (stmts_from text tokens n 0)) text tokens n index out blocks
-    (defined.Names (record { inputs = w.inputs; gates = w.gates; outputs = w.outputs }))
+    (Ok (record { inputs = w.inputs; gates = w.gates; outputs = w.outputs }))
 going_done {text} {tokens} {n} {index} {out} {blocks} {w} c h =
     let e : decls (stmts_from text tokens n w.at) ≡ [] = decls-end c.rest h in
     (c.left ∙ naming-none e (seen w) (names_in text index (w.inputs + w.gates)), tables-all (tabled-as c e))

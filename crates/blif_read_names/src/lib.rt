@@ -12,13 +12,14 @@ ghost use Rattle.blif_text.specs.Between.Blocks.{block_width};
 ghost use Rattle.blif_declarations.specs.Between.Declarations.{NextIs};
 ghost use Rattle.name_index.specs.Between.Index.{index_cells, entry_count};
 ghost use Rattle.blif_reading.specs.Read.{too_large};
-ghost use Rattle.blif_read_names.specs.Between.Naming.{InputsFit, InputsEntered, GateFits, GateDefined, CoverFits, CoverDefined, step_of, LatchFits, LatchStep, CoverStep, NamingSoFar, Steps};
+ghost use Rattle.blif_read_names.specs.Between.Naming.{InputsFit, InputsEntered, GateFits, GateDefined, CoverFits, CoverDefined, LatchFits, LatchStep, CoverStep, NamingSoFar, Steps};
 ghost use Rattle.blif_read_names.specs.Between.Tables.{DefinedBy};
 
 use blif_declarations::{Declaration, Next, next_declaration};
 use blif_text::{Block, Run, put_block};
+use lists::copy_cells;
 use name_index::enter_name;
-use refusals::{Checked, Refusal, refuse_if};
+use refusals::{Refusal, refuse_if};
 use signal::Signal;
 
 // How many inputs, gates and outputs are declared.
@@ -27,13 +28,6 @@ pub struct Declared {
     pub inputs: usize,
     pub gates: usize,
     pub outputs: usize,
-}
-
-// The names are entered, or a refusal of 7 to 10.
-#[derive(Clone, Copy)]
-pub enum Defined {
-    Names(Declared),
-    Refused(Refusal),
 }
 
 // A walk that enters names: its place, and how many models, inputs, gates and outputs are declared before it.
@@ -46,38 +40,19 @@ struct Walk {
     outputs: usize,
 }
 
-// The walk behind a declaration, or the declaration's refusal.
-#[derive(Clone, Copy)]
-enum Step {
-    Next(Walk),
-    Refused(Refusal),
-}
-
-// The walk goes on where nothing is refused.
-fn step_of(checked: Checked, next: Walk) -> Step
-    ensures { result ≡ step_of checked next }
-{
-    match checked {
-        Checked::Fine => Step::Next(next),
-        Checked::Refused(refusal) => Step::Refused(refusal),
-    }
-}
-
 // Enters names as inputs behind so many others, unless one is defined twice.
-fn enter_inputs(text: &[u8], names: &[u32], index: &mut [u32], inputs: usize) -> Checked
+fn enter_inputs(text: &[u8], names: &[u32], index: &mut [u32], inputs: usize) -> Result<(), Refusal>
     requires { InputsFit text.now names.now index.old inputs }
     ensures { InputsEntered text.now names.now index.old (entry_count index.old) inputs
         index.new result }
 {
-    let mut j = 0;
-    while j < names.len() {
+    for (j, name) in names.iter().enumerate() {
         let signal = Signal::from_input((inputs + j) as u32);
-        if !enter_name(text, index, names[j], signal.a) {
-            return Checked::Refused(Refusal::DefinedTwice);
+        if !enter_name(text, index, *name, signal.a) {
+            return Err(Refusal::DefinedTwice);
         }
-        j += 1;
     }
-    Checked::Fine
+    Ok(())
 }
 
 // Copies names behind those of so many outputs.
@@ -86,11 +61,7 @@ fn copy_outputs(names: &[u32], out_names: &mut [u32], outputs: usize)
     ensures { take (outputs + length names.now) out_names.new
         ≡ take outputs out_names.old ++ names.now }
 {
-    let mut j = 0;
-    while j < names.len() {
-        out_names[outputs + j] = names[j];
-        j += 1;
-    }
+    copy_cells(names, out_names, outputs);
 }
 
 // Defines a gate by the name at a cell, and places its block, unless the name is defined twice.
@@ -101,7 +72,7 @@ fn define_gate(
     gates: usize,
     cell: u32,
     block: Block,
-) -> Checked
+) -> Result<(), Refusal>
     requires { GateFits text.now index.old gates cell block blocks.old }
     ensures { GateDefined text.now index.old (entry_count index.old) gates
         (token_of text.now cell) block blocks.old
@@ -109,10 +80,10 @@ fn define_gate(
 {
     let signal = Signal::from_var(gates as u32);
     if !enter_name(text, index, cell, signal.a) {
-        return Checked::Refused(Refusal::DefinedTwice);
+        return Err(Refusal::DefinedTwice);
     }
     put_block(blocks, gates, block);
-    Checked::Fine
+    Ok(())
 }
 
 // Defines a cover's gate by its last name, unless it has none or the name is defined twice.
@@ -123,14 +94,14 @@ fn define_last(
     blocks: &mut [u32],
     gates: usize,
     block: Block,
-) -> Checked
+) -> Result<(), Refusal>
     requires { CoverFits text.now tokens.now index.old gates block.first block.names blocks.old × (block.lines ≤ max_tokens) }
     ensures { CoverDefined text.now tokens.now index.old (entry_count index.old) gates block
         blocks.old
         index.new blocks.new result }
 {
     if block.names == 0 {
-        return Checked::Refused(Refusal::NamesEmpty);
+        return Err(Refusal::NamesEmpty);
     }
     let last = block.first + block.names - 1;
     define_gate(text, index, blocks, gates, tokens[last], block)
@@ -144,7 +115,7 @@ fn define_latch(
     blocks: &mut [u32],
     w: Walk,
     run: Run,
-) -> Step
+) -> Result<Walk, Refusal>
     requires { LatchFits text.now tokens.now index.old blocks.old w run }
     ensures { LatchStep text.now tokens.now index.old blocks.old
         index.new blocks.new w run result }
@@ -158,8 +129,8 @@ fn define_latch(
     let name = tokens[first + 1];
     let mut next = w;
     next.gates += 1;
-    let checked = define_gate(text, index, blocks, w.gates, name, block);
-    step_of(checked, next)
+    define_gate(text, index, blocks, w.gates, name, block)?;
+    Ok(next)
 }
 
 // Defines a cover's gate by its last name.
@@ -170,15 +141,15 @@ fn define_cover(
     blocks: &mut [u32],
     w: Walk,
     block: Block,
-) -> Step
+) -> Result<Walk, Refusal>
     requires { CoverFits text.now tokens.now index.old w.gates block.first block.names blocks.old × (block.lines ≤ max_tokens) }
     ensures { CoverStep text.now tokens.now index.old blocks.old
         index.new blocks.new w block result }
 {
     let mut next = w;
     next.gates += 1;
-    let checked = define_last(text, tokens, index, blocks, w.gates, block);
-    step_of(checked, next)
+    define_last(text, tokens, index, blocks, w.gates, block)?;
+    Ok(next)
 }
 
 // Passes the next declaration: enters the names that it defines, or copies those of outputs.
@@ -190,7 +161,7 @@ fn define_declaration(
     blocks: &mut [u32],
     w: Walk,
     next: Next,
-) -> Step
+) -> Result<Walk, Refusal>
     requires naming_so_far { NamingSoFar text.now tokens.now (length tokens.now) index.old out_names.old blocks.old w
         × (w.at < length tokens.now) }
     requires next_is { NextIs text.now tokens.now (length tokens.now) w.at next.declaration next.at }
@@ -202,27 +173,31 @@ fn define_declaration(
     after.at = next.at;
     match declaration {
         Declaration::Model => {
+            refuse_if(0 < w.models, Refusal::SecondModel)?;
             after.models = 1;
-            step_of(refuse_if(0 < w.models, Refusal::SecondModel), after)
+            Ok(after)
         }
-        Declaration::End => step_of(refuse_if(!(0 < w.models), Refusal::EndBeforeModel), after),
+        Declaration::End => {
+            refuse_if(!(0 < w.models), Refusal::EndBeforeModel)?;
+            Ok(after)
+        }
         Declaration::Inputs(run) => {
             let first = run.first;
             let end = first + run.count;
             after.inputs += run.count;
-            let checked = enter_inputs(text, &tokens[first..end], index, w.inputs);
-            step_of(checked, after)
+            enter_inputs(text, &tokens[first..end], index, w.inputs)?;
+            Ok(after)
         }
         Declaration::Outputs(run) => {
             let first = run.first;
             let end = first + run.count;
             after.outputs += run.count;
             copy_outputs(&tokens[first..end], out_names, w.outputs);
-            Step::Next(after)
+            Ok(after)
         }
         Declaration::Latch(run) => define_latch(text, tokens, index, blocks, after, run),
         Declaration::Cover(block) => define_cover(text, tokens, index, blocks, after, block),
-        Declaration::None => Step::Next(after),
+        Declaration::None => Ok(after),
     }
 }
 
@@ -233,7 +208,7 @@ pub fn build_name_to_sig(
     index: &mut [u32],
     out_names: &mut [u32],
     blocks: &mut [u32],
-) -> Defined
+) -> Result<Declared, Refusal>
     requires stmts_at { StmtsAt text.now tokens.now (length tokens.now) 0 × (length tokens.now ≤ max_tokens) }
     requires tokens_value { too_large (decls (stmts_from text.now tokens.now (length tokens.now) 0)) ≡ false }
     requires index_value { (index.old ≡ zeros index_cells) × (max_outputs ≤ length out_names.old) × (max_gates * block_width ≤ length blocks.old) }
@@ -250,13 +225,9 @@ pub fn build_name_to_sig(
     };
     while w.at < tokens.len() {
         let next = next_declaration(text, tokens, w.at);
-        let step = define_declaration(text, tokens, index, out_names, blocks, w, next);
-        match step {
-            Step::Next(after) => w = after,
-            Step::Refused(refusal) => return Defined::Refused(refusal),
-        }
+        w = define_declaration(text, tokens, index, out_names, blocks, w, next)?;
     }
-    Defined::Names(Declared {
+    Ok(Declared {
         inputs: w.inputs,
         gates: w.gates,
         outputs: w.outputs,

@@ -1,4 +1,5 @@
 -- One gate placed: its record and its run of pins, and the block that it is placed for. Assumes nothing.
+use Rattle.std.specs.Prelude.{Result, Ok, Err, unwrap_or}
 use mathlib.Core.Path.{◌≡◌, refl, sym, ap, ap₂, ◌∙◌, subst}
 use mathlib.Core.Bool.{Bool, true, false, not, and-true, false≢true}
 use borrow.Author.Tests.{ne_eqb}
@@ -14,49 +15,36 @@ use Rattle.lists.specs.Between.Lists.{overwrite_at}
 use Rattle.lists.proofs.OverAt.{part-laid}
 use Rattle.lists.proofs.Places.{run-within}
 use Rattle.signal.specs.declared.Signal as signal
-use Rattle.gates.specs.declared.Gate as code
 use Rattle.gates.specs.declared.Gate.TheVariants as G
 use Rattle.network.specs.Record.{gate_width}
 use Rattle.network.specs.Between.Record.{hand_record, LayRoom, GateLaid}
 use Rattle.network.proofs.RecordCells.{record-in}
 use Rattle.blif_meaning.specs.Model.{Init, Unknown, init_bit, plain_latch}
 use Rattle.blif_text.specs.Between.Places.{token_of, tokens_of}
-use Rattle.blif_text.specs.Between.Walk.{rows_from, Inside}
+use Rattle.blif_text.specs.Between.Walk.{rows_from}
 use Rattle.blif_text.specs.Statements.{init_among}
-use Rattle.blif_text.specs.Between.PlacedStatements.{init_in, latch_in, start_of, at_one}
-use Rattle.blif_text.specs.declared.Start.{Start}
-use Rattle.blif_text.proofs.Starts.{at_one-start_of}
+use Rattle.blif_text.specs.Between.PlacedStatements.{init_in, latch_in, start_of}
+use Rattle.std.specs.declared.option.Option as std-option
+use Rattle.blif_text.proofs.Starts.{unwrap-start_of}
 use Rattle.blif_text.proofs.WordLaws.{drop-take}
 use Rattle.blif_text.specs.Decls.{Def, latch, cover, cover_ins, used_names}
 use Rattle.blif_text.specs.Between.Blocks.{first_name, name_count, line_count, def_from, def_at, Blocks}
 use Rattle.blif_text.proofs.BlockLaws.{cover-from}
-use Rattle.blif_text.proofs.RowWalk.{part, part_length, part-inside}
+use Rattle.blif_text.proofs.RowWalk.{part, part_length}
 use Rattle.blif_reading.specs.Between.Working.{placed_count}
 use Rattle.blif_read_signals.specs.Between.Resolve.{is_found, placed_to, Resolved}
-use Rattle.blif_read_signals.specs.Between.Steps.{GateRoom, LatchTokens, latch_of, and_in_hand, GatePlaced, DefPlaced}
-use Rattle.blif_read_signals.specs.declared.Placed.{Placed}
-use Rattle.blif_read_signals.specs.declared.Placed.TheVariants as answer
+use Rattle.blif_read_signals.specs.Between.Steps.{GateRoom, latch_of, and_in_hand, GatePlaced, DefPlaced}
 use Rattle.refusals.specs.declared.Refusal.TheVariants as refusal
+use Rattle.refusals.specs.declared.Refusal.{Refusal}
 
 -- ---- placed or not
-
--- a name was not found
-pub not-placed : {sig : Bytes → ℕ} {names : List Bytes} {x : code.Gate} {j at : ℕ} {run cells q gates pins_in gates' pins_in' : List ℕ} {r : Bool}
-    → Resolved (map sig names) cells q r → r ≡ false → GatePlaced sig x names run j at gates pins_in gates' pins_in' (answer.Refused refusal.Undefined)
-not-placed {at = at} {run = run} w t =
-    let f = sym t ∙ w.found in
-    record {
-      end = ap (λ (b : Bool). placed_to b (at + length run)) f;
-      records = λ u. absurd (false≢true (f ∙ u));
-      runs = λ u. absurd (false≢true (f ∙ u));
-    }
 
 -- all names of a cover's inputs were
 pub cover-placed : (text names : List ℕ) {sig : Bytes → ℕ} {q gates pins_in gates' : List ℕ} {j at : ℕ} {r : Bool}
     → Resolved (map sig (tokens_of text names)) (take (length pins_in - at) (drop at pins_in)) q r → r ≡ true → GateRoom gates pins_in j at (length names)
     → gates' ≡ overwrite_at (j * gate_width) (hand_record at (and_in_hand at (length names))) gates
     → GatePlaced sig (and_in_hand at (length names)) (tokens_of text names) (map sig (tokens_of text names)) j at gates pins_in gates'
-    (take at pins_in ++ (q ++ drop (length pins_in - at) (drop at pins_in))) (answer.Pins (at + length names))
+    (take at pins_in ++ (q ++ drop (length pins_in - at) (drop at pins_in))) (Ok (at + length names))
 cover-placed text names {sig} {pins_in = pins_in} {at = at} w t m g =
     let run : List ℕ = map sig (tokens_of text names) in
     let e : length names ≡ length run = sym (length-map (tokens_of text names) sig ∙ length-map names (token_of text)) in
@@ -72,7 +60,7 @@ module _ (sig : Bytes → ℕ) (x y : Bytes) (i : Init) {d : ℕ} (e : d ≡ sig
   input-is = and-true (is_found (sig x)) ∙ ap is_found (sym e)
 
   pub latch-missing : (j at : ℕ) (gates pins_in : List ℕ) {gates' pins_in' : List ℕ} → d ≡ 0
-      → DefPlaced sig (latch (plain_latch x y i)) j at gates pins_in gates' pins_in' (answer.Refused refusal.Undefined)
+      → DefPlaced sig (latch (plain_latch x y i)) j at gates pins_in gates' pins_in' (Err refusal.Undefined)
   unfolding used_names
   latch-missing j at gates pins_in z =
       let f : all is_found (map sig (x ∷ [])) ≡ false = input-is ∙ ap is_found z in
@@ -93,24 +81,24 @@ module _ (sig : Bytes → ℕ) (x y : Bytes) (i : Init) {d : ℕ} (e : d ≡ sig
         }
 
     pub latch-placed : {gates' pins_in' : List ℕ} {r : ℕ} → (d ≡ 0 → ⊥) → one.a ≡ 1 → zero.a ≡ 0 → v ≡ init_bit i
-        → GateLaid (G.Dff (record { a = d }) one zero v) j at gates pins_in gates' pins_in' r → DefPlaced sig (latch (plain_latch x y i)) j at gates pins_in gates' pins_in' (answer.Pins r)
+        → GateLaid (G.Dff (record { a = d }) one zero v) j at gates pins_in gates' pins_in' r → DefPlaced sig (latch (plain_latch x y i)) j at gates pins_in gates' pins_in' (Ok r)
     unfolding used_names
     latch-placed n eo ez ev p =
         let f : all is_found (map sig (x ∷ [])) ≡ true = input-is ∙ ap not (ne_eqb 0 d (λ z. n (sym z))) in
         record {
-          end = ap answer.Pins p.end ∙ ap (λ (b : Bool). placed_to b (at + 3)) (sym f);
+          end = ap Ok p.end ∙ ap (λ (b : Bool). placed_to b (at + 3)) (sym f);
           records = λ w.
               p.records ∙ (λ k. overwrite_at (j * gate_width) (hand_record at (G.Dff (record { a = e k }) (record { a = eo k }) (record { a = ez k }) (ev k))) gates);
           runs = λ w. p.runs ∙ (λ k. overwrite_at at (e k ∷ eo k ∷ ez k ∷ []) pins_in);
         }
 
 -- what the code tells of the start value, from the tokens behind the two names
-pub start-told : (text tokens : List ℕ) {s : Start} {v : Bool} → v ≡ at_one s
+pub start-told : (text tokens : List ℕ) {s : std-option.Option Bool} {v : Bool} → v ≡ unwrap_or s false
     → s ≡ start_of (init_among (tokens_of text (take (length tokens - 2) (drop 2 tokens)))) → v ≡ init_bit (latch_of text tokens).init
 start-told text tokens e q =
     let n : length tokens ≡ 0 + length tokens = omega arith in
-    e ∙ ap at_one (q ∙ ap (λ (x : List ℕ). start_of (init_among (tokens_of text x))) (sym (drop-take 2 (length tokens) tokens)))
-    ∙ at_one-start_of (init_in text tokens 2 (length tokens))
+    e ∙ ap (λ (x : std-option.Option Bool). unwrap_or x false) (q ∙ ap (λ (x : List ℕ). start_of (init_among (tokens_of text x))) (sym (drop-take 2 (length tokens) tokens)))
+    ∙ unwrap-start_of (init_in text tokens 2 (length tokens))
     ∙ ap (λ (k : ℕ). init_bit (Option.get_or (init_in text tokens 2 k) Unknown)) n
 
 -- ---- the tokens of a latch, as the code takes them from all
@@ -170,29 +158,11 @@ module _ {text tokens : List ℕ} {n : ℕ} {blocks : List ℕ} {f c : ℕ} (j :
   cover-is : (c ≡ 0 → ⊥) → def_at text tokens n blocks j ≡ cover (tokens_of text (slice f (f + c) tokens)) (take (line_count blocks j) (rows_from text tokens n (f + c)))
   cover-is z = def_is ∙ cover-from text tokens n f c (line_count blocks j) z
 
-  pub latch-tokens : {l : ℕ} → l ≡ line_count blocks j → c ≡ 0 → LatchTokens text (part f (f + l) tokens)
-  latch-tokens {l} el z =
-      let m = latch-among el z in
-      record {
-        inside = part-inside f (f + l) b.places (omega (arith, (b.each j (omega arith)).latch_tokens (sym ec ∙ z)));
-        two = omega (arith, part_length tokens f (f + l) m.0, m.1);
-      }
-
   pub cover-among : f + c ≤ n
   cover-among = omega (arith, (b.each j (omega arith)).cover_names)
 
   inputs-length : length (inputs_at tokens f c) ≡ c - 1
   inputs-length = omega (arith, length-take (f + c - 1 - f) (drop f tokens), length-drop f tokens, cover-among, b.places.room)
-
-  pub cover-names : Inside text (inputs_at tokens f c) (length (inputs_at tokens f c))
-  cover-names =
-      record {
-        room = omega arith;
-        inside = λ i l.
-            let e : get_or (inputs_at tokens f c) i 0 ≡ get_or tokens (f + i) 0 =
-            get_or-take (f + c - 1 - f) (drop f tokens) i 0 (omega (arith, inputs-length)) ∙ get_or-drop f tokens i 0 in
-            rw e (b.places.inside (f + i) (omega (arith, inputs-length, cover-among)));
-      }
 
   all-length : length (tokens_of text (slice f (f + c) tokens)) ≡ c
   all-length =
@@ -208,15 +178,12 @@ module _ {text tokens : List ℕ} {n : ℕ} {blocks : List ℕ} {f c : ℕ} (j :
       ∙ ap (tokens_of text) (run-within f (f + c - 1 - f) (f + c) tokens (omega arith))
 
   module _ {gates pins_in : List ℕ} {at : ℕ} where
-    pub latch-room : GateRoom gates pins_in j at (placed_count (def_at text tokens n blocks j)) → c ≡ 0 → GateRoom gates pins_in j at 3
-    latch-room m z = let e : placed_count (def_at text tokens n blocks j) ≡ 3 = ap placed_count (latch-is refl z) in rw e at m
-
     pub cover-room : GateRoom gates pins_in j at (placed_count (def_at text tokens n blocks j)) → (c ≡ 0 → ⊥) → GateRoom gates pins_in j at (length (inputs_at tokens f c))
     cover-room m z =
         let e : placed_count (def_at text tokens n blocks j) ≡ length (inputs_at tokens f c) = ap placed_count (cover-is z) ∙ ap (λ (k : ℕ). k - 1) all-length ∙ sym inputs-length in
         rw e at m
 
-    module _ {sig : Bytes → ℕ} {gates' pins_in' : List ℕ} {r : Placed} where
+    module _ {sig : Bytes → ℕ} {gates' pins_in' : List ℕ} {r : Result ℕ Refusal} where
       pub latch-def : {l : ℕ} → l ≡ line_count blocks j → c ≡ 0 → DefPlaced sig (latch (latch_of text (part f (f + l) tokens))) j at gates pins_in gates' pins_in' r
           → DefPlaced sig (def_at text tokens n blocks j) j at gates pins_in gates' pins_in' r
       unfolding used_names

@@ -1,11 +1,11 @@
 -- Gates placed block by block: each stays where the next ones are written. Assumes nothing.
+use Rattle.std.specs.Prelude.{Result, Ok, Err}
 use mathlib.Core.Path.{◌≡◌, refl, sym, ap, ap₂, ◌∙◌}
 use mathlib.Core.Bool.{Bool, true, false, ◌&&◌, false≢true}
 use mathlib.Core.List.{List, [], ◌∷◌, map, flat_map, map-append}
 use mathlib.Core.Option.{Option, none, some}
 use Prim.Native.Nat.{ℕ, ◌+◌, ◌-◌, ◌*◌, ◌≤◌, ◌<◌}
 use native.Mathlib.Omega.{arith}
-use native.Mathlib.Nat.{sub-zero}
 use native.Mathlib.Decide.{ℕ_discrete}
 use lib.ListN.{length, get_elem?, length-take, length-map}
 use Rattle.lists.specs.Lists.{Bytes, all, range, sum_of, optional}
@@ -29,8 +29,6 @@ use Rattle.blif_reading.specs.Between.Working.{GateIn, placed, placed_count, Wor
 use Rattle.blif_reading.proofs.WorkingLaws.{record-kept, run-kept, used-more, gate-written}
 use Rattle.blif_read_signals.specs.Between.Resolve.{is_found, all_found, placed_to, Signals, PlacedBy}
 use Rattle.blif_read_signals.specs.Between.Steps.{GateRoom, placed_in_hand, placed_run, DefPlaced}
-use Rattle.blif_read_signals.specs.declared.Placed.{Placed}
-use Rattle.blif_read_signals.specs.declared.Placed.TheVariants as answer
 use Rattle.refusals.specs.declared.Refusal.{Refusal}
 use Rattle.refusals.specs.declared.Refusal.TheVariants as refusal
 
@@ -80,7 +78,7 @@ run_length sig (cover ns ls) =
     omega (arith, e, length-take (length ns - 1) ns)
 
 -- the gate stands in the cells after it was placed
-def-in : {sig : Bytes → ℕ} (d : Def) {j at : ℕ} {gates pins_in gates' pins_in' : List ℕ} {r : Placed} → DefPlaced sig d j at gates pins_in gates' pins_in' r
+def-in : {sig : Bytes → ℕ} (d : Def) {j at : ℕ} {gates pins_in gates' pins_in' : List ℕ} {r : Result ℕ Refusal} → DefPlaced sig d j at gates pins_in gates' pins_in' r
     → GateRoom gates pins_in j at (placed_count d) → all is_found (map sig (used_names d)) ≡ true → (signal_of : Bytes → Signal) → Signals sig signal_of
     → GateIn gates' pins_in' (at + length (placed_run sig d)) j (placed signal_of d)
 def-in {sig} d {j} {at} {gates} {pins_in} {gates'} {pins_in'} {r} p w t signal_of s =
@@ -96,12 +94,12 @@ def-in {sig} d {j} {at} {gates} {pins_in} {gates'} {pins_in'} {r} p w t signal_o
 -- ---- the answer
 
 -- pins are told where all names were found
-pub pins-found : (b : Bool) (k : ℕ) {end : ℕ} → answer.Pins end ≡ placed_to b k → (b ≡ true) × (end ≡ k)
+pub pins-found : (b : Bool) (k : ℕ) {end : ℕ} → Ok end ≡ placed_to b k → (b ≡ true) × (end ≡ k)
 pins-found true k e = (refl, (cc))
 pins-found false k e = absurd (let z : ◌≡◌ {A = ℕ} 0 1 = cc in omega arith)
 
 -- a refusal where one was not
-pub refused-found : (b : Bool) (k : ℕ) {r : Refusal} → answer.Refused r ≡ placed_to b k → (b ≡ false) × (r ≡ refusal.Undefined)
+pub refused-found : (b : Bool) (k : ℕ) {r : Refusal} → Err r ≡ placed_to b k → (b ≡ false) × (r ≡ refusal.Undefined)
 refused-found true k e = absurd (let z : ◌≡◌ {A = ℕ} 0 1 = cc in omega arith)
 refused-found false k e = (refl, (cc))
 
@@ -134,22 +132,6 @@ pub record Placing (sig : Bytes → ℕ) (def : ℕ → Def) (g : ℕ) (gates₀
   pub counted : at + sum_of placed_count (from def g j) ≡ sum_of placed_count (map def (range 0 g))
   pub gates-in : (signal_of : Bytes → Signal) → Signals sig signal_of → (h : ℕ) → h < j → GateIn gates pins_in at h (placed signal_of (def h))
 
-pub placing-start : {sig : Bytes → ℕ} {def : ℕ → Def} {g : ℕ} {gates pins_in : List ℕ} → WorkRoom gates pins_in → g ≤ max_gates
-    → sum_of placed_count (map def (range 0 g)) ≤ max_pins → Placing sig def g gates pins_in gates pins_in 0 0
-placing-start {def = def} {g = g} w l f =
-    let e : from def g 0 ≡ map def (range 0 g) = ap (λ (k : ℕ). map def (range 0 k)) (sub-zero g) in
-    record {
-      within = omega arith;
-      low = l;
-      same-gates = refl;
-      same-pins = refl;
-      cells = w;
-      few = f;
-      found = rw e;
-      counted = omega (arith, ap (sum_of placed_count) e);
-      gates-in = λ signal_of s h u. absurd (omega arith);
-    }
-
 module _ {sig : Bytes → ℕ} {def : ℕ → Def} {g : ℕ} {gates₀ pins_in₀ gates pins_in : List ℕ} {j at : ℕ} (c : Placing sig def g gates₀ pins_in₀ gates pins_in j at) where
   -- there is room for the next
   pub placing-room : j < g → GateRoom gates pins_in j at (placed_count (def j))
@@ -164,14 +146,14 @@ module _ {sig : Bytes → ℕ} {def : ℕ → Def} {g : ℕ} {gates₀ pins_in�
   now-found : j < g → (all is_found (map sig (used_names (def j))) && all_found sig (from def g (j + 1))) ≡ all_found sig (map def (range 0 g))
   now-found h = sym (ap (all_found sig) (from_cons def g j h) ∙ found-cons sig (def j) (from def g (j + 1))) ∙ c.found
 
-  module _ {gates' pins_in' : List ℕ} {r : Placed} (h : j < g) (p : DefPlaced sig (def j) j at gates pins_in gates' pins_in' r) where
+  module _ {gates' pins_in' : List ℕ} {r : Result ℕ Refusal} (h : j < g) (p : DefPlaced sig (def j) j at gates pins_in gates' pins_in' r) where
     -- a name was not found
-    pub placing-stops : {k : Refusal} → r ≡ answer.Refused k → PlacedBy sig (map def (range 0 g)) gates' pins_in' (answer.Refused k)
+    pub placing-stops : {k : Refusal} → r ≡ Err k → PlacedBy sig (map def (range 0 g)) gates' pins_in' (Err k)
     placing-stops e =
         let t = refused-found (all is_found (map sig (used_names (def j)))) _ (sym e ∙ p.end) in
         let f = sym (ap (λ (b : Bool). b && all_found sig (from def g (j + 1))) t.0) ∙ now-found h in
         record {
-          counted = ap answer.Refused t.1 ∙ ap (λ (b : Bool). placed_to b (sum_of placed_count (map def (range 0 g)))) f;
+          counted = ap Err t.1 ∙ ap (λ (b : Bool). placed_to b (sum_of placed_count (map def (range 0 g)))) f;
           gates-in = λ u. absurd (false≢true (f ∙ u));
         }
 
@@ -184,7 +166,7 @@ module _ {sig : Bytes → ℕ} {def : ℕ → Def} {g : ℕ} {gates₀ pins_in�
         (used-more (at + k) (omega arith)
         (run-kept at (placed_run sig (def j)) (omega arith) (record-kept j cells (length-hand_record at (placed_in_hand sig at (def j))) (λ z. omega arith) (c.gates-in signal_of s i u))))
 
-    pub placing-next : {end : ℕ} → r ≡ answer.Pins end → Placing sig def g gates₀ pins_in₀ gates' pins_in' (j + 1) end
+    pub placing-next : {end : ℕ} → r ≡ Ok end → Placing sig def g gates₀ pins_in₀ gates' pins_in' (j + 1) end
     placing-next {end} e =
         let x = pins-found (all is_found (map sig (used_names (def j)))) _ (sym e ∙ p.end) in
         let t = x.0 in
@@ -207,7 +189,7 @@ module _ {sig : Bytes → ℕ} {def : ℕ → Def} {g : ℕ} {gates₀ pins_in�
               ];
         }
 
-  pub placing-done : g ≤ j → PlacedBy sig (map def (range 0 g)) gates pins_in (answer.Pins at)
+  pub placing-done : g ≤ j → PlacedBy sig (map def (range 0 g)) gates pins_in (Ok at)
   placing-done h =
       let e : from def g j ≡ [] = ap (map def) (range-end g j h) in
       let all-counted : at ≡ sum_of placed_count (map def (range 0 g)) = omega (arith, c.counted, ap (sum_of placed_count) e) in

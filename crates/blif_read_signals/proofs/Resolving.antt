@@ -1,6 +1,6 @@
 -- Names resolved one after the other. Assumes nothing.
 use mathlib.Core.Path.{◌≡◌, refl, sym, ap, ◌∙◌}
-use mathlib.Core.Bool.{Bool, true, false, not, ◌&&◌, false≢true}
+use mathlib.Core.Bool.{Bool, true, not, ◌&&◌}
 use mathlib.Core.List.{List, [], ◌∷◌, map}
 use Prim.Native.Nat.{ℕ, ◌+◌, ◌≤◌, ◌<◌}
 use native.Mathlib.Omega.{arith}
@@ -8,7 +8,7 @@ use lib.ListN.{length, get_or, drop, set, drop_of_length-le}
 use borrow.Author.Tests.{ne_eqb}
 use Rattle.lists.specs.Lists.{Bytes, all}
 use Rattle.lists.proofs.Places.{drop-next}
-use Rattle.lists.proofs.Laying.{Laying, laying-start, laying-next, laying-done}
+use Rattle.lists.proofs.Laying.{Laying, laying-next, laying-done}
 use Rattle.blif_text.specs.Between.Places.{token_of, tokens_of}
 use Rattle.blif_read_signals.specs.Between.Resolve.{is_found, Resolved}
 
@@ -21,9 +21,6 @@ pub record Resolving (sig : Bytes → ℕ) (text names cells₀ cells : List ℕ
   pub within : i ≤ length names
   pub found : all is_found (left sig text names i) ≡ all is_found (map sig (tokens_of text names))
   pub laying : Laying (map sig (tokens_of text names)) cells₀ 0 (left sig text names i) cells i
-
-pub resolving-start : {sig : Bytes → ℕ} {text names cells : List ℕ} → Resolving sig text names cells cells 0
-resolving-start = record { within = omega arith; found = refl; laying = laying-start refl refl }
 
 module _ {sig : Bytes → ℕ} {text names cells₀ cells : List ℕ} {i : ℕ} (c : Resolving sig text names cells₀ cells i) where
   -- the next signal, then the others
@@ -40,14 +37,6 @@ module _ {sig : Bytes → ℕ} {text names cells₀ cells : List ℕ} {i : ℕ} 
         within = omega arith;
         found = sym (ap (all is_found) (left_is l q) ∙ ap (λ (b : Bool). b && all is_found r) t) ∙ c.found;
         laying = laying-next c.laying (left_is l q) refl;
-      }
-
-  pub resolving-stops : {x : ℕ} {name : Bytes} → i < length names → x ≡ sig name → name ≡ token_of text (get_or names i 0) → x ≡ 0 → Resolved (map sig (tokens_of text names)) cells₀ cells false
-  resolving-stops {x} l e n z =
-      let q : x ≡ sig (token_of text (get_or names i 0)) = e ∙ ap sig n in
-      record {
-        found = sym (ap (all is_found) (left_is l q) ∙ ap (λ (y : ℕ). is_found y && all is_found (left sig text names (i + 1))) z) ∙ c.found;
-        laid = λ t. absurd (false≢true t);
       }
 
   pub resolving-done : length names ≤ i → Resolved (map sig (tokens_of text names)) cells₀ cells true

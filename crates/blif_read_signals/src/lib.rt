@@ -21,13 +21,6 @@ use network::{lay_gate, put_record};
 use refusals::Refusal;
 use signal::Signal;
 
-// How many pins are in use, or the refusal of a name that is not defined.
-#[derive(Clone, Copy)]
-pub enum Placed {
-    Pins(usize),
-    Refused(Refusal),
-}
-
 // Writes the signals of names, given by their places; answers whether all were found.
 pub fn resolve_names(text: &[u8], index: &[u32], names: &[u32], signals: &mut [u32]) -> bool
     requires index { Index text.now index.now (entry_count index.now) }
@@ -36,14 +29,12 @@ pub fn resolve_names(text: &[u8], index: &[u32], names: &[u32], signals: &mut [u
         (tokens_of text.now names.now)) signals.old
         signals.new result }
 {
-    let mut i = 0;
-    while i < names.len() {
-        let s = find_signal(text, index, token(text, names[i]));
+    for (i, name) in names.iter().enumerate() {
+        let s = find_signal(text, index, token(text, *name));
         if s == 0 {
             return false;
         }
         signals[i] = s;
-        i += 1;
     }
     true
 }
@@ -57,7 +48,7 @@ fn place_latch(
     gates: &mut [u32],
     pins: &mut [u32],
     at: usize,
-) -> Placed
+) -> Result<usize, Refusal>
     requires index { Index text.now index.now (entry_count index.now) × LatchTokens text.now tokens.now }
     requires gate_room { GateRoom gates.old pins.old j at 3 }
     ensures { let sig = signal_in (entries_of text.now index.now (entry_count index.now)) in
@@ -65,16 +56,11 @@ fn place_latch(
 {
     let input = find_signal(text, index, token(text, tokens[0]));
     if input == 0 {
-        return Placed::Refused(Refusal::Undefined);
+        return Err(Refusal::Undefined);
     }
-    let start = latch_start(text, &tokens[2..]);
-    let gate = Gate::Dff(
-        Signal { a: input },
-        Signal::one(),
-        Signal::zero(),
-        start.is_one(),
-    );
-    Placed::Pins(lay_gate(gates, j, pins, at, gate))
+    let start = latch_start(text, &tokens[2..]).unwrap_or(false);
+    let gate = Gate::Dff(Signal { a: input }, Signal::one(), Signal::zero(), start);
+    Ok(lay_gate(gates, j, pins, at, gate))
 }
 
 // Places gate j for the cover whose inputs have these names, with its pins from cell at on.
@@ -86,7 +72,7 @@ fn place_cover(
     gates: &mut [u32],
     pins: &mut [u32],
     at: usize,
-) -> Placed
+) -> Result<usize, Refusal>
     requires index { Index text.now index.now (entry_count index.now) × Inside text.now names.now (length names.now) }
     requires gate_room { GateRoom gates.old pins.old j at (length names.now) }
     ensures { let sig = signal_in (entries_of text.now index.now (entry_count index.now)) in
@@ -94,12 +80,12 @@ fn place_cover(
         GatePlaced sig (and_in_hand at (length names.now)) used (map sig used) j at gates.old pins.old gates.new pins.new result }
 {
     if !resolve_names(text, index, names, &mut pins[at..]) {
-        return Placed::Refused(Refusal::Undefined);
+        return Err(Refusal::Undefined);
     }
     let count = names.len();
     let run = PinRun { first: at, count };
     put_record(gates, j, at, Gate::Nary(NaryType::And, run));
-    Placed::Pins(at + count)
+    Ok(at + count)
 }
 
 // Places gate j for block j, with its pins from cell at on.
@@ -112,7 +98,7 @@ fn place_block(
     gates: &mut [u32],
     pins: &mut [u32],
     at: usize,
-) -> Placed
+) -> Result<usize, Refusal>
     requires index { Index text.now index.now (entry_count index.now) × Blocks text.now tokens.now (length tokens.now) blocks.now (j + 1) }
     requires gate_room { GateRoom gates.old pins.old j at (placed_count (def_at text.now tokens.now (length tokens.now) blocks.now j)) }
     ensures { DefPlaced (signal_in (entries_of text.now index.now (entry_count index.now)))
@@ -124,10 +110,11 @@ fn place_block(
     let first = block.first;
     if block.names == 0 {
         let behind = first + block.lines;
-        return place_latch(text, &tokens[first..behind], index, j, gates, pins, at);
+        place_latch(text, &tokens[first..behind], index, j, gates, pins, at)
+    } else {
+        let end = first + block.names - 1;
+        place_cover(text, &tokens[first..end], index, j, gates, pins, at)
     }
-    let end = first + block.names - 1;
-    place_cover(text, &tokens[first..end], index, j, gates, pins, at)
 }
 
 // Places a gate for each block: a latch's Dff, and for a cover an And of its inputs.
@@ -139,7 +126,7 @@ pub fn place_gates(
     g: usize,
     gates: &mut [u32],
     pins: &mut [u32],
-) -> Placed
+) -> Result<usize, Refusal>
     requires index { Index text.now index.now (entry_count index.now) × Blocks text.now tokens.now (length tokens.now) blocks.now g }
     requires work_room { WorkRoom gates.old pins.old × (g ≤ max_gates)
         × (sum_of placed_count (defs_at text.now tokens.now (length tokens.now) blocks.now g) ≤ max_pins) }
@@ -148,14 +135,8 @@ pub fn place_gates(
         gates.new pins.new result }
 {
     let mut at = 0;
-    let mut j = 0;
-    while j < g {
-        let placed = place_block(text, tokens, index, blocks, j, gates, pins, at);
-        match placed {
-            Placed::Pins(end) => at = end,
-            Placed::Refused(refusal) => return Placed::Refused(refusal),
-        }
-        j += 1;
+    for j in 0..g {
+        at = place_block(text, tokens, index, blocks, j, gates, pins, at)?;
     }
-    Placed::Pins(at)
+    Ok(at)
 }

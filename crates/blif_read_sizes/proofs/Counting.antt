@@ -18,9 +18,9 @@ use Rattle.network.specs.Sizes.{over_sizes}
 use Rattle.blif_reading.specs.Read.{gate_count, pin_count, too_large}
 use Rattle.network.proofs.SizeLimits.{not-over, within-over}
 use Rattle.blif_reading.proofs.SizeLimits.{sizes-within}
-use Rattle.blif_read_sizes.specs.Between.Sizes.{Few, sizes, sizes_of, Added, Totals}
+use Rattle.blif_read_sizes.specs.Between.Sizes.{sizes_of, Added, Totals}
 use Rattle.blif_read_sizes.specs.declared.Sizes.{Sizes}
-use Rattle.blif_read_sizes.proofs.SizeLaws.{counts_of, totals-more, few-of}
+use Rattle.blif_read_sizes.proofs.SizeLaws.{counts_of, totals-more}
 
 -- no declaration, no size
 module _ {ds : List Decl} {w : Sizes} where
@@ -48,21 +48,7 @@ pub record Counting (text tokens : List ℕ) (n at : ℕ) (w : Sizes) : Type 0 w
   -- what is left is what the declarations from there on have
   pub totals : Totals (decls (stmts_from text tokens n 0)) w (decls (stmts_from text tokens n at))
 
--- before the first declaration
-pub counting-start : {text tokens : List ℕ} {n : ℕ} → StmtsAt text tokens n 0 → n ≤ max_tokens → Counting text tokens n 0 (sizes 0 0 0 0)
-counting-start c h =
-    record {
-      rest = c;
-      few = h;
-      within = record { inputs = omega arith; outputs = omega arith; gates = omega arith; pins = omega arith };
-      totals = record { inputs = omega arith; outputs = omega arith; gates = omega arith; pins = omega arith };
-    }
-
 module _ {text tokens : List ℕ} {n at : ℕ} {v : Sizes} {d : Declaration} {behind : ℕ} (c : Counting text tokens n at v) (x : NextIs text tokens n at d behind) where
-  -- it can be counted
-  pub counting-few : Few d
-  counting-few = few-of text tokens n d c.few x.places
-
   module _ {w : Sizes} (a : Added v (sizes_of d) w) where
     -- the text's sizes
     now-totals : Totals (decls (stmts_from text tokens n 0)) w (decls (stmts_from text tokens n behind))

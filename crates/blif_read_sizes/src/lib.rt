@@ -23,14 +23,12 @@ struct Sizes {
 }
 
 // The gates of a cover with so many lines.
+#[tactic(auto, unfolding(blif_reading::specs::Read::added))]
 fn cover_gates(lines: usize) -> usize
     requires { lines ≤ max_tokens }
     ensures { result ≡ 1 + added lines }
 {
-    if 1 < lines {
-        return 1 + lines;
-    }
-    1
+    if 1 < lines { 1 + lines } else { 1 }
 }
 
 // The pins of a cover with so many names, its own among them, and lines.
@@ -38,21 +36,17 @@ fn cover_pins(names: usize, lines: usize) -> usize
     requires { (names ≤ max_tokens) × (lines ≤ max_tokens) }
     ensures { result ≡ (lines + 1) * (names - 1 + 2) }
 {
-    if names == 0 {
-        return (lines + 1) * 2;
-    }
-    (lines + 1) * (names - 1 + 2)
+    (lines + 1) * (names.saturating_sub(1) + 2)
 }
 
 // The sizes with one more declaration.
+#[tactic(auto, unfolding(blif_reading::specs::Read::added))]
 fn count_declaration(w: Sizes, d: Declaration) -> Sizes
     requires { WithinSizes w.inputs w.outputs w.gates w.pins × Few d }
     ensures { Added w (sizes_of d) result }
 {
     let mut sizes = w;
     match d {
-        Declaration::Model => {}
-        Declaration::End => {}
         Declaration::Inputs(run) => sizes.inputs += run.count,
         Declaration::Outputs(run) => sizes.outputs += run.count,
         Declaration::Latch(_) => {
@@ -63,7 +57,7 @@ fn count_declaration(w: Sizes, d: Declaration) -> Sizes
             sizes.gates += cover_gates(block.lines);
             sizes.pins += cover_pins(block.names, block.lines);
         }
-        Declaration::None => {}
+        Declaration::Model | Declaration::End | Declaration::None => {}
     }
     sizes
 }
@@ -72,16 +66,7 @@ fn count_declaration(w: Sizes, d: Declaration) -> Sizes
 fn is_past(w: Sizes) -> bool
     ensures { result ≡ over_sizes w.inputs w.outputs w.gates w.pins }
 {
-    if MAX_INPUTS < w.inputs {
-        return true;
-    }
-    if MAX_OUTPUTS < w.outputs {
-        return true;
-    }
-    if MAX_GATES < w.gates {
-        return true;
-    }
-    MAX_PINS < w.pins
+    MAX_INPUTS < w.inputs || MAX_OUTPUTS < w.outputs || MAX_GATES < w.gates || MAX_PINS < w.pins
 }
 
 // Whether a size is passed (refusal 6).

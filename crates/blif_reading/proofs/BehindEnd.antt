@@ -1,4 +1,5 @@
 -- What stands behind `.end` or `.exdc` is not read, but has to parse (document 02, CR 3). Assumes nothing.
+use Rattle.std.specs.Prelude.{⊤, Result, Err}
 use mathlib.Core.Path.{◌≡◌, refl, sym, ap, ap₂, ◌∙◌}
 use mathlib.Core.Bool.{false}
 use mathlib.Core.List.{List, ◌++◌}
@@ -10,11 +11,9 @@ use lib.ListN.{length, length-append}
 use borrow.Author.Tests.{le-ltb}
 use Rattle.lists.specs.Lists.{Bytes, any}
 use Rattle.lists.proofs.Every.{any_append}
-use Rattle.refusals.specs.Order.{◌or_else◌, refuse_if}
+use Rattle.refusals.specs.Order.{◌or_else◌, refuse_if, fine}
 use Rattle.refusals.specs.declared.Refusal.{Refusal}
 use Rattle.refusals.specs.declared.Refusal.TheVariants as refusal
-use Rattle.refusals.specs.declared.Checked.{Checked}
-use Rattle.refusals.specs.declared.Checked.TheVariants.{Fine, Refused}
 use Rattle.refusals.proofs.Order.{or_else-fine}
 use Rattle.network.specs.Net.{Net}
 use Rattle.sort_order.specs.Sorted.{sorted}
@@ -23,7 +22,7 @@ use Rattle.blif_text.specs.Statements.{Parsed, parsed, first_bad, stmts}
 use Rattle.blif_text.specs.Decls.{Decl, decls, decls_of}
 use Rattle.blif_text.specs.Ended.{Ended, MayFollow}
 use Rattle.blif_text.proofs.Appended.{parsed-append, stmts-append, bad-append, decls-append}
-use Rattle.blif_reading.specs.Read.{refused, answer, built_from, decl_fault, read_fault, read_text}
+use Rattle.blif_reading.specs.Read.{answer, built_from, decl_fault, read_fault, read_text}
 
 module _ (text rest : Bytes) (e : Ended text) where
   statements : parsed (text ++ rest) ≡ parsed text ++ parsed rest
@@ -45,7 +44,7 @@ module _ (text rest : Bytes) (e : Ended text) where
     fault =
         let long : ltb max_text (length (text ++ rest)) ≡ false = le-ltb max_text (length (text ++ rest)) f.few in
         let short : ltb max_text (length text) ≡ false = le-ltb max_text (length text) (omega (arith, f.few, length-append text rest)) in
-        let bad : first_bad (parsed (text ++ rest)) ≡ first_bad (parsed text) = refusals ∙ ap (λ (c : Checked). first_bad (parsed text) or_else c) f.parses ∙ or_else-fine (first_bad (parsed text)) in
+        let bad : first_bad (parsed (text ++ rest)) ≡ first_bad (parsed text) = refusals ∙ ap (λ (c : Result ⊤ Refusal). first_bad (parsed text) or_else c) f.parses ∙ or_else-fine (first_bad (parsed text)) in
         λ i.
         refuse_if ((long ∙ sym short) i) refusal.TextTooLong
         or_else refuse_if (any_append (leb 128) text rest f.plain i) refusal.HighByte
@@ -54,14 +53,14 @@ module _ (text rest : Bytes) (e : Ended text) where
 
     pub behind-end : read_text (text ++ rest) ≡ read_text text
     unfolding read_text
-    behind-end = ap₂ (λ (c : Checked) (n : Option Net). answer c n) fault (ap (λ (ds : List Decl). sorted (built_from ds)) declarations)
+    behind-end = ap₂ (λ (c : Result ⊤ Refusal) (n : Option Net). answer c n) fault (ap (λ (ds : List Decl). sorted (built_from ds)) declarations)
 
-  module _ (few : length (text ++ rest) ≤ max_text) (plain : any (leb 128) (text ++ rest) ≡ false) (good : first_bad (parsed text) ≡ Fine) {r : Refusal}
-      (bad : first_bad (parsed rest) ≡ Refused r) where
-    pub behind-end-refused : read_text (text ++ rest) ≡ refused r
+  module _ (few : length (text ++ rest) ≤ max_text) (plain : any (leb 128) (text ++ rest) ≡ false) (good : first_bad (parsed text) ≡ fine) {r : Refusal}
+      (bad : first_bad (parsed rest) ≡ Err r) where
+    pub behind-end-refused : read_text (text ++ rest) ≡ Err r
     unfolding read_text read_fault answer ◌or_else◌ refuse_if
     behind-end-refused =
-        ap₂ (λ (c : Checked) (n : Option Net). answer c n)
+        ap₂ (λ (c : Result ⊤ Refusal) (n : Option Net). answer c n)
         (λ i.
         refuse_if (le-ltb max_text (length (text ++ rest)) few i) refusal.TextTooLong
         or_else refuse_if (plain i) refusal.HighByte

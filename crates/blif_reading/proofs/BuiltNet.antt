@@ -1,4 +1,5 @@
 -- The gates as built, in working cells, are a network that the sort takes. Assumes nothing.
+use Rattle.refusals.specs.Order.{fine}
 use mathlib.Core.Path.{◌≡◌, refl, sym, ap, ◌∙◌, subst}
 use mathlib.Core.Bool.{true}
 use mathlib.Core.List.{List, map, Memᴰ}
@@ -10,7 +11,6 @@ use Rattle.lists.specs.Lists.{range}
 use Rattle.lists.proofs.Every.{every-place}
 use Rattle.lists.proofs.Places.{place-lt, lt-place, ext-place, map-map}
 use Rattle.lists.proofs.Range.{length-range, map_range}
-use Rattle.refusals.specs.declared.Checked.TheVariants.{Fine}
 use Rattle.signal.specs.Signal.{Node, Signal}
 use Rattle.signal.specs.Cell.{sig_cell, sig_of}
 use Rattle.signal.proofs.Cells.{Small}
@@ -63,7 +63,7 @@ pub gates-are : (ds : List Decl) → built_gates (signal_of ds) (defs ds) ≡ (b
 unfolding built_from
 gates-are ds = refl
 
-module _ {ds : List Decl} {c : Counts} {gates pins_in outs_in : List ℕ} {used : ℕ} (fault : decl_fault ds ≡ Fine) (b : BuiltIn ds c gates pins_in outs_in used) where
+module _ {ds : List Decl} {c : Counts} {gates pins_in outs_in : List ℕ} {used : ℕ} (fault : decl_fault ds ≡ fine) (b : BuiltIn ds c gates pins_in outs_in used) where
   -- the gates in the cells
   abbrev built : List Gate
   built = built_gates (signal_of ds) (defs ds)

@@ -16,9 +16,8 @@ use Rattle.lists.proofs.Places.{mem-place, map-place}
 use Rattle.lists.proofs.Range.{all-mem, any_none}
 use Rattle.lists.proofs.Known.{known-mem, unknown-out}
 use Rattle.lists.proofs.Once.{once-nil, dup-left, dup-right, dup-both, dup-append}
-use Rattle.refusals.specs.Order.{◌or_else◌, refuse_if}
+use Rattle.refusals.specs.Order.{◌or_else◌, refuse_if, fine}
 use Rattle.refusals.specs.declared.Refusal.TheVariants as refusal
-use Rattle.refusals.specs.declared.Checked.TheVariants.{Fine}
 use Rattle.refusals.proofs.Order.{refused-ne-fine, or_else-left, or_else-right, fine-refuse_if}
 use Rattle.network.specs.Net.{Valid}
 use Rattle.blif_text.specs.Decls.{Def, latch, cover, Decl, model, end, inputs, outputs, gate, ins_of, defs_of, ins, outs, defs, cover_out, cover_ins, defines, used_names, columns, output, is_one}
@@ -70,7 +69,7 @@ fresh-twice [] l e = fresh-nil l
 fresh-twice (n ∷ ns) l e =
     fresh-append l (n ∷ []) ns (fresh-one l n (or_left (known n l) (defined_twice (l ++ (n ∷ [])) ns) e)) (fresh-twice ns (l ++ (n ∷ [])) (or_right (known n l) (defined_twice (l ++ (n ∷ [])) ns) e))
 
-fresh-named : (ds : List Decl) (seen : Bool) (l : List Bytes) → naming seen l ds ≡ Fine → Fresh l (declared ds)
+fresh-named : (ds : List Decl) (seen : Bool) (l : List Bytes) → naming seen l ds ≡ fine → Fresh l (declared ds)
 unfolding naming defines
 fresh-named [] seen l e = fresh-nil l
 fresh-named (model ∷ ds) seen l e = fresh-named ds true l (or_else-right (refuse_if seen refusal.SecondModel) (naming true l ds) e)
@@ -184,7 +183,7 @@ module _ (ds : List Decl) where
             k x (Memᴰ.append_right (outs ds) (uses-in (defs ds) t.0 x t.1 (subst (Memᴰ x) (ap sources (sym t.2) ∙ sources-of t.0) v)));
       }
 
-  pub once-of : naming false [] ds ≡ Fine → Dup (defined m) → ⊥
+  pub once-of : naming false [] ds ≡ fine → Dup (defined m) → ⊥
   unfolding ins defs
   once-of e d = (fresh-named ds false [] e).once (dup-declared ds (subst (λ (l : List Bytes). Dup (flat_map ins_of ds ++ l)) (targets_of (flat_map defs_of ds)) d))
 
@@ -214,7 +213,7 @@ ins-length : (ns : List Bytes) → length (cover_ins ns) ≡ length ns - 1
 unfolding cover_ins
 ins-length ns = length-take (length ns - 1) ns ∙ omega arith
 
-pub good_of : (g : Def) → cover_fault g ≡ Fine → GoodBlock (block_of g)
+pub good_of : (g : Def) → cover_fault g ≡ fine → GoodBlock (block_of g)
 unfolding cover_fault
 good_of (latch l) e = tt
 good_of (cover ns ls) e =
@@ -224,12 +223,12 @@ good_of (cover ns ls) e =
     let k : b ≡ false = fine-refuse_if b refusal.OutputsDiffer (or_else-right (refuse_if a refusal.WrongCubeLine) (refuse_if b refusal.OutputsDiffer) e) in
     (any is_one ls, lines_of (length (cover_ins ns)) (any is_one ls) ls (λ ts m. (good_length (length ns - 1) ts (all-mem (good_line (length ns - 1)) ls h ts m) ∙ sym (ins-length ns), one-output ls k ts m)))
 
-good_at : (g : Def) (gs : List Def) → cover_faults gs ≡ Fine → Memᴰ g gs → cover_fault g ≡ Fine
+good_at : (g : Def) (gs : List Def) → cover_faults gs ≡ fine → Memᴰ g gs → cover_fault g ≡ fine
 unfolding cover_faults
 good_at g _ e (Memᴰ.head {x = h} {xs = gs} q) = ap cover_fault q ∙ or_else-left (cover_fault h) (cover_faults gs) e
 good_at g _ e (Memᴰ.tail {x = h} {xs = gs} m) = good_at g gs (or_else-right (cover_fault h) (cover_faults gs) e) m
 
-pub goods-of : (gs : List Def) → cover_faults gs ≡ Fine → (g : Def) → Memᴰ g gs → cover_fault g ≡ Fine
+pub goods-of : (gs : List Def) → cover_faults gs ≡ fine → (g : Def) → Memᴰ g gs → cover_fault g ≡ fine
 goods-of gs e g m = good_at g gs e m
 
 -- ---- 6 to 13
@@ -237,11 +236,11 @@ goods-of gs e g m = good_at g gs e m
 -- declarations that none of the tests of 6 to 13 refuses
 pub record Passed (ds : List Decl) : Type 0 where
   pub within : too_large ds ≡ false
-  pub named : naming false [] ds ≡ Fine
+  pub named : naming false [] ds ≡ fine
   pub used : undefined ds ≡ false
-  pub covered : cover_faults (defs ds) ≡ Fine
+  pub covered : cover_faults (defs ds) ≡ fine
 
-pub passed : (ds : List Decl) → decl_fault ds ≡ Fine → Passed ds
+pub passed : (ds : List Decl) → decl_fault ds ≡ fine → Passed ds
 unfolding decl_fault
 passed ds e =
     let f = or_else-right (refuse_if (too_large ds) refusal.SizePassed) (naming false [] ds or_else refuse_if (undefined ds) refusal.Undefined or_else cover_faults (defs ds)) e in

@@ -1,4 +1,5 @@
 -- A network that is read: valid, formed, sorted, plain, without a loop, and within the sizes. Assumes nothing.
+use Rattle.std.specs.Prelude.{Ok}
 use mathlib.Core.Path.{◌≡◌, sym, ap, ◌∙◌}
 use mathlib.Core.Bool.{true}
 use mathlib.Core.List.{List}
@@ -15,7 +16,7 @@ use Rattle.sort_order.proofs.Summary.{sorted-keeps, sort-sorts}
 use Rattle.sort_order.proofs.Keeps.{sorted-plain}
 use Rattle.blif_text.specs.Decls.{Decl, outs, defs, decls_of}
 use Rattle.blif_text.proofs.PlainLatches.{declared-plain}
-use Rattle.blif_reading.specs.Read.{read, signal_of, built_from, read_text}
+use Rattle.blif_reading.specs.Read.{signal_of, built_from, read_text}
 use Rattle.blif_reading.proofs.BuiltCounts.{built-gates, built-pins}
 use Rattle.blif_reading.proofs.BuiltEach.{built-formed, built-plain}
 use Rattle.blif_reading.proofs.BuiltNet.{gates-are}
@@ -40,7 +41,7 @@ formed-built ds g x e = every-place (built-formed (signal_of ds) (defs ds)) g x 
 plain-built : (s : Bytes) → all is_plain (built_from (decls_of s)).gates ≡ true
 plain-built s = let ds = decls_of s in ap (all is_plain) (sym (gates-are ds)) ∙ built-plain (signal_of ds) (defs ds) (declared-plain s)
 
-pub read-net : (s : Bytes) (new : Net) → read_text s ≡ read new → NetRead new
+pub read-net : (s : Bytes) (new : Net) → read_text s ≡ Ok new → NetRead new
 unfolding built_from
 read-net s new e =
     let r = passed-read s new e in

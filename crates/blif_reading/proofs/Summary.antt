@@ -5,6 +5,8 @@
 --   reading-refuses  which refusals reading answers
 --   behind-end       what stands behind `.end` or `.exdc` is not read
 --   behind-end-refused  but has to parse
+use Rattle.refusals.specs.Order.{fine}
+use Rattle.std.specs.Prelude.{Ok, Err}
 use mathlib.Core.Path.{◌≡◌, refl}
 use mathlib.Core.Bool.{Bool, false}
 use mathlib.Core.List.{List, ◌++◌, Memᴰ}
@@ -24,12 +26,11 @@ use Rattle.blif_text.specs.Ended.{Ended, MayFollow}
 use Rattle.network.proofs.Summary.{one-run-start}
 use Rattle.refusals.specs.Numbers.{InReading}
 use Rattle.refusals.specs.declared.Refusal.{Refusal}
-use Rattle.refusals.specs.declared.Checked.TheVariants.{Fine, Refused}
 use Rattle.blif_reading.specs.TextModel.{model_of_text}
 use Rattle.blif_reading.specs.Lookup.{lookup}
 use Rattle.blif_reading.specs.Build.{build}
 use Rattle.blif_reading.specs.Accepts.{Accepts}
-use Rattle.blif_reading.specs.Read.{read, refused, read_text}
+use Rattle.blif_reading.specs.Read.{read_text}
 use Rattle.blif_reading.proofs.Meaning as meaning
 use Rattle.blif_reading.proofs.Accepted as reading
 use Rattle.blif_reading.proofs.ReadNet.{read-net}
@@ -44,7 +45,7 @@ built-means m acc = meaning.built-means m acc
 
 -- demand 2: where a text is read as a network, for every list of input rows the text has just one list of outputs, by the Berkeley text,
 -- and it is the network's, by the relation and by the function
-pub read-means : (text : Bytes) (net : Net) → read_text text ≡ read net → (rows outs : List (List Bool))
+pub read-means : (text : Bytes) (net : Net) → read_text text ≡ Ok net → (rows outs : List (List Bool))
     → (BlifRuns (model_of_text text) rows outs ↔ NetRuns net rows outs) × (BlifRuns (model_of_text text) rows outs ↔ (outs ≡ run net rows))
 read-means text net e rows outs =
     let k = read-net text net e in
@@ -54,7 +55,7 @@ read-means text net e rows outs =
 
 -- "2 and 3 read as zero": of a text whose latches have such initial states the Berkeley text allows more runs, and the network's is one of
 -- them; of any other text it is the only one
-pub read-allowed : (text : Bytes) (net : Net) → read_text text ≡ read net → (rows : List (List Bool))
+pub read-allowed : (text : Bytes) (net : Net) → read_text text ≡ Ok net → (rows : List (List Bool))
     → MayRun (model_of_text text) rows (run net rows)
     × (((d : LatchDef Bytes) → Memᴰ (Latch d) (model_of_text text).blocks → (d.init ≡ I0) ⊎ (d.init ≡ I1))
     → (outs : List (List Bool)) → MayRun (model_of_text text) rows outs → outs ≡ run net rows)
@@ -64,7 +65,7 @@ read-allowed text net e rows = (
 )
 
 -- "Reading refuses, in order: .. 2 .. 14", and 34, and nothing else; 1 is told of the lent cells
-pub reading-refuses : (text : Bytes) (r : Refusal) → read_text text ≡ refused r → InReading r
+pub reading-refuses : (text : Bytes) (r : Refusal) → read_text text ≡ Err r → InReading r
 reading-refuses = texts.reading-refuses
 
 -- "`.end` stops naming, building and size counting as `.exdc` does": a text that one of them ends is read, or refused, as the same text with
@@ -75,5 +76,5 @@ behind-end = ended.behind-end
 -- "later statements must still parse": the first that does not refuses the text, whatever comes before it, but for 2, 3 and the refusals of
 -- statements before it
 pub behind-end-refused : (text rest : Bytes) → Ended text → length (text ++ rest) ≤ max_text → any (leb 128) (text ++ rest) ≡ false
-    → first_bad (parsed text) ≡ Fine → {r : Refusal} → first_bad (parsed rest) ≡ Refused r → read_text (text ++ rest) ≡ refused r
+    → first_bad (parsed text) ≡ fine → {r : Refusal} → first_bad (parsed rest) ≡ Err r → read_text (text ++ rest) ≡ Err r
 behind-end-refused text rest e few plain good bad = ended.behind-end-refused text rest e few plain good bad

@@ -1,14 +1,12 @@
 -- What reading a text gives: refusals in order, and the network read (document 01, "Reading refuses, in order"). Refusal 1, which asks for
 -- lent cells, stands with the code. Assumes nothing: these are definitions.
-use Rattle.std.specs.Prelude.{Bool, true, false, ◌&&◌, ◌||◌, not, ℕ, ◌+◌, ◌-◌, ◌*◌, eqb, leb, ltb, length, if◌then◌else◌}
+use Rattle.std.specs.Prelude.{Bool, true, false, ◌&&◌, ◌||◌, not, ℕ, ◌+◌, ◌-◌, ◌*◌, eqb, leb, ltb, length, if◌then◌else◌, ⊤, Result, Ok, Err}
 use mathlib.Core.List.{List, [], ◌∷◌, ◌++◌, map, flat_map}
 use Rattle.std.proofs.Math.Option.{Option, none, some}
 use Rattle.lists.specs.Lists.{Bytes, all, any, sum_of, elem, known}
-use Rattle.refusals.specs.Order.{◌or_else◌, refuse_if}
+use Rattle.refusals.specs.Order.{◌or_else◌, refuse_if, fine}
 use Rattle.refusals.specs.declared.Refusal.{Refusal}
 use Rattle.refusals.specs.declared.Refusal.TheVariants as refusal
-use Rattle.refusals.specs.declared.Checked.{Checked}
-use Rattle.refusals.specs.declared.Checked.TheVariants.{Fine, Refused}
 use Rattle.signal.specs.Signal.{Signal}
 use Rattle.network.specs.Net.{Net}
 use Rattle.network.specs.Sizes.{over_sizes}
@@ -49,14 +47,14 @@ defined_twice earlier (n ∷ ns) = known n earlier || defined_twice (earlier ++ 
 
 -- "7 at a second `.model`; 8 at `.end` before any `.model`; 9 when `.names` is empty; 10 when a name is defined twice by inputs,
 -- latch outputs or covers"; `seen` says that there was a `.model`, `earlier` lists the names defined so far
-unfoldable pub naming : Bool → List Bytes → List Decl → Checked
-naming seen earlier [] = Fine
+unfoldable pub naming : Bool → List Bytes → List Decl → Result ⊤ Refusal
+naming seen earlier [] = fine
 naming seen earlier (model ∷ ds) = refuse_if seen refusal.SecondModel or_else naming true earlier ds
 naming seen earlier (end ∷ ds) = refuse_if (not seen) refusal.EndBeforeModel or_else naming seen earlier ds
 naming seen earlier (inputs ns ∷ ds) = refuse_if (defined_twice earlier ns) refusal.DefinedTwice or_else naming seen (earlier ++ ns) ds
 naming seen earlier (outputs ns ∷ ds) = naming seen earlier ds
 naming seen earlier (gate (latch d) ∷ ds) = refuse_if (known d.output earlier) refusal.DefinedTwice or_else naming seen (earlier ++ (d.output ∷ [])) ds
-naming seen earlier (gate (cover [] ls) ∷ ds) = Refused refusal.NamesEmpty
+naming seen earlier (gate (cover [] ls) ∷ ds) = Err refusal.NamesEmpty
 naming seen earlier (gate (cover (n ∷ ns) ls) ∷ ds) =
     refuse_if (known (cover_out (n ∷ ns)) earlier) refusal.DefinedTwice or_else naming seen (earlier ++ (cover_out (n ∷ ns) ∷ [])) ds
 
@@ -80,21 +78,21 @@ good_line width ts =
     && known (output ts) ((48 ∷ []) ∷ (49 ∷ []) ∷ [])
 
 -- "13 when its lines are all good but differ in output"
-unfoldable pub cover_fault : Def → Checked
-cover_fault (latch d) = Fine
+unfoldable pub cover_fault : Def → Result ⊤ Refusal
+cover_fault (latch d) = fine
 cover_fault (cover ns ls) =
     refuse_if (not (all (good_line (length ns - 1)) ls)) refusal.WrongCubeLine
     or_else refuse_if (any is_one ls && not (all is_one ls)) refusal.OutputsDiffer
 
 -- "Then cover by cover": "The first wrong column of the first wrong cube line ends the whole pass"
-unfoldable pub cover_faults : List Def → Checked
-cover_faults [] = Fine
+unfoldable pub cover_faults : List Def → Result ⊤ Refusal
+cover_faults [] = fine
 cover_faults (g ∷ gs) = cover_fault g or_else cover_faults gs
 
 -- ---- reading
 
 -- 6 to 13
-unfoldable pub decl_fault : List Decl → Checked
+unfoldable pub decl_fault : List Decl → Result ⊤ Refusal
 decl_fault ds =
     refuse_if (too_large ds) refusal.SizePassed
     or_else naming false [] ds
@@ -102,23 +100,18 @@ decl_fault ds =
     or_else cover_faults (defs ds)
 
 -- "2 when the text is over 32,768 bytes. 3 when it has a byte of 128 or more", then 4, 5 and 34, then 6 to 13
-unfoldable pub read_fault : Bytes → Checked
+unfoldable pub read_fault : Bytes → Result ⊤ Refusal
 read_fault text =
     refuse_if (ltb max_text (length text)) refusal.TextTooLong
     or_else refuse_if (any (leb 128) text) refusal.HighByte
     or_else first_bad (parsed text)
     or_else decl_fault (decls_of text)
 
--- a network, or a refusal
-pub data Result : Type 0 where
-  read : Net → Result
-  refused : Refusal → Result
-
 -- "14 at a combinational loop among the gates as built"
-unfoldable pub answer : Checked → Option Net → Result
-answer Fine none = refused refusal.CombinationalLoop
-answer Fine (some net) = read net
-answer (Refused r) net = refused r
+unfoldable pub answer : Result ⊤ Refusal → Option Net → Result Net Refusal
+answer (Ok _) none = Err refusal.CombinationalLoop
+answer (Ok _) (some net) = Ok net
+answer (Err r) net = Err r
 
 -- the signal of a name that these declarations define
 abbrev pub signal_of : List Decl → Bytes → Signal
@@ -129,5 +122,5 @@ unfoldable pub built_from : List Decl → Net
 built_from ds = build (signal_of ds) (model_of ds)
 
 -- what reading gives, where the cells suffice: a refusal, or the gates as built, and "Then the network is sorted"
-unfoldable pub read_text : Bytes → Result
+unfoldable pub read_text : Bytes → Result Net Refusal
 read_text text = answer (read_fault text) (sorted (built_from (decls_of text)))

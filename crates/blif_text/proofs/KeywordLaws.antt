@@ -6,10 +6,12 @@ use mathlib.Core.List.{List, [], ◌∷◌, ◌++◌, head_d}
 use Prim.Native.Nat.{ℕ, suc, ◌<◌}
 use native.Mathlib.Omega.{arith}
 use lib.Dec.{eqb}
-use lib.ListN.{length, get_or, take, drop, take-append-drop}
+use lib.ListN.{get_or, take, drop, take-append-drop}
 use lib.Seq.{drop-cons}
 use Rattle.lists.specs.Lists.{Bytes, any, same}
-use Rattle.lists.proofs.Tests.{by-test, or_left, or_right}
+use Rattle.std.specs.List.{starts_with}
+use Rattle.std.proofs.lemmas.Bool.Decides.{nat_tests}
+use Rattle.lists.proofs.Tests.{by-test, and-true, or_left, or_right}
 use Rattle.blif_text.specs.Keywords.{Spelling, spelling, keywords, leading_dot, keyword_among, keyword_of}
 use Rattle.blif_text.specs.declared.Keyword.{Keyword}
 use Rattle.blif_text.specs.declared.Keyword.TheVariants as key
@@ -50,16 +52,13 @@ pub ruleset tried = (none, other)
 -- ---- the first byte
 
 -- the first byte tells
-pub dot-told : (k : Bytes) → eqb (get_or k 0 0) 46 ≡ leading_dot k
-unfolding head_d
-dot-told [] = refl
-dot-told (c ∷ k) = refl
+dot-either : (c : ℕ) → eqb 46 c ≡ eqb c 46
+dot-either c = grind (arith, nat_tests)
 
--- an empty token has no leading dot
-pub none-leads : (k : Bytes) → length k ≡ 0 → false ≡ leading_dot k
+pub starts-dot : (k : Bytes) → starts_with eqb k (46 ∷ []) ≡ leading_dot k
 unfolding head_d
-none-leads [] h = refl
-none-leads (c ∷ k) h = absurd (omega arith)
+starts-dot [] = refl
+starts-dot (c ∷ k) = simp (dot-either, and-true)
 
 -- a leading dot, and none of the keywords, of which the last is told apart: a search for all seven takes too long
 pub dot-first : {k : Bytes} {b : Bool} → NoneOf k (take 6 keywords) → b ≡ same k (name_at 6).name → b ≡ false → leading_dot k ≡ true → key.Unsupported ≡ keyword_of k

@@ -1,6 +1,6 @@
 -- One step of each scanning loop. Assumes nothing.
 use mathlib.Core.Path.{◌≡◌, ap, ◌∙◌, subst}
-use mathlib.Core.Bool.{Bool, true, false}
+use mathlib.Core.Bool.{Bool, false}
 use mathlib.Core.List.{List}
 use Prim.Native.Nat.{ℕ, ◌+◌, ◌-◌, ◌≤◌, ◌<◌}
 use native.Mathlib.Omega.{arith}
@@ -10,8 +10,6 @@ use Rattle.lists.specs.Lists.{Bytes, any}
 use Rattle.lists.proofs.Places.{length_run, place-mem, place-get_or}
 use Rattle.lists.proofs.Range.{any_none}
 use Rattle.lists.proofs.Tests.{by_order}
-use Rattle.blif_text.specs.Between.Places.{is_first}
-use Rattle.blif_text.specs.Between.PlacedStatements.{RowTo}
 use Rattle.blif_text.specs.Between.Scan.{NoneTo}
 
 -- where none passes, no element does
@@ -58,7 +56,3 @@ none-join {i = i} c d =
 -- by a test that what fails the first one fails too
 pub none-as : {p q : ℕ → Bool} {t : Bytes} {a e : ℕ} → ((c : ℕ) → p c ≡ false → q c ≡ false) → NoneTo p t a e → NoneTo q t a e
 none-as {t = t} f c = record { low = c.low; high = c.high; none = λ k x y. f (get_or t k 0) (c.none k x y) }
-
--- a row's end, where each cell behind its first has been passed
-pub row-stop : {t : List ℕ} {at n i : ℕ} → NoneTo is_first t (at + 1) i → i ≤ n → (i < n → is_first (get_or t i 0) ≡ true) → RowTo t at n i
-row-stop c h f = record { low = omega (arith, c.low); high = h; inner = λ k a b. c.none k (omega arith) b; stop = f }

@@ -1,4 +1,5 @@
 -- The walk over marked rows up to the first refusal, and over statements that none refuses. Assumes nothing.
+use Rattle.std.specs.Prelude.{⊤, Result, Ok, Err}
 use mathlib.Core.Path.{◌≡◌, refl, sym, ap, ◌∙◌, subst}
 use mathlib.Core.List.{List, [], ◌∷◌, map}
 use Prim.Native.Nat.{ℕ, ◌≤◌, ◌<◌}
@@ -6,10 +7,8 @@ use native.Mathlib.Omega.{arith}
 use lib.ListN.{length, take}
 use lib.Seq.{take-take, length-take-le, get_or-take}
 use Rattle.lists.specs.Lists.{Bytes}
-use Rattle.refusals.specs.Order.{◌or_else◌}
+use Rattle.refusals.specs.Order.{◌or_else◌, fine}
 use Rattle.refusals.specs.declared.Refusal.{Refusal}
-use Rattle.refusals.specs.declared.Checked.{Checked}
-use Rattle.refusals.specs.declared.Checked.TheVariants.{Fine, Refused}
 use Rattle.refusals.proofs.Order.{or_else-left, or_else-right, or_else-stop, or_else-go}
 use Rattle.blif_text.specs.Statements.{Parsed, parsed, first_bad, stmts, refusal_of}
 use Rattle.blif_text.specs.Between.Rows.{row_stmt}
@@ -25,30 +24,30 @@ use Rattle.blif_text.proofs.StatementLaws.{statement-says}
 -- ---- the row's statement
 
 -- whether a statement is a refusal, its text does not tell
-refusal-parsed_from : (text cells : List ℕ) (s : Statement) → refusal_of (parsed_from text cells s) ≡ refusal_in s
-refusal-parsed_from text cells place.Model = refl
-refusal-parsed_from text cells place.End = refl
-refusal-parsed_from text cells place.Exdc = refl
-refusal-parsed_from text cells (place.Inputs run) = refl
-refusal-parsed_from text cells (place.Outputs run) = refl
-refusal-parsed_from text cells (place.Names run) = refl
-refusal-parsed_from text cells (place.Latch first) = refl
-refusal-parsed_from text cells (place.Cube run) = refl
-refusal-parsed_from text cells (place.Refused r) = refl
+refusal-parsed_from : (text cells : List ℕ) (s : Result Statement Refusal) → refusal_of (parsed_from text cells s) ≡ refusal_in s
+refusal-parsed_from text cells (Ok place.Model) = refl
+refusal-parsed_from text cells (Ok place.End) = refl
+refusal-parsed_from text cells (Ok place.Exdc) = refl
+refusal-parsed_from text cells (Ok (place.Inputs run)) = refl
+refusal-parsed_from text cells (Ok (place.Outputs run)) = refl
+refusal-parsed_from text cells (Ok (place.Names run)) = refl
+refusal-parsed_from text cells (Ok (place.Latch first)) = refl
+refusal-parsed_from text cells (Ok (place.Cube run)) = refl
+refusal-parsed_from text cells (Err r) = refl
 
 -- no statement, no refusal
-bad-none : first_bad [] ≡ Fine
+bad-none : first_bad [] ≡ fine
 unfolding first_bad
 bad-none = refl
 
 -- the first statement's refusal, then those of the others
-bad-cons : (text cells : List ℕ) (s : Statement) (ps : List Parsed) → first_bad (parsed_from text cells s ∷ ps) ≡ (refusal_in s or_else first_bad ps)
+bad-cons : (text cells : List ℕ) (s : Result Statement Refusal) (ps : List Parsed) → first_bad (parsed_from text cells s ∷ ps) ≡ (refusal_in s or_else first_bad ps)
 unfolding first_bad
-bad-cons text cells s ps = ap (λ (c : Checked). c or_else first_bad ps) (refusal-parsed_from text cells s)
+bad-cons text cells s ps = ap (λ (c : Result ⊤ Refusal). c or_else first_bad ps) (refusal-parsed_from text cells s)
 
 module _ {text cells : List ℕ} {n at r : ℕ} (c : RowsAt text cells n at) (h : at < n) (w : RowTo cells at n r) where
   -- the statement of the row
-  abbrev now : Statement
+  abbrev now : Result Statement Refusal
   now = statement_at text cells at r
 
   -- what is made of the row's statement and the others is made of the rows
@@ -74,16 +73,16 @@ passing-start {text} {cells} {n} m r = record { rows = rows_start m r; left = ap
 
 module _ {text cells : List ℕ} {n at : ℕ} (c : Passing text cells n at) where
   -- behind the last row
-  pub passing-done : n ≤ at → Fine ≡ first_bad (parsed text)
+  pub passing-done : n ≤ at → fine ≡ first_bad (parsed text)
   passing-done h = sym (ap (λ (x : List (List Bytes)). first_bad (map row_stmt x)) (rows_end c.rows h) ∙ bad-none) ∙ c.left
 
   module _ {r : ℕ} (h : at < n) (w : RowTo cells at n r) where
     -- the row's statement is a refusal
-    pub passing-stop : {k : Refusal} → refusal_in (statement_at text cells at r) ≡ Refused k → Refused k ≡ first_bad (parsed text)
+    pub passing-stop : {k : Refusal} → refusal_in (statement_at text cells at r) ≡ Err k → Err k ≡ first_bad (parsed text)
     passing-stop e = sym (or_else-stop (first_bad (map row_stmt (rows_from text cells n r))) e) ∙ bad-row c.rows h w ∙ c.left
 
     -- it is none
-    pub passing-next : refusal_in (statement_at text cells at r) ≡ Fine → Passing text cells n r
+    pub passing-next : refusal_in (statement_at text cells at r) ≡ fine → Passing text cells n r
     passing-next e = record { rows = rows_next c.rows h w; left = sym (or_else-go e) ∙ bad-row c.rows h w ∙ c.left }
 
 -- ---- the cells in use
@@ -107,7 +106,7 @@ marked-front {text} {cells} {n} h m =
 -- ---- the walk over statements that none refuses
 
 -- a text that 4, 5 and 34 do not refuse
-pub stmts-start : {text cells : List ℕ} {n : ℕ} → TokensMarked text cells n → n ≤ length cells → first_bad (parsed text) ≡ Fine → StmtsAt text cells n 0
+pub stmts-start : {text cells : List ℕ} {n : ℕ} → TokensMarked text cells n → n ≤ length cells → first_bad (parsed text) ≡ fine → StmtsAt text cells n 0
 stmts-start {text} m r e = let c = passing-start m r in record { rows = c.rows; good = c.left ∙ e }
 
 -- all statements are the text's
@@ -126,7 +125,7 @@ module _ {text cells : List ℕ} {n at : ℕ} (c : StmtsAt text cells n at) wher
     stmts-are = sym (row-parsed_from c.rows h w stmts)
 
     -- the row's statement is no refusal
-    pub stmts-parsed_from : refusal_in (statement_at text cells at r) ≡ Fine
+    pub stmts-parsed_from : refusal_in (statement_at text cells at r) ≡ fine
     stmts-parsed_from = or_else-left _ (first_bad (map row_stmt (rows_from text cells n r))) (bad-row c.rows h w ∙ c.good)
 
     -- the others

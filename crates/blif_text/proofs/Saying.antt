@@ -10,8 +10,7 @@ use borrow.Author.Tests.{eqb-false, leb-true, lt-leb, ne_eqb, ltb-true, not-true
 use Rattle.lists.specs.Lists.{Bytes, bytes, same, all, any}
 use Rattle.lists.proofs.Tests.{and_left, and_right, and-false}
 use Rattle.lists.proofs.Every.{Every, every-nil, every-cons, every_append, every_of, every-test, every-no, any_append}
-use Rattle.refusals.specs.Order.{◌or_else◌}
-use Rattle.refusals.specs.declared.Checked.TheVariants.{Fine}
+use Rattle.refusals.specs.Order.{◌or_else◌, fine}
 use Rattle.blif_meaning.specs.Model.{Init, I0, I1, DontCare, Unknown, init_bytes, plain_latch}
 use Rattle.blif_text.specs.Lines.{cut, continues, joined, is_blank, non_empty, tokens}
 use Rattle.blif_text.specs.Keywords.{keyword_of}
@@ -165,7 +164,7 @@ unfolding stmts
 stmts-ok [] = refl
 stmts-ok (s ∷ ss) = ap (λ (l : List Stmt). s ∷ l) (stmts-ok ss)
 
-pub none-bad : (ss : List Stmt) → first_bad (map ok ss) ≡ Fine
+pub none-bad : (ss : List Stmt) → first_bad (map ok ss) ≡ fine
 unfolding first_bad ◌or_else◌
 none-bad [] = refl
 none-bad (s ∷ ss) = none-bad ss

@@ -21,11 +21,6 @@ use Rattle.blif_text.proofs.TokenCells.{tokens-marked}
 
 -- ---- steps
 
--- one step after others
-pub scan-then : {text cells cells' cells'' : List ℕ} {i count i' count' i'' count'' : ℕ} {fresh fresh' fresh'' : Bool} → Scanned text cells i count fresh cells' i' count' fresh'
-    → Scanned text cells' i' count' fresh' cells'' i'' count'' fresh'' → Scanned text cells i count fresh cells'' i'' count'' fresh''
-scan-then a b = record { ready = b.ready; same_count = b.same_count ∙ a.same_count; same-cells = b.same-cells ∙ a.same-cells }
-
 module _ {text cells : List ℕ} {i count : ℕ} {fresh : Bool} where
   -- nothing is marked
   scan-on : {next : ℕ} {first : Bool} → ScanAt text cells next count → cells_from text i fresh ≡ cells_from text next first → Scanned text cells i count fresh cells next count first
@@ -68,12 +63,6 @@ module _ {text cells : List ℕ} {i count : ℕ} (c : ScanAt text cells i count)
     word_none : NoneTo ends_word text i e
     word_none = none-join (none-next (none-start ends_word c.high) h f) w.passed
 
-    pub word_room : count < length cells
-    word_room = omega (arith, c.fewer h f, c.small, c.room)
-
-    pub word-place : (i < 32768) × (e ≤ 32768)
-    word-place = (omega (arith, c.small), omega (arith, w.passed.high, c.small))
-
     pub scan-word : {fresh : Bool} → (get_or text (e - 1) 0 ≡ 92 → (next : ℕ) → StopTo text e next → ⊥) → Scanned text cells i count fresh (set cells count (token_cell fresh i (e - i))) e (count + 1) false
     scan-word {fresh} n =
         word-put
@@ -111,9 +100,6 @@ module _ {text cells : List ℕ} {i count : ℕ} (c : ScanAt text cells i count)
           (from_goes text fresh (omega arith) word_none s t m)
 
 -- ---- the whole scan
-
-pub scan-start : {text cells : List ℕ} → length text ≤ 32768 → 16384 ≤ length cells → Scanned text cells 0 0 true cells 0 0 true
-scan-start h k = record { ready = record { small = h; room = k; high = omega arith; few = omega arith; fewer = λ l e. omega arith }; same_count = refl; same-cells = refl }
 
 module _ {text cells cells' : List ℕ} {i count : ℕ} {fresh : Bool} (c : Scanned text cells 0 0 true cells' i count fresh) (h : length text ≤ i) where
   none_left : cells_from text i fresh ≡ []

@@ -1,45 +1,18 @@
 -- What tokens tell of a latch's start value. Assumes nothing.
 use mathlib.Core.Path.{◌≡◌, refl, sym, ap, ◌∙◌}
-use mathlib.Core.Bool.{Bool, true, false}
 use mathlib.Core.List.{List, [], ◌∷◌}
 use mathlib.Core.Option
 use mathlib.Core.Option.{Option, none, some}
 use Prim.Native.Nat.{ℕ, ◌≤◌, ◌<◌}
 use native.Mathlib.Omega.{arith}
 use lib.ListN.{length, get_or}
-use Rattle.lists.specs.Lists.{Bytes, bytes, same}
+use Rattle.lists.specs.Lists.{Bytes}
 use Rattle.blif_meaning.specs.Model.{Init, I0, I1, DontCare, Unknown, init_bit}
 use Rattle.blif_text.specs.Statements.{init_of, init_among}
 use Rattle.blif_text.specs.Between.Places.{token_of, tokens_of}
-use Rattle.blif_text.specs.Between.PlacedStatements.{start_of, at_one}
-use Rattle.blif_text.specs.declared.Start.{Start}
-use Rattle.blif_text.specs.declared.Start.TheVariants as start
-
--- ---- one token, compared with each initial state's
-
-module _ (t : Bytes) {a : Bool} (p : a ≡ same t (bytes "0")) where
-  pub says-zero : a ≡ true → start.Zero ≡ start_of (init_of t)
-  unfolding init_of
-  says-zero e = rw (sym p ∙ e)
-
-  module _ (e : a ≡ false) {b : Bool} (q : b ≡ same t (bytes "1")) where
-    pub says-one : b ≡ true → start.One ≡ start_of (init_of t)
-    unfolding init_of
-    says-one f = rw (sym p ∙ e, sym q ∙ f)
-
-    module _ (f : b ≡ false) {c : Bool} (r : c ≡ same t (bytes "2")) where
-      pub says_two : c ≡ true → start.Zero ≡ start_of (init_of t)
-      unfolding init_of
-      says_two g = rw (sym p ∙ e, sym q ∙ f, sym r ∙ g)
-
-      module _ (g : c ≡ false) {d : Bool} (s : d ≡ same t (bytes "3")) where
-        pub says_three : d ≡ true → start.Zero ≡ start_of (init_of t)
-        unfolding init_of
-        says_three h = rw (sym p ∙ e, sym q ∙ f, sym r ∙ g, sym s ∙ h)
-
-        pub says_none : d ≡ false → start.Wrong ≡ start_of (init_of t)
-        unfolding init_of
-        says_none h = rw (sym p ∙ e, sym q ∙ f, sym r ∙ g, sym s ∙ h)
+use Rattle.blif_text.specs.Between.PlacedStatements.{start_of}
+use Rattle.std.specs.Prelude.{Bool, false, Some, None, unwrap_or}
+use Rattle.std.specs.declared.option.Option as std-option
 
 -- ---- the token among those behind a latch's names
 
@@ -67,20 +40,20 @@ module _ (text : Bytes) where
   no-init (t ∷ c ∷ []) n h = refl
   no-init (t ∷ c ∷ v ∷ rest) n h = absurd (omega arith)
 
-  module _ (rest : List ℕ) {k : Bytes} {r : Start} (e : r ≡ start_of (init_of k)) where
+  module _ (rest : List ℕ) {k : Bytes} {r : std-option.Option Bool} (e : r ≡ start_of (init_of k)) where
     pub only-start : length rest ≡ 1 → k ≡ token_of text (get_or rest 0 0) → r ≡ start_of (init_among (tokens_of text rest))
     only-start h q = e ∙ ap start_of (ap init_of q ∙ sym (only-init rest h))
 
     pub third-start : 2 < length rest → k ≡ token_of text (get_or rest 2 0) → r ≡ start_of (init_among (tokens_of text rest))
     third-start h q = e ∙ ap start_of (ap init_of q ∙ sym (third-init rest h))
 
-  pub no_start : (rest : List ℕ) → (length rest ≡ 1 → ⊥) → length rest ≤ 2 → start.Zero ≡ start_of (init_among (tokens_of text rest))
+  pub no_start : (rest : List ℕ) → (length rest ≡ 1 → ⊥) → length rest ≤ 2 → Some false ≡ start_of (init_among (tokens_of text rest))
   no_start rest n h = sym (ap start_of (no-init rest n h))
 
 -- what is told is the value that is taken
-pub at_one-start_of : (o : Option Init) → at_one (start_of o) ≡ init_bit (Option.get_or o Unknown)
-at_one-start_of none = refl
-at_one-start_of (some I0) = refl
-at_one-start_of (some I1) = refl
-at_one-start_of (some DontCare) = refl
-at_one-start_of (some Unknown) = refl
+pub unwrap-start_of : (o : Option Init) → unwrap_or (start_of o) false ≡ init_bit (Option.get_or o Unknown)
+unwrap-start_of none = refl
+unwrap-start_of (some I0) = refl
+unwrap-start_of (some I1) = refl
+unwrap-start_of (some DontCare) = refl
+unwrap-start_of (some Unknown) = refl

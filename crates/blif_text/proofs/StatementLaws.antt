@@ -10,6 +10,7 @@ use lib.ListN.{length, get_or, take, drop, drop_of_length-le}
 use lib.Seq.{slice, slice-cons, length-take-le}
 use borrow.Author.Tests.{lt-ltb, le-ltb}
 use Rattle.lists.specs.Lists.{Bytes}
+use Rattle.refusals.specs.declared.Refusal.{Refusal}
 use Rattle.refusals.specs.declared.Refusal.TheVariants as refusal
 use Rattle.blif_meaning.specs.Model.{Init, I0, I1, DontCare, Unknown, plain_latch}
 use Rattle.blif_text.specs.Statements.{ok, bad, model_stmt, init_among, latch_with, latch_stmt, by_keyword, stmt_of}
@@ -21,7 +22,8 @@ use Rattle.blif_text.specs.Between.PlacedStatements.{parsed_from, init_in, start
 use Rattle.blif_text.specs.declared.Keyword.{Keyword}
 use Rattle.blif_text.specs.declared.Keyword.TheVariants as key
 use Rattle.blif_text.specs.declared.Run.{Run}
-use Rattle.blif_text.specs.declared.Start.{Start}
+use Rattle.std.specs.Prelude.{Bool, Result, Ok, Err}
+use Rattle.std.specs.declared.option.Option as std-option
 use Rattle.blif_text.specs.declared.Statement.{Statement}
 use Rattle.blif_text.specs.declared.Statement.TheVariants as place
 use Rattle.lists.proofs.Tests.{by_order}
@@ -83,43 +85,23 @@ module _ (text cells : List ℕ) where
       ap row_stmt (tokens-cons at end h r)
       ∙ row_is (token_of text (get_or cells at 0)) (tokens_of text (slice (at + 1) end cells))
 
--- ---- the statement of places by its keyword
+-- ---- a latch's
 
 -- how many names there are
 pub many : (at end : ℕ) {names : Run} → names ≡ names_run at end → names.count ≡ end - at - 1
 many at end e = ap (λ (run : Run). run.count) e
 
-module _ (text cells : List ℕ) {keyword : Keyword} (at end : ℕ) where
-  pub of-keyword : {k : Keyword} → keyword ≡ k → statement_of text cells k at end ≡ statement_of text cells keyword at end
-  of-keyword q = ap (λ (k : Keyword). statement_of text cells k at end) (sym q)
-
-  module _ {names : Run} (e : names ≡ names_run at end) where
-    -- a statement that has the names
-    pub of-names : {k : Keyword} (f : Run → Statement) → f (names_run at end) ≡ statement_of text cells k at end → keyword ≡ k → f names ≡ statement_of text cells keyword at end
-    of-names f p q = ap f e ∙ p ∙ of-keyword q
-
-    pub of-no-model : keyword ≡ key.Model → names.count < 1 → place.Refused refusal.MissingName ≡ statement_of text cells keyword at end
-    of-no-model q m = rw (lt-ltb (end - at - 1) 1 (omega (arith, many at end e, m))) at (of-keyword q)
-
-    pub of-model : keyword ≡ key.Model → 1 ≤ names.count → place.Model ≡ statement_of text cells keyword at end
-    of-model q m = rw (le-ltb (end - at - 1) 1 (omega (arith, many at end e, m))) at (of-keyword q)
-
--- ---- a latch's
-
 -- what a start value's test tells: the statement that has the names, or its refusal
-pub started : {run names : Run} {told s : Start} (f : Run → Statement) → names ≡ run → told ≡ s → f run ≡ started_latch s run → f names ≡ started_latch told run
-started {run} f e t p = ap f e ∙ p ∙ ap (λ (x : Start). started_latch x run) (sym t)
+pub started : {run names : Run} {told s : std-option.Option Bool} (f : Run → Result Statement Refusal) → names ≡ run → told ≡ s → f run ≡ started_latch s run → f names ≡ started_latch told run
+started {run} f e t p = ap f e ∙ p ∙ ap (λ (x : std-option.Option Bool). started_latch x run) (sym t)
 
 module _ (text cells : List ℕ) (at end : ℕ) {names : Run} (e : names ≡ names_run at end) where
-  pub latch-short : names.count < 2 → place.Refused refusal.MissingName ≡ latch_statement text cells at end
-  latch-short m = rw (lt-ltb (end - at - 1) 2 (omega (arith, many at end e, m)))
-
-  pub latch-started : {s : Statement} {told : Start} → 2 ≤ names.count
+  pub latch-started : {s : Result Statement Refusal} {told : std-option.Option Bool} → 2 ≤ names.count
       → told ≡ start_of (init_among (tokens_of text (take (end - (at + 3)) (drop (at + 3) cells))))
       → s ≡ started_latch told (names_run at end) → s ≡ latch_statement text cells at end
   latch-started m t p =
       p
-      ∙ ap (λ (x : Start). started_latch x (names_run at end)) (t ∙ ap (λ (x : List ℕ). start_of (init_among (tokens_of text x))) (sym (drop-take (at + 3) end cells)))
+      ∙ ap (λ (x : std-option.Option Bool). started_latch x (names_run at end)) (t ∙ ap (λ (x : List ℕ). start_of (init_among (tokens_of text x))) (sym (drop-take (at + 3) end cells)))
       ∙ sym (rw (le-ltb (end - at - 1) 2 (omega (arith, many at end e, m))))
 
 -- ---- what the statement of places says
@@ -171,7 +153,7 @@ module _ (text cells : List ℕ) {at end : ℕ} (h : at < end) (r : end ≤ leng
           rw (a, b)
 
       -- zero or one, the statement is the same
-      either : (i : Init) → parsed_from text cells (started_latch (start_of (some i)) (names_run at end)) ≡ parsed_from text cells (place.Latch (names_run at end))
+      either : (i : Init) → parsed_from text cells (started_latch (start_of (some i)) (names_run at end)) ≡ parsed_from text cells (Ok (place.Latch (names_run at end)))
       either I0 = refl
       either I1 = refl
       either DontCare = refl

@@ -1,8 +1,8 @@
 -- A text that `.end` or `.exdc` ends, and what may stand behind it (document 02, CR 3: "Two makers keep a second model and notes after
 -- `.end`"). Assumes nothing: these are definitions.
+use Rattle.refusals.specs.Order.{fine}
 use Rattle.std.specs.Prelude.{◌≡◌, Bool, true, false, [], ◌++◌, ◌-◌, ◌≤◌, leb, length, get_or}
 use Rattle.lists.specs.Lists.{Bytes, any}
-use Rattle.refusals.specs.declared.Checked.TheVariants.{Fine}
 use Rattle.blif_text.specs.Lines.{max_text, lines, ends_in_lf, continues}
 use Rattle.blif_text.specs.Statements.{Stmt, parsed, first_bad, stmts}
 
@@ -33,4 +33,4 @@ pub record MayFollow (text rest : Bytes) : Type 0 where
   -- it has no byte of 128 or more
   pub plain : any (leb 128) rest ≡ false
   -- "later statements must still parse"
-  pub parses : first_bad (parsed rest) ≡ Fine
+  pub parses : first_bad (parsed rest) ≡ fine

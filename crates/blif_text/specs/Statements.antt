@@ -1,13 +1,12 @@
 -- Statements of a text, and refusals 4, 5 and 34 (document 01, src/io/blif.rs; document 02, CR 4). Assumes nothing: these are definitions.
+use Rattle.std.specs.Prelude.{⊤, Result, Err}
 use mathlib.Core.List.{List, [], ◌∷◌, map, flat_map}
 use Rattle.std.proofs.Math.Option.{Option, none, some}
 use Rattle.std.proofs.Math.ListN.{get_elem?}
 use Rattle.lists.specs.Lists.{Bytes, same, filter}
-use Rattle.refusals.specs.Order.{◌or_else◌}
+use Rattle.refusals.specs.Order.{◌or_else◌, fine}
 use Rattle.refusals.specs.declared.Refusal.{Refusal}
 use Rattle.refusals.specs.declared.Refusal.TheVariants as refusal
-use Rattle.refusals.specs.declared.Checked.{Checked}
-use Rattle.refusals.specs.declared.Checked.TheVariants.{Fine, Refused}
 use Rattle.blif_meaning.specs.Model.{Init, Unknown, inits, init_bytes, LatchDef, plain_latch}
 use Rattle.blif_text.specs.Lines.{lines, joined, tokens}
 use Rattle.blif_text.specs.Keywords.{keyword_of}
@@ -80,13 +79,13 @@ unfoldable pub parsed : Bytes → List Parsed
 parsed text = flat_map parsed_line (map tokens (joined (lines text)))
 
 -- the refusal of a statement, if it has one
-abbrev pub refusal_of : Parsed → Checked
-refusal_of (ok s) = Fine
-refusal_of (bad r) = Refused r
+abbrev pub refusal_of : Parsed → Result ⊤ Refusal
+refusal_of (ok s) = fine
+refusal_of (bad r) = Err r
 
 -- "Then by statement in text order: 4 .. 5", and 34 "by statement beside 4 and 5": the first refusal
-unfoldable pub first_bad : List Parsed → Checked
-first_bad [] = Fine
+unfoldable pub first_bad : List Parsed → Result ⊤ Refusal
+first_bad [] = fine
 first_bad (p ∷ ps) = refusal_of p or_else first_bad ps
 
 -- the good ones

@@ -7,7 +7,7 @@ ghost use Rattle.lists.specs.Between.Lists.{overwrite_at};
 ghost use Rattle.blif_text.specs.Lines.{is_blank, max_text};
 ghost use Rattle.blif_text.specs.Between.Places.{max_tokens, token_cell, is_first, token_start, token_length, InText, token_of, tokens_of, token_cells, TokensMarked};
 ghost use Rattle.blif_text.specs.Keywords.{leading_dot, keyword_of};
-ghost use Rattle.blif_text.specs.Between.PlacedStatements.{RowTo, names_run, start_of, at_one, latch_statement, statement_of, statement_at, refusal_in};
+ghost use Rattle.blif_text.specs.Between.PlacedStatements.{RowTo, names_run, start_of, latch_statement, statement_of, statement_at, refusal_in};
 ghost use Rattle.blif_text.specs.Statements.{init_of, init_among, parsed, first_bad};
 ghost use Rattle.blif_text.specs.Decls.{columns};
 ghost use Rattle.blif_text.specs.Between.Walk.{Inside};
@@ -15,7 +15,7 @@ ghost use Rattle.blif_text.specs.Between.Blocks.{block_width, first_name, name_c
 ghost use Rattle.blif_text.specs.Between.Scan.{ends_word, other_than, NoneTo, FirstTo, LineAfter, StopOf, WordPut, ScanAt, Scanned};
 
 use lists::equal;
-use refusals::{Checked, Refusal};
+use refusals::Refusal;
 
 pub const MAX_TEXT: usize = 32768;
 
@@ -60,15 +60,7 @@ pub struct Run {
     pub count: usize,
 }
 
-// What is told of a latch's start value: that it is zero or one, or that its token is none of 0, 1, 2 and 3.
-#[derive(Clone, Copy)]
-pub enum Start {
-    Zero,
-    One,
-    Wrong,
-}
-
-// A statement by the places of its names: a run of token cells, for a latch with those behind its names, or its refusal.
+// A statement by the places of its names: a run of token cells, for a latch with those behind its names.
 #[derive(Clone, Copy)]
 pub enum Statement {
     Model,
@@ -79,39 +71,22 @@ pub enum Statement {
     Names(Run),
     Latch(Run),
     Cube(Run),
-    Refused(Refusal),
 }
 
 // Blanks are 9 to 13 and 32.
+#[tactic(auto, unfolding(crate::specs::Lines::is_blank))]
 pub fn is_blank(c: u8) -> bool
     ensures { result ≡ is_blank c }
 {
-    if c < b'\t' {
-        return b' ' == c;
-    }
-    if b'\r' < c {
-        return b' ' == c;
-    }
-    true
+    matches!(c, b'\t'..=b'\r' | b' ')
 }
 
 // Whether a byte ends a word: a blank, or the start of a comment.
+#[tactic(auto, unfolding(crate::specs::Lines::is_blank, crate::specs::Between::Scan::ends_word))]
 fn ends_word(c: u8) -> bool
     ensures { result ≡ ends_word c }
 {
-    if b'#' < c {
-        return false;
-    }
-    if c == b' ' {
-        return true;
-    }
-    if c == b'\n' {
-        return true;
-    }
-    if c == b'#' {
-        return true;
-    }
-    is_blank(c)
+    c <= b'#' && (c == b' ' || c == b'\n' || c == b'#' || is_blank(c))
 }
 
 // The place of the first byte from at on that ends a word, or the text's length.
@@ -119,14 +94,12 @@ fn word_end(text: &[u8], at: usize) -> usize
     requires { at ≤ length text.now }
     ensures { FirstTo ends_word text.now at result }
 {
-    let mut i = at;
-    while i < text.len() {
+    for i in at..text.len() {
         if ends_word(text[i]) {
             return i;
         }
-        i += 1;
     }
-    i
+    text.len()
 }
 
 // The place behind the run of this byte from at on.
@@ -134,14 +107,12 @@ fn run_end(text: &[u8], at: usize, byte: u8) -> usize
     requires { at ≤ length text.now }
     ensures { FirstTo (other_than byte) text.now at result }
 {
-    let mut i = at;
-    while i < text.len() {
+    for i in at..text.len() {
         if text[i] != byte {
             return i;
         }
-        i += 1;
     }
-    i
+    text.len()
 }
 
 // Whether an LF is among these bytes.
@@ -149,10 +120,8 @@ fn has_line_end(block: &[u8]) -> bool
     ensures { result ≡ any (eqb 10) block.now }
 {
     let mut found = false;
-    let mut i = 0;
-    while i < block.len() {
-        found = found | (b'\n' == block[i]);
-        i += 1;
+    for &byte in block {
+        found |= byte == b'\n';
     }
     found
 }
@@ -178,14 +147,12 @@ fn line_end(text: &[u8], at: usize) -> usize
     requires { at ≤ length text.now }
     ensures { FirstTo (eqb 10) text.now at result }
 {
-    let mut i = skip_blocks(text, at);
-    while i < text.len() {
+    for i in skip_blocks(text, at)..text.len() {
         if text[i] == b'\n' {
             return i;
         }
-        i += 1;
     }
-    i
+    text.len()
 }
 
 // The place behind the first LF from at on, or the text's length.
@@ -194,35 +161,20 @@ pub fn line_after(text: &[u8], at: usize) -> usize
     ensures { LineAfter text.now at result }
 {
     let end = line_end(text, at);
-    if end < text.len() {
-        return end + 1;
-    }
-    end
+    if end < text.len() { end + 1 } else { end }
 }
 
-// Where the next line starts if a line stops at this place: at an LF, at CR directly before it, or at the text's end; else zero.
-fn line_stop(text: &[u8], stop: usize) -> usize
+// Where the next line starts if a line stops at this place: at an LF, at CR directly before it, or at the text's end.
+fn line_stop(text: &[u8], stop: usize) -> Option<usize>
     requires { (0 < stop) × (stop ≤ length text.now) }
     ensures { StopOf text.now stop result }
 {
-    if stop >= text.len() {
-        return stop;
+    match &text[stop..] {
+        [] => Some(stop),
+        [b'\n', ..] => Some(stop + 1),
+        [b'\r', b'\n', ..] => Some(stop + 2),
+        _ => None,
     }
-    let byte = text[stop];
-    if byte == b'\n' {
-        return stop + 1;
-    }
-    let lf = stop + 1;
-    if lf >= text.len() {
-        return 0;
-    }
-    if byte != b'\r' {
-        return 0;
-    }
-    if text[lf] != b'\n' {
-        return 0;
-    }
-    stop + 2
 }
 
 // The cell of a token's place.
@@ -231,10 +183,7 @@ fn token_cell(first: bool, start: usize, len: usize) -> u32
     ensures { result ≡ token_cell first start len }
 {
     let place = ((start as u32) << 16) + len as u32;
-    if first {
-        return 0x8000_0000 + place;
-    }
-    place
+    if first { 0x8000_0000 + place } else { place }
 }
 
 // Whether a token is a statement's first.
@@ -284,18 +233,14 @@ fn mark_word(text: &[u8], cells: &mut [u32], w: Marks) -> Marks
     if text[end - 1] != b'\\' {
         return put_word(cells, w, end, end);
     }
-    let next = line_stop(text, end);
-    if next == 0 {
+    let Some(next) = line_stop(text, end) else {
         return put_word(cells, w, end, end);
-    }
+    };
     if end == at + 1 {
-        return Marks {
-            at: next,
-            count: w.count,
-            fresh: w.fresh,
-        };
+        Marks { at: next, ..w }
+    } else {
+        put_word(cells, w, end - 1, next)
     }
-    put_word(cells, w, end - 1, next)
 }
 
 // One step of the scan: a word, a comment with its line's end, line ends, or another blank with the spaces behind it.
@@ -308,29 +253,24 @@ fn mark_step(text: &[u8], cells: &mut [u32], w: Marks) -> Marks
     let at = w.at;
     let c = text[at];
     if !ends_word(c) {
-        return mark_word(text, cells, w);
-    }
-    if c == b'#' {
+        mark_word(text, cells, w)
+    } else if c == b'#' {
         let next = line_after(text, at);
-        return Marks {
+        Marks {
             at: next,
-            count: w.count,
             fresh: true,
-        };
-    }
-    if c == b'\n' {
+            ..w
+        }
+    } else if c == b'\n' {
         let next = run_end(text, at + 1, b'\n');
-        return Marks {
+        Marks {
             at: next,
-            count: w.count,
             fresh: true,
-        };
-    }
-    let next = run_end(text, at + 1, b' ');
-    Marks {
-        at: next,
-        count: w.count,
-        fresh: w.fresh,
+            ..w
+        }
+    } else {
+        let next = run_end(text, at + 1, b' ');
+        Marks { at: next, ..w }
     }
 }
 
@@ -365,10 +305,7 @@ pub fn token(text: &[u8], cell: u32) -> &[u8]
 pub fn has_leading_dot(token: &[u8]) -> bool
     ensures { result ≡ leading_dot token.now }
 {
-    if token.len() == 0 {
-        return false;
-    }
-    token[0] == b'.'
+    token.starts_with(b".")
 }
 
 // The keyword that a statement's first token is.
@@ -376,30 +313,24 @@ pub fn keyword_of(token: &[u8]) -> Keyword
     ensures { result ≡ keyword_of token.now }
 {
     if !has_leading_dot(token) {
-        return Keyword::Cube;
+        Keyword::Cube
+    } else if equal(token, b".model") {
+        Keyword::Model
+    } else if equal(token, b".inputs") {
+        Keyword::Inputs
+    } else if equal(token, b".outputs") {
+        Keyword::Outputs
+    } else if equal(token, b".latch") {
+        Keyword::Latch
+    } else if equal(token, b".names") {
+        Keyword::Names
+    } else if equal(token, b".end") {
+        Keyword::End
+    } else if equal(token, b".exdc") {
+        Keyword::Exdc
+    } else {
+        Keyword::Unsupported
     }
-    if equal(token, b".model") {
-        return Keyword::Model;
-    }
-    if equal(token, b".inputs") {
-        return Keyword::Inputs;
-    }
-    if equal(token, b".outputs") {
-        return Keyword::Outputs;
-    }
-    if equal(token, b".latch") {
-        return Keyword::Latch;
-    }
-    if equal(token, b".names") {
-        return Keyword::Names;
-    }
-    if equal(token, b".end") {
-        return Keyword::End;
-    }
-    if equal(token, b".exdc") {
-        return Keyword::Exdc;
-    }
-    Keyword::Unsupported
 }
 
 // The end of the row that starts at a place: the next row's start, or the cells' end.
@@ -407,14 +338,12 @@ pub fn row_end(cells: &[u32], at: usize) -> usize
     requires { at < length cells.now }
     ensures { RowTo cells.now at (length cells.now) result }
 {
-    let mut i = at + 1;
-    while i < cells.len() {
+    for i in at + 1..cells.len() {
         if is_first(cells[i]) {
             return i;
         }
-        i += 1;
     }
-    i
+    cells.len()
 }
 
 // The columns of the cube line that a row of tokens is: none of a line with one token, else its first token.
@@ -423,9 +352,10 @@ pub fn line_columns<'a, 'b>(text: &'a [u8], row: &'b [u32]) -> &'a [u8]
     ensures { result.now ≡ columns (tokens_of text.now row.now) }
 {
     if row.len() < 2 {
-        return &text[..0];
+        &text[..0]
+    } else {
+        token(text, row[0])
     }
-    token(text, row[0])
 }
 
 // The names of the row from at to end: its tokens behind the first.
@@ -439,72 +369,61 @@ pub fn names_run(at: usize, end: usize) -> Run
     }
 }
 
-impl Start {
-    // Whether the start value is one.
-    pub fn is_one(self) -> bool
-        ensures { result ≡ at_one self }
-    {
-        match self {
-            Start::Zero => false,
-            Start::One => true,
-            Start::Wrong => false,
-        }
-    }
-}
-
-// What a token says of a start value: 2 and 3 are read as zero.
-fn start_of(token: &[u8]) -> Start
+// The start value that a token says, if it is 0, 1, 2 or 3: 2 and 3 are read as zero.
+#[tactic(auto, unfolding(crate::specs::Statements::init_of))]
+fn start_of(token: &[u8]) -> Option<bool>
     ensures { result ≡ start_of (init_of token.now) }
 {
     if equal(token, b"0") {
-        return Start::Zero;
+        Some(false)
+    } else if equal(token, b"1") {
+        Some(true)
+    } else if equal(token, b"2") || equal(token, b"3") {
+        Some(false)
+    } else {
+        None
     }
-    if equal(token, b"1") {
-        return Start::One;
-    }
-    if equal(token, b"2") {
-        return Start::Zero;
-    }
-    if equal(token, b"3") {
-        return Start::Zero;
-    }
-    Start::Wrong
 }
 
-// What the tokens behind a latch's two names say of its start value: the only one does, or the third of three or more.
-pub fn latch_start(text: &[u8], rest: &[u32]) -> Start
+// The start value that the tokens behind a latch's two names say, if there is one: the only one says it, or the third of three or more, and where
+// none does it is zero.
+pub fn latch_start(text: &[u8], rest: &[u32]) -> Option<bool>
     requires { Inside text.now rest.now (length rest.now) }
     ensures { result ≡ start_of (init_among (tokens_of text.now rest.now)) }
 {
     if rest.len() == 1 {
-        return start_of(token(text, rest[0]));
+        start_of(token(text, rest[0]))
+    } else if rest.len() > 2 {
+        start_of(token(text, rest[2]))
+    } else {
+        Some(false)
     }
-    if rest.len() > 2 {
-        return start_of(token(text, rest[2]));
-    }
-    Start::Zero
 }
 
 // The statement of the row from at to end, which is a latch's.
-fn latch_statement(text: &[u8], cells: &[u32], at: usize, end: usize) -> Statement
+fn latch_statement(text: &[u8], cells: &[u32], at: usize, end: usize) -> Result<Statement, Refusal>
     requires { (at < end) × Inside text.now cells.now end }
     ensures { result ≡ latch_statement text.now cells.now at end }
 {
     let names = names_run(at, end);
     if names.count < 2 {
-        return Statement::Refused(Refusal::MissingName);
+        return Err(Refusal::MissingName);
     }
     let from = at + 3;
-    let start = latch_start(text, &cells[from..end]);
-    match start {
-        Start::Zero => Statement::Latch(names),
-        Start::One => Statement::Latch(names),
-        Start::Wrong => Statement::Refused(Refusal::WrongStart),
+    match latch_start(text, &cells[from..end]) {
+        Some(_) => Ok(Statement::Latch(names)),
+        None => Err(Refusal::WrongStart),
     }
 }
 
 // The statement of the row from at to end, whose first token has this keyword.
-fn statement_of(text: &[u8], cells: &[u32], keyword: Keyword, at: usize, end: usize) -> Statement
+fn statement_of(
+    text: &[u8],
+    cells: &[u32],
+    keyword: Keyword,
+    at: usize,
+    end: usize,
+) -> Result<Statement, Refusal>
     requires { (at < end) × Inside text.now cells.now end }
     ensures { result ≡ statement_of text.now cells.now keyword at end }
 {
@@ -512,26 +431,27 @@ fn statement_of(text: &[u8], cells: &[u32], keyword: Keyword, at: usize, end: us
     match keyword {
         Keyword::Model => {
             if names.count < 1 {
-                return Statement::Refused(Refusal::MissingName);
+                Err(Refusal::MissingName)
+            } else {
+                Ok(Statement::Model)
             }
-            Statement::Model
         }
-        Keyword::Inputs => Statement::Inputs(names),
-        Keyword::Outputs => Statement::Outputs(names),
+        Keyword::Inputs => Ok(Statement::Inputs(names)),
+        Keyword::Outputs => Ok(Statement::Outputs(names)),
         Keyword::Latch => latch_statement(text, cells, at, end),
-        Keyword::Names => Statement::Names(names),
-        Keyword::End => Statement::End,
-        Keyword::Exdc => Statement::Exdc,
-        Keyword::Unsupported => Statement::Refused(Refusal::Unsupported),
-        Keyword::Cube => Statement::Cube(Run {
+        Keyword::Names => Ok(Statement::Names(names)),
+        Keyword::End => Ok(Statement::End),
+        Keyword::Exdc => Ok(Statement::Exdc),
+        Keyword::Unsupported => Err(Refusal::Unsupported),
+        Keyword::Cube => Ok(Statement::Cube(Run {
             first: at,
             count: end - at,
-        }),
+        })),
     }
 }
 
-// The statement of the row of token cells from at to end.
-pub fn statement_at(text: &[u8], cells: &[u32], at: usize, end: usize) -> Statement
+// The statement of the row of token cells from at to end, or its refusal.
+pub fn statement_at(text: &[u8], cells: &[u32], at: usize, end: usize) -> Result<Statement, Refusal>
     requires { (at < end) × Inside text.now cells.now end }
     ensures { result ≡ statement_at text.now cells.now at end }
 {
@@ -540,43 +460,31 @@ pub fn statement_at(text: &[u8], cells: &[u32], at: usize, end: usize) -> Statem
     statement_of(text, cells, keyword, at, end)
 }
 
-// The refusal that a statement is, if it is one.
-fn refusal_of(s: Statement) -> Checked
-    ensures { result ≡ refusal_in s }
-{
-    match s {
-        Statement::Refused(refusal) => Checked::Refused(refusal),
-        _ => Checked::Fine,
-    }
-}
-
 // The refusal of 4, 5 and 34 that the statement of the row from at to end is, if it is one; a cube line never is.
-fn refusal_at(text: &[u8], cells: &[u32], at: usize, end: usize) -> Checked
+fn refusal_at(text: &[u8], cells: &[u32], at: usize, end: usize) -> Result<(), Refusal>
     requires { (at < end) × Inside text.now cells.now end }
     ensures { result ≡ refusal_in (statement_at text.now cells.now at end) }
 {
     let first = cells[at];
     if !has_leading_dot(token(text, first)) {
-        return Checked::Fine;
+        return Ok(());
     }
-    refusal_of(statement_at(text, cells, at, end))
+    statement_at(text, cells, at, end)?;
+    Ok(())
 }
 
 // The first refusal of 4, 5 and 34 among the statements of marked tokens, if there is one.
-pub fn first_bad(text: &[u8], cells: &[u32]) -> Checked
+pub fn first_bad(text: &[u8], cells: &[u32]) -> Result<(), Refusal>
     requires { TokensMarked text.now cells.now (length cells.now) }
     ensures { result ≡ first_bad (parsed text.now) }
 {
     let mut at = 0;
     while at < cells.len() {
         let end = row_end(cells, at);
-        let bad = refusal_at(text, cells, at, end);
-        if let Checked::Refused(refusal) = bad {
-            return Checked::Refused(refusal);
-        }
+        refusal_at(text, cells, at, end)?;
         at = end;
     }
-    Checked::Fine
+    Ok(())
 }
 
 // Block j's record.

@@ -1,9 +1,9 @@
--- Runs of pins, the cover and the latch of each kind of gate, and gates that are not too wide. Assumes nothing.
+-- Runs of pins, and the cover and the latch of each kind of gate. Assumes nothing.
 use mathlib.Core.Path.{◌≡◌, refl, sym, ◌∙◌, ap}
-use mathlib.Core.Bool.{Bool, true, false}
+use mathlib.Core.Bool.{Bool, true}
 use mathlib.Core.List.{List, [], ◌∷◌, map, flat_map, append-nil}
 use Prim.Native.Nat.{ℕ, ◌+◌, ◌-◌, ◌≤◌}
-use lib.ListN.{length, take, drop, length-map}
+use lib.ListN.{length, take, drop}
 use borrow.Author.Tests.{leb-true}
 use Rattle.lists.specs.Lists.{Bytes}
 use Rattle.lists.proofs.Places.{part-run}
@@ -11,7 +11,6 @@ use Rattle.signal.specs.Signal.{Signal}
 use Rattle.signal.specs.Cell.{sig_of}
 use Rattle.signal.specs.declared.Signal as signal
 use Rattle.gates.specs.Gate.{Form, Comb}
-use Rattle.gates.specs.Forms.{form_number}
 use Rattle.gates.specs.Between.Forms.{binary_form, ternary_form, nary_form}
 use Rattle.gates.specs.Between.Decode.{run_of, run_within, gate_in}
 use Rattle.gates.specs.declared.PinRun.{PinRun}
@@ -25,9 +24,8 @@ use Rattle.gates.specs.declared.Gate as code
 use Rattle.gates.specs.declared.Gate.TheVariants as G
 use Rattle.blif_meaning.specs.Model.{Block}
 use Rattle.blif_writing.specs.Names.{name_bytes}
-use Rattle.blif_writing.specs.WrittenModel.{form_block, buf_block, comb_block, too_wide, wide}
+use Rattle.blif_writing.specs.WrittenModel.{form_block, buf_block, comb_block}
 use Rattle.blif_writing.specs.Text.{line, block_lines}
-use Rattle.blif_write_cubes.specs.Between.Lines.{Narrow}
 use Rattle.blif_write_gates.specs.Between.Blocks.{block_text, stored_text}
 use Rattle.blif_write.specs.Between.Parts.{blocks_text, cover_text, latch_text}
 
@@ -41,15 +39,6 @@ cut_run run ps = take (run.first + run.count - run.first) (drop run.first ps)
 pub run_ends : {x : code.Gate} {t : NaryType} {run : PinRun} (ps : List ℕ) → x ≡ G.Nary t run → run_within x ps ≡ true
     → run.first + run.count ≤ length ps
 run_ends {run = run} ps e h = leb-true (run.first + run.count) (length ps) (ap (λ (z : code.Gate). run_within z ps) (sym e) ∙ h)
-
--- ---- gates that are not too wide
-
-pub narrow-run : {x : code.Gate} {t : NaryType} {run : PinRun} (ps : List ℕ) → x ≡ G.Nary t run → wide (gate_in x ps) ≡ false
-    → Narrow t (length (cut_run run ps))
-narrow-run {x} {t} {run} ps e w =
-    let cut : cut_run run ps ≡ run_of run ps = part-run run.first run.count ps in
-    let q : length (map sig_of (run_of run ps)) ≡ length (cut_run run ps) = length-map (run_of run ps) sig_of ∙ ap length (sym cut) in
-    ap (too_wide (form_number (nary_form t))) (sym q) ∙ ap (λ (z : code.Gate). wide (gate_in z ps)) (sym e) ∙ w
 
 -- ---- a gate's cover
 

@@ -1,16 +1,14 @@
 -- What a gate's record tells before the gate is read: whether it is too wide, a flip-flop or a buffer, and its inputs. Assumes nothing.
 use mathlib.Core.Path.{◌≡◌, refl, sym, ◌∙◌, ap, ap₂}
-use mathlib.Core.Bool.{Bool, true, false, ◌&&◌, cond, false≢true}
+use mathlib.Core.Bool.{Bool, cond, false≢true}
 use mathlib.Core.List.{List, [], map, flat_map}
 use mathlib.Core.Option.{some}
-use Prim.Native.Nat.{ℕ, ◌+◌, ◌-◌, ◌≤◌, ◌<◌}
+use Prim.Native.Nat.{ℕ, ◌+◌, ◌-◌}
 use native.Mathlib.Omega.{arith}
-use lib.Dec.{eqb}
 use lib.ListN.{length, take, drop, length-take, length-drop}
-use borrow.Author.Tests.{lt-ltb, le-ltb, eq-eqb, ne_eqb}
-use Rattle.lists.proofs.Tests.{by-test, and-false}
+use borrow.Author.Tests.{eq-eqb, ne_eqb}
 use Rattle.signal.specs.Cell.{sig_of}
-use Rattle.gates.specs.Gate.{XorN, XnorN, Buf, Gate, Comb, Dff, pins}
+use Rattle.gates.specs.Gate.{Buf, Gate, Comb, Dff, pins}
 use Rattle.gates.specs.Forms.{form_number, flop_number, form_cell}
 use Rattle.gates.specs.Between.Forms.{kind_of}
 use Rattle.gates.specs.Between.Decode.{kind_comb}
@@ -20,26 +18,12 @@ use Rattle.network.specs.Record.{form_at, first_at, count_at, start_at, run_at, 
 use Rattle.network.specs.Between.Record.{CellIs, HasRun}
 use Rattle.network.proofs.GateRead.{has-run, gate-is, run-pins}
 use Rattle.network.proofs.Records.{cut-run}
-use Rattle.blif_writing.specs.WrittenModel.{named, exclusive, max_exclusive, too_wide, wide}
+use Rattle.blif_writing.specs.WrittenModel.{named, too_wide, wide}
 use Rattle.blif_write.specs.Between.Parts.{latch_text, cover_text, HeldAt, wide_at}
 use Rattle.blif_write_inverters.specs.Between.Marks.{SignalsMarked}
 use Rattle.blif_write_inverters.proofs.Marking.{as-marked}
 
 -- ---- by the form number
-
--- the tests of `is_wide`
-module _ (form count : ℕ) where
-  pub wide-few : count ≤ max_exclusive → false ≡ too_wide form count
-  wide-few h = sym (ap (λ (b : Bool). exclusive form && b) (le-ltb max_exclusive count h) ∙ and-false (exclusive form))
-
-  pub wide-first : form ≡ form_number XorN → max_exclusive < count → true ≡ too_wide form count
-  wide-first h k = sym (ap₂ (λ (f : ℕ) (b : Bool). exclusive f && b) h (lt-ltb max_exclusive count k))
-
-  pub wide-second : (form ≡ form_number XorN → ⊥) → max_exclusive < count → eqb form (form_number XnorN) ≡ too_wide form count
-  wide-second h k =
-      by-test (eqb form (form_number XnorN))
-      (λ e. rw (ne_eqb form (form_number XorN) h, lt-ltb max_exclusive count k, e))
-      (λ e. rw (ne_eqb form (form_number XorN) h, lt-ltb max_exclusive count k, e))
 
 no-latch : (g : ℕ) (x : Gate) → (form_cell x ≡ flop_number → ⊥) → [] ≡ latch_text g x
 unfolding latch_text flat_map

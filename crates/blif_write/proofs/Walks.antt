@@ -1,6 +1,7 @@
 -- The gates in lent cells, one after the other: their latches, their covers, and a test of each. Assumes nothing.
+use Rattle.std.specs.Prelude.{Some, None}
 use mathlib.Core.Path.{◌≡◌, refl, sym, ◌∙◌, ap, ap₂}
-use mathlib.Core.Bool.{Bool, true, false, ◌||◌}
+use mathlib.Core.Bool.{Bool, false, ◌||◌}
 use mathlib.Core.List.{List, [], ◌∷◌, ◌++◌, map, flat_map}
 use mathlib.Core.Option.{none, some}
 use Prim.Native.Nat.{ℕ, zero, suc, ◌+◌, ◌-◌, ◌≤◌, ◌<◌}
@@ -13,8 +14,6 @@ use Rattle.gates.specs.Gate.{Gate, Comb, Dff}
 use Rattle.gates.specs.Between.Decode.{gate_in, decoded_in}
 use Rattle.gates.specs.declared.Gate as code
 use Rattle.gates.specs.declared.Gate.TheVariants as G
-use Rattle.gates.specs.declared.Decoded.{Decoded}
-use Rattle.gates.specs.declared.Decoded.TheVariants.{Good, Bad}
 use Rattle.network.specs.Cells.{or_buf, cell_gates}
 use Rattle.network.specs.Record.{form_at, count_at, gate_at}
 use Rattle.network.specs.Between.Record.{decoded_at, CellIs}
@@ -26,18 +25,19 @@ use Rattle.blif_write_names.proofs.Parts.{Parts}
 use Rattle.blif_write.specs.Between.Parts.{latch_text, cover_text, latches_text, covers_text, HeldAt, Readable, wide_at, wide_to}
 use Rattle.blif_write.proofs.Covers.{block-alone}
 use Rattle.blif_write.proofs.Told.{held-is, wide-held}
+use Rattle.std.specs.declared.option.Option as std-option
 
 -- ---- gates read one after the other
 
-pub read-bad : {cells ps : List ℕ} {g : ℕ} {r : Decoded} → HeldAt cells ps g → r ≡ decoded_at cells ps g → r ≡ Bad → ⊥
+pub read-bad : {cells ps : List ℕ} {g : ℕ} {r : std-option.Option code.Gate} → HeldAt cells ps g → r ≡ decoded_at cells ps g → r ≡ None → ⊥
 read-bad {cells} {ps} {g} {r} w e b =
-    let q : none ≡ some w.gate = ap (λ (z : Decoded). decoded_in z ps) (sym b) ∙ decoded-is cells ps g e ∙ w.is in
+    let q : none ≡ some w.gate = ap (λ (z : std-option.Option code.Gate). decoded_in z ps) (sym b) ∙ decoded-is cells ps g e ∙ w.is in
     let z : ◌≡◌ {A = ℕ} 0 1 = cc in
     omega arith
 
-pub read-good : (cells ps : List ℕ) (g : ℕ) {r : Decoded} {x : code.Gate} → r ≡ decoded_at cells ps g → r ≡ Good x
+pub read-good : (cells ps : List ℕ) (g : ℕ) {r : std-option.Option code.Gate} {x : code.Gate} → r ≡ decoded_at cells ps g → r ≡ Some x
     → gate_in x ps ≡ or_buf (gate_at cells ps g)
-read-good cells ps g e h = ap or_buf (ap (λ (z : Decoded). decoded_in z ps) (sym h) ∙ decoded-is cells ps g e)
+read-good cells ps g e h = ap or_buf (ap (λ (z : std-option.Option code.Gate). decoded_in z ps) (sym h) ∙ decoded-is cells ps g e)
 
 -- the gates from gate g on: the first, then the others; and none
 pub cells-next : (cells ps : List ℕ) {n g : ℕ} → g < n → cell_gates cells ps g (n - g) ≡ or_buf (gate_at cells ps g) ∷ cell_gates cells ps (g + 1) (n - (g + 1))
@@ -104,14 +104,8 @@ module _ {cells : List ℕ} {n g : ℕ} (c : Narrow cells n g) where
         ap (λ (z : Bool). z || any (wide_at cells) (range (g + 1) (n - (g + 1)))) (e ∙ ap₂ too_wide f k.cell)
         ∙ sym (ap (any (wide_at cells)) (range_cons n g h)) ∙ c.rest
 
-    pub narrow-stops : b ≡ true → true ≡ wide_to cells n
-    narrow-stops t = rw t at record-next
-
     pub narrow_next : b ≡ false → Narrow cells n (g + 1)
     narrow_next t = record { rest = rw t at record-next }
-
-  pub narrow-done : n ≤ g → false ≡ wide_to cells n
-  narrow-done h = sym (ap (any (wide_at cells)) (range-end n g h)) ∙ c.rest
 
 -- where the gates can be read, their records tell whether one is wide
 wide_from : {cells ps : List ℕ} (k g : ℕ) → ((i : ℕ) → i < g + k → HeldAt cells ps i) → any (wide_at cells) (range g k) ≡ any wide (cell_gates cells ps g k)

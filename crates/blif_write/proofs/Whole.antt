@@ -1,5 +1,5 @@
 -- The whole text, and what `write_blif` answers. Assumes nothing.
-use Rattle.std.specs.Prelude.{if◌then◌else◌}
+use Rattle.std.specs.Prelude.{if◌then◌else◌, Ok}
 use mathlib.Core.Path.{◌≡◌, sym, ◌∙◌, ap, ap₂}
 use mathlib.Core.Bool.{Bool, true, false, ◌||◌, or-true}
 use mathlib.Core.List.{List, [], ◌∷◌, ◌++◌, map, flat_map, append_assoc}
@@ -24,7 +24,6 @@ use Rattle.blif_writing.specs.WrittenModel.{latch_blocks, comb_blocks, inverter_
 use Rattle.blif_writing.specs.Text.{line, all_lines, head_lines, text_of}
 use Rattle.blif_write_names.specs.Between.Text.{Wrote}
 use Rattle.blif_write.specs.Into.{write_outcome, refused_text, written_text, too_long, write_into}
-use Rattle.blif_write.specs.declared.WriteAnswer.TheVariants.{Written}
 use Rattle.blif_write.specs.Between.Parts.{latches_text, covers_text, head_text, Readable, inverters_text, Writable}
 
 -- ---- the whole text
@@ -127,9 +126,9 @@ module _ (l : Lent) (o : Bytes) {q : Bytes} {room end : ℕ} (w : Writable l) (r
       ap (refused_text refusal.TextDoesNotFit) (after-length t o q room end r v) ∙ answers-long l (length o) w (wrote-long t o q room end r v h)
 
   pub ends-written : {z : Bytes} → end ≤ room → z ≡ zeros (length (take (length (q ++ drop room o) - end) (drop end (q ++ drop room o))))
-      → write_outcome (Written end) (take end (q ++ drop room o) ++ (z ++ drop (length (q ++ drop room o) - end) (drop end (q ++ drop room o)))) ≡ write_into l (length o)
+      → write_outcome (Ok end) (take end (q ++ drop room o) ++ (z ++ drop (length (q ++ drop room o) - end) (drop end (q ++ drop room o)))) ≡ write_into l (length o)
   ends-written h e =
       let t : Bytes = text_of (net_of l) in
-      ap₂ (λ (n : ℕ) (p : Bytes). write_outcome (Written n) p) (end_is t o q room end r v h)
+      ap₂ (λ (n : ℕ) (p : Bytes). write_outcome (Ok n) p) (end_is t o q room end r v h)
       (zeros-behind (q ++ drop room o) end (text-kept t o q room end r v h) (sym (end_is t o q room end r v h)) (after-length t o q room end r v) e)
       ∙ answers-written l (length o) w (wrote-short t o q room end r v h)

@@ -1,6 +1,6 @@
 -- What `write_blif` answers and leaves in the output slice (document 01, "Writing refuses, in order"). Assumes nothing: these are
 -- definitions.
-use Rattle.std.specs.Prelude.{Bool, not, ◌||◌, ℕ, ltb, length, if◌then◌else◌}
+use Rattle.std.specs.Prelude.{Bool, not, ◌||◌, ℕ, ltb, length, if◌then◌else◌, Result, Ok, Err}
 use Rattle.lists.specs.Lists.{Bytes, zeros, any, overwrite}
 use Rattle.refusals.specs.declared.Refusal.{Refusal}
 use Rattle.refusals.specs.declared.Refusal.TheVariants as refusal
@@ -8,27 +8,25 @@ use Rattle.network.specs.Cells.{Lent, net_of, is_network}
 use Rattle.blif_text.specs.Lines.{max_text}
 use Rattle.blif_writing.specs.WrittenModel.{wide}
 use Rattle.blif_writing.specs.Text.{text_of}
-use Rattle.blif_write.specs.declared.WriteAnswer.{WriteAnswer}
-use Rattle.blif_write.specs.declared.WriteAnswer.TheVariants.{Written, Refused}
 
 -- an answer, and what the output slice holds then
 pub record WriteOutcome : Type 0 where
   -- what was answered: the text's length, or a refusal
-  pub answer : WriteAnswer
+  pub answer : Result ℕ Refusal
   -- the bytes of the output slice
   pub out : Bytes
 
 -- the same, from its parts
-abbrev pub write_outcome : WriteAnswer → Bytes → WriteOutcome
+abbrev pub write_outcome : Result ℕ Refusal → Bytes → WriteOutcome
 write_outcome a o = record { answer = a; out = o }
 
 -- "A refusal zeroes the output slice"
 abbrev pub refused_text : Refusal → ℕ → WriteOutcome
-refused_text r n = write_outcome (Refused r) (zeros n)
+refused_text r n = write_outcome (Err r) (zeros n)
 
 -- "Success gives the length and zero bytes after it"
 abbrev pub written_text : Bytes → ℕ → WriteOutcome
-written_text t n = write_outcome (Written (length t)) (overwrite t (zeros n))
+written_text t n = write_outcome (Ok (length t)) (overwrite t (zeros n))
 
 -- "22 when the text is longer than the output slice or than 32,768 bytes"
 abbrev pub too_long : Bytes → ℕ → Bool

@@ -19,20 +19,13 @@ ghost use Rattle.blif_write_inverters.specs.Between.Marks.{SignalsMarked, named_
 
 use blif_write_inverters::{append_gate_inverters, append_input_inverters, mark_signals};
 use blif_write_names::{append, append_name};
-use gates::{BUF, DFF, Decoded, Gate, NARY_XNOR, NARY_XOR};
+use gates::{BUF, DFF, Gate, NARY_XNOR, NARY_XOR};
 use network::Counts;
 use refusals::Refusal;
 use signal::Signal;
 
 // How many inputs an Xor or Xnor of the Nary form may have to be written.
 const MAX_EXCLUSIVE: usize = 12;
-
-// The text's length, or a refusal.
-#[derive(Clone, Copy)]
-pub enum WriteAnswer {
-    Written(usize),
-    Refused(Refusal),
-}
 
 // Writes the latch of a flip-flop, and nothing for another gate.
 fn write_latch(out: &mut [u8], gate: Gate, g: usize) -> usize
@@ -56,7 +49,7 @@ fn write_latch_at(out: &mut [u8], gates: &[u32], pins: &[u32], g: usize) -> usiz
     if network::form_at(gates, g) != DFF {
         return 0;
     }
-    let Decoded::Good(gate) = network::gate_at(gates, pins, g) else {
+    let Some(gate) = network::gate_at(gates, pins, g) else {
         return 0;
     };
     write_latch(out, gate, g)
@@ -88,7 +81,7 @@ fn write_cover_at(out: &mut [u8], gates: &[u32], pins: &[u32], g: usize) -> usiz
     if network::form_at(gates, g) == DFF {
         return 0;
     }
-    let Decoded::Good(gate) = network::gate_at(gates, pins, g) else {
+    let Some(gate) = network::gate_at(gates, pins, g) else {
         return 0;
     };
     write_cover(out, gate, pins, g)
@@ -103,13 +96,11 @@ fn append_latches(out: &mut [u8], at: usize, gates: &[u32], pins: &[u32], n: usi
         return out.len() + 1;
     }
     let mut end = at;
-    let mut g = 0;
-    while g < n {
+    for g in 0..n {
         if end > out.len() {
             return end;
         }
         end += write_latch_at(&mut out[end..], gates, pins, g);
-        g += 1;
     }
     end
 }
@@ -123,13 +114,11 @@ fn append_covers(out: &mut [u8], at: usize, gates: &[u32], pins: &[u32], n: usiz
         return out.len() + 1;
     }
     let mut end = at;
-    let mut g = 0;
-    while g < n {
+    for g in 0..n {
         if end > out.len() {
             return end;
         }
         end += write_cover_at(&mut out[end..], gates, pins, g);
-        g += 1;
     }
     end
 }
@@ -143,13 +132,11 @@ fn append_inputs(out: &mut [u8], at: usize, n: usize) -> usize
         return out.len() + 1;
     }
     let mut end = at;
-    let mut i = 0;
-    while i < n {
+    for i in 0..n {
         if end > out.len() {
             return end;
         }
         end = append_name(out, end, b" ", Signal::from_input(i as u32));
-        i += 1;
     }
     end
 }
@@ -173,13 +160,7 @@ fn write_head(out: &mut [u8], inputs: usize, outputs: &[u32]) -> usize
 fn is_wide(form: u32, count: usize) -> bool
     ensures { result ≡ too_wide form count }
 {
-    if count <= MAX_EXCLUSIVE {
-        return false;
-    }
-    if form == NARY_XOR {
-        return true;
-    }
-    form == NARY_XNOR
+    count > MAX_EXCLUSIVE && matches!(form, NARY_XOR | NARY_XNOR)
 }
 
 // Whether one of n gates has too many inputs to be written.
@@ -187,12 +168,10 @@ fn any_wide(gates: &[u32], n: usize) -> bool
     requires { n * gate_width ≤ length gates.now }
     ensures { result ≡ wide_to gates.now n }
 {
-    let mut g = 0;
-    while g < n {
+    for g in 0..n {
         if is_wide(network::form_at(gates, g), network::count_at(gates, g)) {
             return true;
         }
-        g += 1;
     }
     false
 }
@@ -227,10 +206,8 @@ fn get_inverted_signals(
         gate_marks.new input_marks.new }
 {
     mark_signals(gate_marks, input_marks, outputs);
-    let mut g = 0;
-    while g < n {
+    for g in 0..n {
         mark_gate(gate_marks, input_marks, gates, pins, g);
-        g += 1;
     }
 }
 
@@ -277,21 +254,18 @@ fn write_text(
 }
 
 // Clears the output slice and refuses.
-fn refuse(out: &mut [u8], refusal: Refusal) -> WriteAnswer
+fn refuse(out: &mut [u8], refusal: Refusal) -> Result<usize, Refusal>
     ensures { write_outcome result out.new ≡ refused_text refusal (length out.old) }
 {
     lists::fill_zero_bytes(out);
-    WriteAnswer::Refused(refusal)
+    Err(refusal)
 }
 
 // How much of an output slice of this length a text may take.
 fn room_in(len: usize) -> usize
     ensures { result ≡ min len max_text }
 {
-    if len > blif_text::MAX_TEXT {
-        return blif_text::MAX_TEXT;
-    }
-    len
+    len.min(blif_text::MAX_TEXT)
 }
 
 // Writes the text of a network without wide gates, if it fits.
@@ -301,7 +275,7 @@ fn write_network(
     pins: &[u32],
     outputs: &[u32],
     out: &mut [u8],
-) -> WriteAnswer
+) -> Result<usize, Refusal>
     requires { Writable (lent counts gates.now pins.now outputs.now) }
     ensures { write_outcome result out.new
         ≡ write_into (lent counts gates.now pins.now outputs.now) (length out.old) }
@@ -318,10 +292,11 @@ fn write_network(
         &outputs[..used],
     );
     if end > room {
-        return refuse(out, Refusal::TextDoesNotFit);
+        refuse(out, Refusal::TextDoesNotFit)
+    } else {
+        lists::fill_zero_bytes(&mut out[end..]);
+        Ok(end)
     }
-    lists::fill_zero_bytes(&mut out[end..]);
-    WriteAnswer::Written(end)
 }
 
 // Writes the text of a lent network into the output slice.
@@ -331,15 +306,15 @@ pub fn write_blif(
     pins: &[u32],
     outputs: &[u32],
     out: &mut [u8],
-) -> WriteAnswer
+) -> Result<usize, Refusal>
     ensures { write_outcome result out.new
         ≡ write_into (lent counts gates.now pins.now outputs.now) (length out.old) }
 {
     if !network::check_layout(counts, gates, pins, outputs) {
-        return refuse(out, Refusal::NotANetwork);
+        refuse(out, Refusal::NotANetwork)
+    } else if any_wide(gates, counts.gates) {
+        refuse(out, Refusal::WideExclusive)
+    } else {
+        write_network(counts, gates, pins, outputs, out)
     }
-    if any_wide(gates, counts.gates) {
-        return refuse(out, Refusal::WideExclusive);
-    }
-    write_network(counts, gates, pins, outputs, out)
 }

@@ -1,20 +1,18 @@
 -- The cover lines of forms: rows out of the fixed tables, one column throughout, and the masks of one parity. Assumes nothing.
-use mathlib.Core.Path.{◌≡◌, refl, sym, ◌∙◌, ap, ap₂, subst}
-use mathlib.Core.Bool.{Bool, true, false, not, ◌&&◌, cond}
+use mathlib.Core.Path.{◌≡◌, refl, sym, ◌∙◌, ap, ap₂}
+use mathlib.Core.Bool.{Bool, true, false, not, cond}
 use mathlib.Core.List.{List, [], ◌∷◌, ◌++◌, map, flat_map, append_assoc, append-nil}
-use Prim.Native.Nat.{ℕ, zero, suc, ◌+◌, ◌-◌, ◌*◌, ◌^◌, ◌/◌, ◌%◌, ◌≤◌, ◌<◌}
+use Prim.Native.Nat.{ℕ, zero, suc, ◌+◌, ◌*◌, ◌^◌, ◌/◌, ◌%◌, ◌≤◌, ◌<◌}
 use native.Mathlib.Nat.{pow-succ'}
 use native.Mathlib.Omega.{arith}
-use lib.Dec.{eqb, ltb}
+use lib.Dec.{eqb}
 use lib.Count.{ones, ones_step}
 use lib.ListN.{length, get_or, drop, replicate, drop_of_length-le, get_or-map}
 use lib.Seq.{drop-cons}
 use borrow.Author.Rules.{rules}
-use borrow.Author.Tests.{ltb-false}
 use Rattle.lists.specs.Lists.{Bytes, all, range}
 use Rattle.lists.proofs.Tests.{by_order}
 use Rattle.gates.specs.Gate.{odd, XorN, XnorN}
-use Rattle.gates.specs.Forms.{form_number}
 use Rattle.gates.specs.Between.Forms.{binary_form, ternary_form, nary_form}
 use Rattle.gates.specs.declared.BinaryType.{BinaryType}
 use Rattle.gates.specs.declared.BinaryType.TheVariants as B
@@ -22,10 +20,10 @@ use Rattle.gates.specs.declared.TernaryType.{TernaryType}
 use Rattle.gates.specs.declared.TernaryType.TheVariants as T
 use Rattle.gates.specs.declared.NaryType.{NaryType}
 use Rattle.blif_meaning.specs.Model.{Col, Line}
-use Rattle.blif_writing.specs.WrittenModel.{cover_row, doubled, masks, col_of, minterms, even, lines_of, exclusive, max_exclusive}
+use Rattle.blif_writing.specs.WrittenModel.{cover_row, doubled, masks, col_of, minterms, even, lines_of}
 use Rattle.blif_writing.specs.Text.{col_byte, out_byte, spaced, line}
 use Rattle.blif_write_names.specs.Between.Text.{Appended}
-use Rattle.blif_write_cubes.specs.Between.Lines.{cube_text, lines_text, output_text, mask_bits, mask_columns, cube_of, same_cube, minterm_at, minterms_from, mask_lines, Narrow}
+use Rattle.blif_write_cubes.specs.Between.Lines.{cube_text, lines_text, output_text, mask_bits, mask_columns, cube_of, same_cube, minterm_at, minterms_from, mask_lines}
 use Rattle.blif_write_names.proofs.Laws.{append-past, as-text}
 use Rattle.blif_write_names.proofs.Parts.{going-kept, Parts, Before, before-start, before-next, before-done}
 
@@ -84,9 +82,6 @@ module _ {i count lines : ℕ} (n : count ≡ lines) (h : i < count) where
   pub row-there : i < lines
   row-there = omega arith
 
-  pub rows-less : lines - (i + 1) < lines - i
-  rows-less = omega arith
-
 module _ {ls : List Line} {o p : Bytes} {a at i count : ℕ} (c : Rows ls o a p at i) (n : count ≡ length ls) where
   pub rows_next : {row q : Bytes} {r : ℕ} → i < count → row ≡ get_or (map (λ (l : Line). map col_byte l.cols) ls) i []
       → Appended (row ++ output_text true) p at q r → Rows ls o a q r (i + 1)
@@ -96,7 +91,7 @@ module _ {ls : List Line} {o p : Bytes} {a at i count : ℕ} (c : Rows ls o a p 
   pub rows-done : count ≤ i → Appended (lines_text ls) o a p at
   rows-done h = before-done (row-parts ls c.ones) c.before (omega arith)
 
-pub ruleset rows = (append-past, binary-ones, ternary-ones, rows_start, rows-kept, row-there, rows-less, rows_next, rows-done, rules)
+pub ruleset rows = (append-past, binary-ones, ternary-ones, rows_start, rows-kept, row-there, rows_next, rows-done, rules)
 
 -- ---- one column throughout
 
@@ -196,12 +191,3 @@ xnor-lines n = mask-lines 0 n even (even-bits n)
 
 pub lines_at : {t u : NaryType} {s : Bytes} (n : ℕ) → t ≡ u → s ≡ lines_text (lines_of (nary_form u) n) → s ≡ lines_text (lines_of (nary_form t) n)
 lines_at n e h = h ∙ ap (λ (x : NaryType). lines_text (lines_of (nary_form x) n)) (sym e)
-
-pub within-narrow : {t u : NaryType} (n : ℕ) → t ≡ u → exclusive (form_number (nary_form u)) ≡ true → Narrow t n → n ≤ max_exclusive
-within-narrow n e x h = ltb-false max_exclusive n (ap (λ (b : Bool). b && ltb max_exclusive n) (sym x) ∙ subst (λ (v : NaryType). Narrow v n) e h)
-
-pub binary-at : {t u : BinaryType} {i : ℕ} → t ≡ u → i < length (lines_of (binary_form t) 2) → i < length (lines_of (binary_form u) 2)
-binary-at e h = rw e at h
-
-pub ternary-at : {t u : TernaryType} {i : ℕ} → t ≡ u → i < length (lines_of (ternary_form t) 3) → i < length (lines_of (ternary_form u) 3)
-ternary-at e h = rw e at h

@@ -15,9 +15,10 @@ fn append_output(out: &mut [u8], at: usize, val: bool) -> usize
     ensures { Appended (output_text val) out.old at out.new result }
 {
     if val {
-        return append(out, at, b" 1\n");
+        append(out, at, b" 1\n")
+    } else {
+        append(out, at, b" 0\n")
     }
-    append(out, at, b" 0\n")
 }
 
 // Writes a column for each of the mask's bits, the lowest first.
@@ -25,16 +26,14 @@ fn put_columns(out: &mut [u8], mask: u32, num_vars: usize) -> usize
     ensures { Wrote (mask_columns num_vars mask) out.old out.new result }
 {
     let mut left = mask;
-    let mut i = 0;
-    while i < num_vars {
+    for i in 0..num_vars {
         if i >= out.len() {
             return i + 1;
         }
         out[i] = b'0' + (left % 2) as u8;
         left /= 2;
-        i += 1;
     }
-    i
+    num_vars
 }
 
 // Writes a cube line of the mask's bits.
@@ -49,15 +48,13 @@ pub fn write_blif_cube(out: &mut [u8], mask: u32, num_vars: usize, val: bool) ->
 fn put_repeated(out: &mut [u8], column: u8, num_vars: usize) -> usize
     ensures { Wrote (replicate num_vars column) out.old out.new result }
 {
-    let mut i = 0;
-    while i < num_vars {
+    for i in 0..num_vars {
         if i >= out.len() {
             return i + 1;
         }
         out[i] = column;
-        i += 1;
     }
-    i
+    num_vars
 }
 
 // Writes a cube line of one column throughout.
@@ -72,10 +69,11 @@ fn write_same_cube(out: &mut [u8], column: u8, num_vars: usize, val: bool) -> us
 fn write_minterm(out: &mut [u8], mask: u32, num_vars: usize, parity: u32) -> usize
     ensures { Wrote (minterm_at parity num_vars mask) out.old out.new result }
 {
-    if u32::count_ones(mask) % 2 != parity {
-        return 0;
+    if mask.count_ones() % 2 == parity {
+        write_blif_cube(out, mask, num_vars, true)
+    } else {
+        0
     }
-    write_blif_cube(out, mask, num_vars, true)
 }
 
 // Writes the lines of all masks of that parity, in rising order.
@@ -85,13 +83,11 @@ fn write_masks(out: &mut [u8], num_vars: usize, parity: u32) -> usize
 {
     let count = 1u32 << (num_vars as u32);
     let mut at = 0;
-    let mut mask = 0;
-    while mask < count {
+    for mask in 0..count {
         if at > out.len() {
             return at;
         }
         at += write_minterm(&mut out[at..], mask, num_vars, parity);
-        mask += 1;
     }
     at
 }
@@ -177,11 +173,9 @@ pub fn append_binary_lines(out: &mut [u8], at: usize, t: BinaryType) -> usize
         return out.len() + 1;
     }
     let mut end = at;
-    let mut i = 0;
-    while i < binary_rows(t) {
+    for i in 0..binary_rows(t) {
         let row = binary_row(t, i);
         end = append_row(out, end, &row);
-        i += 1;
     }
     end
 }
@@ -194,11 +188,9 @@ pub fn append_ternary_lines(out: &mut [u8], at: usize, t: TernaryType) -> usize
         return out.len() + 1;
     }
     let mut end = at;
-    let mut i = 0;
-    while i < ternary_rows(t) {
+    for i in 0..ternary_rows(t) {
         let row = ternary_row(t, i);
         end = append_row(out, end, &row);
-        i += 1;
     }
     end
 }
@@ -224,7 +216,8 @@ pub fn append_nary_lines(out: &mut [u8], at: usize, t: NaryType, num_vars: usize
     ensures { Appended (lines_text (lines_of (nary_form t) num_vars)) out.old at out.new result }
 {
     if at > out.len() {
-        return out.len() + 1;
+        out.len() + 1
+    } else {
+        at + write_nary_lines(&mut out[at..], t, num_vars)
     }
-    at + write_nary_lines(&mut out[at..], t, num_vars)
 }

@@ -1,6 +1,6 @@
 -- The texts of blocks, grouped as the code writes them. Assumes nothing.
 use mathlib.Core.Path.{◌≡◌, refl, sym, ◌∙◌, ap, ap₂}
-use mathlib.Core.Bool.{Bool, true, false, not, ◌&&◌, ◌||◌, cond, or-true}
+use mathlib.Core.Bool.{Bool, true, false, not, ◌||◌, cond, or-true}
 use mathlib.Core.List.{List, [], ◌∷◌, ◌++◌, map, flat_map, append_assoc, append-nil}
 use mathlib.Core.Option.{none, some}
 use Prim.Native.Nat.{ℕ, ◌^◌, ◌<◌}
@@ -9,7 +9,7 @@ use lib.ListN.{length, get_or, drop, length-map, drop_of_length-le}
 use lib.Seq.{drop-cons}
 use Rattle.lists.specs.Lists.{Bytes, bytes}
 use Rattle.lists.proofs.Places.{flat_map-append}
-use Rattle.signal.specs.Signal.{Var, Input, Signal, plain, const_node}
+use Rattle.signal.specs.Signal.{Var, Input, Signal, plain}
 use Rattle.signal.specs.Cell.{sig_cell, node_of, sig_of}
 use Rattle.signal.specs.Between.Cell.{gate_cell, input_cell}
 use Rattle.signal.proofs.Cells.{signal-again, small-node, gate-cell, input-cell}
@@ -162,20 +162,7 @@ pub buf-plain : (s : Signal) → s.inv ≡ false → bytes "1 1\n" ≡ lines_tex
 unfolding line spaced flat_map
 buf-plain s h = ap (λ (b : Bool). lines_text (cover_row true (col_of (not b) ∷ []) ∷ [])) (sym h)
 
--- ---- constants
-
--- the tests of `is_value`
-module _ (v : Bool) (s : Signal) where
-  pub value-other : {b : Bool} → b ≡ const_node s.node → b ≡ false → false ≡ is_const v s
-  value-other e f = ap (λ (b : Bool). b && cond v s.inv (not s.inv)) (sym f ∙ e)
-
-  pub value-one : {b i : Bool} → b ≡ const_node s.node → b ≡ true → v ≡ true → i ≡ s.inv → i ≡ is_const v s
-  value-one e t h k =
-      k ∙ ap₂ (λ (b w : Bool). b && cond w s.inv (not s.inv)) (sym t ∙ e) (sym h)
-
-  pub value-zero : {b i : Bool} → b ≡ const_node s.node → b ≡ true → v ≡ false → i ≡ s.inv → not i ≡ is_const v s
-  value-zero e t h k =
-      ap not k ∙ ap₂ (λ (b w : Bool). b && cond w s.inv (not s.inv)) (sym t ∙ e) (sym h)
+-- ---- fields
 
 module _ (v : Bool) (key : Bytes) (s : Signal) where
   pub field-none : {b : Bool} → b ≡ is_const v s → b ≡ true → [] ≡ field_text v key s

@@ -31,13 +31,7 @@ fn append_gate(out: &mut [u8], at: usize, before: &[u8], g: usize) -> usize
 fn is_value(s: Signal, value: bool) -> bool
     ensures { result ≡ is_const value (sig_of s.a) }
 {
-    if !s.is_constant() {
-        return false;
-    }
-    if value {
-        return s.is_inverted();
-    }
-    !s.is_inverted()
+    s.is_constant() && s.is_inverted() == value
 }
 
 // Writes a field of a `.flop` line, unless the signal is the constant of this value.
@@ -45,9 +39,10 @@ fn append_unless(out: &mut [u8], at: usize, value: bool, before: &[u8], s: Signa
     ensures { Appended (field_text value before.now (sig_of s.a)) out.old at out.new result }
 {
     if is_value(s, value) {
-        return append(out, at, b"");
+        append(out, at, b"")
+    } else {
+        append_name(out, at, before, s)
     }
-    append_name(out, at, before, s)
 }
 
 // Writes the first text for a start value of one, and the second for zero.
@@ -55,9 +50,10 @@ fn append_start(out: &mut [u8], at: usize, start: bool, one: &[u8], zero: &[u8])
     ensures { Appended (cond start one.now zero.now) out.old at out.new result }
 {
     if start {
-        return append(out, at, one);
+        append(out, at, one)
+    } else {
+        append(out, at, zero)
     }
-    append(out, at, zero)
 }
 
 // Writes a flip-flop that has its enable or its reset, with what it has.
@@ -104,13 +100,11 @@ pub fn write_stored(
     requires { g < max_gates }
     ensures { Wrote (stored_text (sig_of input.a) (sig_of enable.a) (sig_of reset.a) start g) out.old out.new result }
 {
-    if !is_value(enable, true) {
-        return write_flop(out, input, enable, reset, start, g);
+    if is_value(enable, true) && is_value(reset, false) {
+        write_plain(out, input, start, g)
+    } else {
+        write_flop(out, input, enable, reset, start, g)
     }
-    if !is_value(reset, false) {
-        return write_flop(out, input, enable, reset, start, g);
-    }
-    write_plain(out, input, start, g)
 }
 
 // Writes the end of a `.names` line: the gate's name.
@@ -164,14 +158,12 @@ pub fn append_signals(out: &mut [u8], at: usize, cells: &[u32]) -> usize
         return out.len() + 1;
     }
     let mut end = at;
-    let mut i = 0;
-    while i < cells.len() {
+    for &cell in cells {
         if end > out.len() {
             return end;
         }
         let next = append_byte(out, end, b' ');
-        end = sig_to_string(out, next, Signal { a: cells[i] });
-        i += 1;
+        end = sig_to_string(out, next, Signal { a: cell });
     }
     end
 }
@@ -196,7 +188,8 @@ pub fn write_buf(out: &mut [u8], s: Signal, g: usize) -> usize
     at = append_name(out, at, b" ", s.without_inversion());
     at = append_end(out, at, g);
     if s.is_inverted() {
-        return append(out, at, b"0 1\n");
+        append(out, at, b"0 1\n")
+    } else {
+        append(out, at, b"1 1\n")
     }
-    append(out, at, b"1 1\n")
 }

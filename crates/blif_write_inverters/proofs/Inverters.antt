@@ -13,9 +13,9 @@ use Rattle.signal.proofs.Cells.{signal-again, small-node}
 use Rattle.blif_writing.specs.Names.{name_bytes}
 use Rattle.blif_writing.specs.WrittenModel.{inverter_block}
 use Rattle.blif_writing.specs.Text.{spaced, line}
-use Rattle.blif_write_names.specs.Between.Text.{Wrote, Appended}
+use Rattle.blif_write_names.specs.Between.Text.{Wrote}
 use Rattle.blif_write_names.proofs.Laws.{as-wrote}
-use Rattle.blif_write_names.proofs.Parts.{NamingSoFar, going_start, going-part, going_done, Parts}
+use Rattle.blif_write_names.proofs.Parts.{NamingSoFar, going_start, going-part, Parts}
 use Rattle.blif_write_gates.specs.Between.Blocks.{block_text}
 use Rattle.blif_write_inverters.specs.Between.Marks.{inverter_at, gate_inverters, input_inverters}
 use Rattle.blif_write_gates.proofs.Texts.{two-names}
@@ -77,6 +77,3 @@ module _ {marks : List ℕ} {n : ℕ} {o : Bytes} {a : ℕ} {p : Bytes} {at i : 
   inputs-next h k v =
       let l : i ≡ suc (i - 1) = omega arith in
       record { within = omega (arith, c.within); going = going-part c.going (ap (input_inverters marks) l) k v }
-
-  pub inputs-done : i ≡ 0 → Appended (input_inverters marks n) o a p at
-  inputs-done h = going_done c.going (ap (input_inverters marks) h)

@@ -1,46 +1,13 @@
 -- Marks set by one signal after the other. Assumes nothing.
-use mathlib.Core.Path.{◌≡◌, refl, sym, ◌∙◌, ap, ap₂, subst}
+use mathlib.Core.Path.{◌≡◌, refl, sym, ◌∙◌, ap, subst}
 use mathlib.Core.Bool.{Bool, true, false}
 use mathlib.Core.List.{List, [], ◌∷◌, ◌++◌}
 use mathlib.Core.Option.{Option, none, some}
 use Prim.Native.Nat.{ℕ}
-use lib.ListN.{length, set, length-set}
+use lib.ListN.{length, length-set}
 use Rattle.lists.proofs.Laying.{Front, front-start, front-more}
-use Rattle.signal.specs.Signal.{Node, Const, Input, Var, Signal, const_node}
-use Rattle.signal.specs.Between.Signal.{input_node}
-use Rattle.signal.specs.Cell.{node_of, sig_of}
-use Rattle.signal.specs.Between.Cell.{input_number, gate_number}
-use Rattle.signal.proofs.Cells.{input-number, gate-number}
+use Rattle.signal.specs.Signal.{Node, Signal}
 use Rattle.blif_write_inverters.specs.Between.Marks.{gate_of, input_of, marked, mark_all, SignalsMarked}
-use Rattle.blif_write_names.proofs.Numbers.{const-is, gate-left}
-
--- ---- one signal
-
-marked-as : {gs is gs' is' : List ℕ} (v : Bool) (n : Node) → gs' ≡ marked v (gate_of n) gs → is' ≡ marked v (input_of n) is
-    → (s : Signal) → s.inv ≡ v → s.node ≡ n → SignalsMarked (s ∷ []) gs is gs' is'
-marked-as {gs} {is} v n p q s h k =
-    record {
-      gated = p ∙ ap₂ (λ (b : Bool) (x : Node). marked b (gate_of x) gs) (sym h) (sym k);
-      input = q ∙ ap₂ (λ (b : Bool) (x : Node). marked b (input_of x) is) (sym h) (sym k);
-    }
-
--- what `mark_signal` does of a cell's signal, by what the cell is
-module _ (c : ℕ) {gs is : List ℕ} {b : Bool} (w : b ≡ (sig_of c).inv) where
-  pub mark-plain : b ≡ false → SignalsMarked (sig_of c ∷ []) gs is gs is
-  mark-plain t = marked-as false (node_of c) refl refl (sig_of c) (sym w ∙ t) refl
-
-  pub mark-input : {i : Bool} {n : ℕ} {is' : List ℕ} → b ≡ true → i ≡ input_node (node_of c) → i ≡ true → n ≡ input_number c → is' ≡ set is n 1
-      → SignalsMarked (sig_of c ∷ []) gs is gs is'
-  mark-input t d e h k = marked-as true (Input (input_number c)) refl (k ∙ ap (λ (n : ℕ). set is n 1) h) (sig_of c) (sym w ∙ t) (input-number c (sym d ∙ e))
-
-  pub mark-const : {i : Bool} → b ≡ true → i ≡ const_node (node_of c) → i ≡ true → SignalsMarked (sig_of c ∷ []) gs is gs is
-  mark-const t d e = marked-as true Const refl refl (sig_of c) (sym w ∙ t) (const-is (node_of c) (sym d ∙ e))
-
-  pub mark-gated : {i k : Bool} {n : ℕ} {gs' : List ℕ} → b ≡ true → i ≡ input_node (node_of c) → i ≡ false → k ≡ const_node (node_of c) → k ≡ false
-      → n ≡ gate_number c → gs' ≡ set gs n 1 → SignalsMarked (sig_of c ∷ []) gs is gs' is
-  mark-gated t d e f g h k =
-      marked-as true (Var (gate_number c)) (k ∙ ap (λ (n : ℕ). set gs n 1) h) refl (sig_of c) (sym w ∙ t)
-      (gate-number c (gate-left (node_of c) (sym f ∙ g) (sym d ∙ e)))
 
 -- ---- signals one after the other
 

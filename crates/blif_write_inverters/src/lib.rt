@@ -25,17 +25,13 @@ fn mark_signal(gate_marks: &mut [u8], input_marks: &mut [u8], s: Signal)
     ensures { SignalsMarked (sig_of s.a ∷ []) gate_marks.old input_marks.old
         gate_marks.new input_marks.new }
 {
-    if !s.is_inverted() {
-        return;
+    if s.is_inverted() {
+        if s.is_input() {
+            set_mark(input_marks, s.input());
+        } else if !s.is_constant() {
+            set_mark(gate_marks, s.var());
+        }
     }
-    if s.is_input() {
-        set_mark(input_marks, s.input());
-        return;
-    }
-    if s.is_constant() {
-        return;
-    }
-    set_mark(gate_marks, s.var());
 }
 
 // Marks the signals of cells.
@@ -43,10 +39,8 @@ pub fn mark_signals(gate_marks: &mut [u8], input_marks: &mut [u8], cells: &[u32]
     ensures { SignalsMarked (map sig_of cells.now) gate_marks.old input_marks.old
         gate_marks.new input_marks.new }
 {
-    let mut i = 0;
-    while i < cells.len() {
-        mark_signal(gate_marks, input_marks, Signal { a: cells[i] });
-        i += 1;
+    for &cell in cells {
+        mark_signal(gate_marks, input_marks, Signal { a: cell });
     }
 }
 
@@ -56,12 +50,13 @@ fn write_inverter(out: &mut [u8], mark: u8, s: Signal) -> usize
     ensures { Wrote (inverter_at mark (sig_of s.a).node) out.old out.new result }
 {
     if mark == 0 {
-        return 0;
+        0
+    } else {
+        let mut at = append(out, 0, b".names");
+        at = append_name(out, at, b" ", s);
+        at = append_name(out, at, b" ", s.not());
+        append(out, at, b"\n0 1\n")
     }
-    let mut at = append(out, 0, b".names");
-    at = append_name(out, at, b" ", s);
-    at = append_name(out, at, b" ", s.not());
-    append(out, at, b"\n0 1\n")
 }
 
 // Writes the inverters of n gates, upwards.
@@ -73,13 +68,11 @@ pub fn append_gate_inverters(out: &mut [u8], at: usize, marks: &[u8], n: usize) 
         return out.len() + 1;
     }
     let mut end = at;
-    let mut g = 0;
-    while g < n {
+    for g in 0..n {
         if end > out.len() {
             return end;
         }
         end += write_inverter(&mut out[end..], marks[g], Signal::from_var(g as u32));
-        g += 1;
     }
     end
 }
@@ -93,12 +86,10 @@ pub fn append_input_inverters(out: &mut [u8], at: usize, marks: &[u8], n: usize)
         return out.len() + 1;
     }
     let mut end = at;
-    let mut i = n;
-    while i > 0 {
+    for i in (0..n).rev() {
         if end > out.len() {
             return end;
         }
-        i -= 1;
         end += write_inverter(&mut out[end..], marks[i], Signal::from_input(i as u32));
     }
     end

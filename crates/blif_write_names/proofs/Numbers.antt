@@ -1,18 +1,13 @@
 -- Decimal numbers and names: the digits as the code finds them, and the letters before them. Assumes nothing.
 use mathlib.Core.Path.{◌≡◌, refl, sym, ◌∙◌, ap}
-use mathlib.Core.Bool.{Bool, true, false, true≢false, false≢true}
+use mathlib.Core.Bool.{Bool, true, false}
 use mathlib.Core.List.{[], ◌∷◌, ◌++◌, append_assoc}
 use Prim.Native.Nat.{ℕ, zero, suc, ◌+◌, ◌^◌, ◌/◌, ◌%◌, ◌≤◌, ◌<◌}
 use native.Mathlib.Omega.{arith}
 use borrow.Author.Tests.{lt-ltb, le-ltb}
 use Rattle.lists.specs.Lists.{Bytes, bytes}
 use Rattle.lists.proofs.Tests.{by_order}
-use Rattle.signal.specs.Signal.{Node, Const, Input, Var, const_node}
-use Rattle.signal.specs.Between.Signal.{input_node, gate_node}
-use Rattle.signal.specs.Cell.{node_of, sig_of}
-use Rattle.signal.specs.Between.Cell.{input_number, gate_number}
-use Rattle.signal.proofs.Cells.{input-number, gate-number}
-use Rattle.blif_writing.specs.Names.{decimal_before, decimal, suffix, node_bytes, name_bytes}
+use Rattle.blif_writing.specs.Names.{decimal_before, decimal, suffix}
 use Rattle.blif_write_names.specs.Between.Text.{last_digit, four_of, leading, Appended}
 use Rattle.blif_write_names.proofs.Laws.{and-append, as-text}
 
@@ -62,10 +57,6 @@ more-digits n h = decimal-then (n / 10) ((48 + n % 10) ∷ []) ∙ sym (tens-fir
 
 pub digit-none : (n : ℕ) → n ≡ 0 → [] ≡ last_digit n
 digit-none n e = ap last_digit (sym e)
-
-pub digit-some : (n : ℕ) → 1 ≤ n → (48 + n % 10) ∷ [] ≡ last_digit n
-digit-some zero h = absurd (omega arith)
-digit-some (suc n) h = refl
 
 pub leading-none : (n : ℕ) → n ≡ 0 → [] ≡ leading n
 leading-none n e = ap leading (sym e)
@@ -119,9 +110,6 @@ module _ (n : ℕ) {o p q : Bytes} {a b r : ℕ} where
   pub number_digits : 1 ≤ n → Appended (leading (n / 10000)) o a p b → Appended (four_of n) p b q r → Appended (decimal n []) o a q r
   number_digits h v w = as-text (four-next n ∙ leading-some n h) (and-append v w)
 
-pub zero-digit : (n : ℕ) → n ≡ 0 → 48 ∷ [] ≡ decimal n []
-zero-digit n e = ap (λ (k : ℕ). decimal k []) (sym e)
-
 -- ---- names
 
 -- a letter and a number, with `_n` behind them if inverted
@@ -130,31 +118,3 @@ invert-name l n v e = ap (λ (s : Bytes). l ∷ s) (decimal-then n (bytes "_n") 
 
 pub plain-name : (l n : ℕ) (v : Bool) → v ≡ false → l ∷ decimal n [] ≡ l ∷ decimal n (suffix v)
 plain-name l n v e = ap (λ (b : Bool). l ∷ decimal n (suffix b)) (sym e)
-
-pub const-is : (n : Node) → const_node n ≡ true → n ≡ Const
-const-is Const e = refl
-const-is (Input i) e = absurd (false≢true e)
-const-is (Var g) e = absurd (false≢true e)
-
-pub gate-left : (n : Node) → const_node n ≡ false → input_node n ≡ false → gate_node n ≡ true
-gate-left Const d e = absurd (true≢false d)
-gate-left (Input i) d e = absurd (true≢false e)
-gate-left (Var g) d e = refl
-
--- the name of a cell's signal, by what the cell is
-module _ (c : ℕ) {v : Bool} (w : v ≡ (sig_of c).inv) where
-  pub const-name : {b : Bool} → b ≡ const_node (node_of c) → b ≡ true → node_bytes Const v ≡ name_bytes (sig_of c)
-  const-name d t = ap (λ (n : Node). node_bytes n v) (sym (const-is (node_of c) (sym d ∙ t))) ∙ ap (node_bytes (node_of c)) w
-
-  pub input-name : {b : Bool} {i : ℕ} → b ≡ input_node (node_of c) → b ≡ true → i ≡ input_number c → 105 ∷ decimal i (suffix v) ≡ name_bytes (sig_of c)
-  input-name d t e =
-      ap (λ (i : ℕ). node_bytes (Input i) v) e
-      ∙ ap (λ (n : Node). node_bytes n v) (sym (input-number c (sym d ∙ t)))
-      ∙ ap (node_bytes (node_of c)) w
-
-  pub gate-name : {a b : Bool} {g : ℕ} → a ≡ const_node (node_of c) → a ≡ false → b ≡ input_node (node_of c) → b ≡ false → g ≡ gate_number c
-      → 120 ∷ decimal g (suffix v) ≡ name_bytes (sig_of c)
-  gate-name k f d t e =
-      ap (λ (g : ℕ). node_bytes (Var g) v) e
-      ∙ ap (λ (n : Node). node_bytes n v) (sym (gate-number c (gate-left (node_of c) (sym k ∙ f) (sym d ∙ t))))
-      ∙ ap (node_bytes (node_of c)) w

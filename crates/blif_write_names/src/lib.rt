@@ -16,10 +16,8 @@ fn copy(out: &mut [u8], bytes: &[u8])
     requires { length bytes.now ≤ length out.old }
     ensures { out.new ≡ overwrite bytes.now out.old }
 {
-    let mut i = 0;
-    while i < bytes.len() {
+    for i in 0..bytes.len() {
         out[i] = bytes[i];
-        i += 1;
     }
 }
 
@@ -30,10 +28,11 @@ fn put_bytes(out: &mut [u8], bytes: &[u8]) -> usize
     let room = out.len();
     if bytes.len() > room {
         copy(out, &bytes[..room]);
-        return room + 1;
+        room + 1
+    } else {
+        copy(out, bytes);
+        bytes.len()
     }
-    copy(out, bytes);
-    bytes.len()
 }
 
 // Writes bytes at place at of out. Gives back the place after them, or one past the end.
@@ -41,20 +40,22 @@ pub fn append(out: &mut [u8], at: usize, bytes: &[u8]) -> usize
     ensures { Appended bytes.now out.old at out.new result }
 {
     if at > out.len() {
-        return out.len() + 1;
+        out.len() + 1
+    } else {
+        at + put_bytes(&mut out[at..], bytes)
     }
-    at + put_bytes(&mut out[at..], bytes)
 }
 
 // Writes one byte.
 pub fn append_byte(out: &mut [u8], at: usize, x: u8) -> usize
     ensures { Appended (x ∷ []) out.old at out.new result }
 {
-    if at >= out.len() {
-        return out.len() + 1;
+    if at < out.len() {
+        out[at] = x;
+        at + 1
+    } else {
+        out.len() + 1
     }
-    out[at] = x;
-    at + 1
 }
 
 // Writes the last digit of n, and nothing for zero.
@@ -62,12 +63,12 @@ fn append_digit(out: &mut [u8], at: usize, n: u32) -> usize
     ensures { Appended (last_digit n) out.old at out.new result }
 {
     if at > out.len() {
-        return out.len() + 1;
+        out.len() + 1
+    } else if n == 0 {
+        at
+    } else {
+        append_byte(out, at, b'0' + (n % 10) as u8)
     }
-    if n == 0 {
-        return at;
-    }
-    append_byte(out, at, 48 + (n % 10) as u8)
 }
 
 // Writes the last four digits of n, from its first digit on.
@@ -85,13 +86,13 @@ fn append_upper(out: &mut [u8], at: usize, n: u32) -> usize
     ensures { Appended (leading (n / 10000)) out.old at out.new result }
 {
     if at > out.len() {
-        return out.len() + 1;
+        out.len() + 1
+    } else if n < 10000 {
+        at
+    } else {
+        let end = append_four(out, at, n / 100000000);
+        append_four(out, end, n / 10000)
     }
-    if n < 10000 {
-        return at;
-    }
-    let end = append_four(out, at, n / 100000000);
-    append_four(out, end, n / 10000)
 }
 
 // Writes n in decimal. Each digit goes straight into the slice: an array of digits would be written and read again.
@@ -99,10 +100,11 @@ pub fn append_number(out: &mut [u8], at: usize, n: u32) -> usize
     ensures { Appended (decimal n []) out.old at out.new result }
 {
     if n == 0 {
-        return append_byte(out, at, b'0');
+        append_byte(out, at, b'0')
+    } else {
+        let end = append_upper(out, at, n);
+        append_four(out, end, n)
     }
-    let end = append_upper(out, at, n);
-    append_four(out, end, n)
 }
 
 // Writes the name of a constant.
@@ -110,9 +112,10 @@ fn append_constant(out: &mut [u8], at: usize, one: bool) -> usize
     ensures { Appended (node_bytes Const one) out.old at out.new result }
 {
     if one {
-        return append(out, at, b"vdd");
+        append(out, at, b"vdd")
+    } else {
+        append(out, at, b"gnd")
     }
-    append(out, at, b"gnd")
 }
 
 // Writes a letter, a number and `_n` if inverted.
@@ -122,9 +125,10 @@ pub fn append_numbered(out: &mut [u8], at: usize, letter: u8, n: u32, inverted: 
     let first = append_byte(out, at, letter);
     let end = append_number(out, first, n);
     if inverted {
-        return append(out, end, b"_n");
+        append(out, end, b"_n")
+    } else {
+        end
     }
-    end
 }
 
 // Writes the name of a signal.
@@ -132,12 +136,12 @@ pub fn sig_to_string(out: &mut [u8], at: usize, s: Signal) -> usize
     ensures { Appended (name_bytes (sig_of s.a)) out.old at out.new result }
 {
     if s.is_constant() {
-        return append_constant(out, at, s.is_inverted());
+        append_constant(out, at, s.is_inverted())
+    } else if s.is_input() {
+        append_numbered(out, at, b'i', s.input(), s.is_inverted())
+    } else {
+        append_numbered(out, at, b'x', s.var(), s.is_inverted())
     }
-    if s.is_input() {
-        return append_numbered(out, at, b'i', s.input(), s.is_inverted());
-    }
-    append_numbered(out, at, b'x', s.var(), s.is_inverted())
 }
 
 // Writes what stands before a signal's name, and the name.

@@ -1,8 +1,7 @@
 -- What is printed, from what the reader and the writer answer. Assumes nothing.
-use Rattle.std.specs.Prelude.{if◌then◌else◌}
+use Rattle.std.specs.Prelude.{if◌then◌else◌, Result, Ok, Err}
 use mathlib.Core.Path.{◌≡◌, refl, sym, ap, ◌∙◌, subst}
 use mathlib.Core.Bool.{Bool, true, false, true≢false, false≢true}
-use mathlib.Core.List.{List}
 use Prim.Native.Nat.{ℕ}
 use native.Mathlib.Omega.{arith}
 use lib.ListN.{length, length-replicate}
@@ -10,35 +9,17 @@ use Rattle.lists.specs.Lists.{Bytes, zeros, any, overwrite}
 use Rattle.lists.proofs.Over.{take-overwrite}
 use Rattle.lists.proofs.Tests.{by-test}
 use Rattle.network.specs.Cells.{Lent, lent, is_network, net_of}
-use Rattle.network.specs.declared.Counts.{Counts}
 use Rattle.refusals.specs.declared.Refusal.{Refusal}
 use Rattle.refusals.specs.declared.Refusal.TheVariants as refusal
 use Rattle.blif_writing.specs.WrittenModel.{wide}
 use Rattle.blif_writing.specs.Text.{text_of}
 use Rattle.blif_write_names.specs.Between.Text.{Wrote}
 use Rattle.printed_lines.specs.Lines.{refused_line}
-use Rattle.blif_read.specs.Into.{Lengths, read_into, ReadOutcome, read_outcome}
-use Rattle.blif_read.specs.declared.ReadAnswer.{ReadAnswer}
-use Rattle.blif_read.specs.declared.ReadAnswer.TheVariants as read
+use Rattle.blif_read.specs.Into.{Lengths, read_into, ReadOutcome}
 use Rattle.blif_write.specs.Into.{WriteOutcome, write_outcome, refused_text, written_text, too_long, write_into}
-use Rattle.blif_write.specs.declared.WriteAnswer.{WriteAnswer}
-use Rattle.blif_write.specs.declared.WriteAnswer.TheVariants.{Written, Refused}
 use Rattle.blif_write.proofs.Answers.{in-slice, Ways, refuses, writes, writer-ways}
 use Rattle.blifnorm.specs.Norm.{written_from, norm_into, printed}
-
--- ---- the reader's answer, then the writer's
-
-module _ (text : Bytes) (ls : Lengths) (n : ℕ) {gs ps os wgs wps : List ℕ} {a : ReadAnswer} (e : read_outcome a gs ps os wgs wps ≡ read_into text ls) where
-  -- what follows the reader's answer
-  after : {y : ReadAnswer} → a ≡ y → written_from y (read_outcome a gs ps os wgs wps) n ≡ norm_into text ls n
-  after q =
-      ap (λ (y : ReadAnswer). written_from y (read_outcome a gs ps os wgs wps) n) (sym q) ∙ ap (λ (o : ReadOutcome). written_from o.answer o n) e
-
-  pub norm-read : {c : Counts} {x : WriteOutcome} → a ≡ read.Read c → x ≡ write_into (lent c gs ps os) n → x ≡ norm_into text ls n
-  norm-read q w = w ∙ after q
-
-  pub norm-refused : {k : Refusal} {b : Bytes} → a ≡ read.Refused k → b ≡ zeros n → write_outcome (Refused k) b ≡ norm_into text ls n
-  norm-refused {k} q z = ap (λ (o : Bytes). write_outcome (Refused k) o) z ∙ after q
+use Rattle.network.specs.declared.Counts.{Counts}
 
 -- ---- what the writer answers
 
@@ -56,22 +37,22 @@ network-text l n e w =
     (λ q. ap printed (p ∙ ap end q) ∙ ap line (sym q))
     (λ q. let h = in-slice t n q in ap printed (p ∙ ap end q) ∙ take-overwrite t (zeros n) (omega (arith, h, r)) ∙ ap line (sym q))
 
-from-ways : (a : ReadAnswer) (o : ReadOutcome) (n : ℕ) → Ways n (written_from a o n)
-from-ways (read.Refused k) o n = refuses k refl
-from-ways (read.Read c) o n = writer-ways (lent c o.gates o.pins o.outputs) n
+from-ways : (a : Result Counts Refusal) (o : ReadOutcome) (n : ℕ) → Ways n (written_from a o n)
+from-ways (Err k) o n = refuses k refl
+from-ways (Ok c) o n = writer-ways (lent c o.gates o.pins o.outputs) n
 
 -- whether an answer is a text
-is_text : WriteAnswer → Bool
-is_text (Written n) = true
-is_text (Refused k) = false
+is_text : Result ℕ Refusal → Bool
+is_text (Ok n) = true
+is_text (Err k) = false
 
 -- a text's length
-text_length : WriteAnswer → ℕ
-text_length (Written n) = n
-text_length (Refused k) = 0
+text_length : Result ℕ Refusal → ℕ
+text_length (Ok n) = n
+text_length (Err k) = 0
 
 -- a text in the slice is what is printed
-text-laid : (n m : ℕ) (x : WriteOutcome) (b : Bytes) → Ways n x → write_outcome (Written m) b ≡ x → Wrote (printed x) (zeros n) b m
+text-laid : (n m : ℕ) (x : WriteOutcome) (b : Bytes) → Ways n x → write_outcome (Ok m) b ≡ x → Wrote (printed x) (zeros n) b m
 unfolding is_text text_length
 text-laid n m x b (refuses k e) h = absurd (true≢false (ap (λ (o : WriteOutcome). is_text o.answer) (h ∙ e)))
 text-laid n m x b (writes t l short e) h =
@@ -82,7 +63,7 @@ text-laid n m x b (writes t l short e) h =
     record { out = eb ∙ ap (λ (s : Bytes). overwrite s (zeros n)) (sym p); len = omega (arith, em, ap length p, r) }
 
 -- and after a refusal the slice is zero, so that its line alone is
-line-laid : (n : ℕ) (k : Refusal) (x : WriteOutcome) (b p : Bytes) (r : ℕ) → Ways n x → write_outcome (Refused k) b ≡ x → Wrote (refused_line k) b p r
+line-laid : (n : ℕ) (k : Refusal) (x : WriteOutcome) (b p : Bytes) (r : ℕ) → Ways n x → write_outcome (Err k) b ≡ x → Wrote (refused_line k) b p r
     → Wrote (printed x) (zeros n) p r
 unfolding is_text
 line-laid n k x b p r (refuses j e) h w =
@@ -91,12 +72,12 @@ line-laid n k x b p r (refuses j e) h w =
     subst (λ (s : Bytes). Wrote s (zeros n) p r) ex (subst (λ (s : Bytes). Wrote (refused_line k) s p r) eb w)
 line-laid n k x b p r (writes t l short e) h w = absurd (false≢true (ap (λ (o : WriteOutcome). is_text o.answer) (h ∙ e)))
 
-module _ (text : Bytes) (ls : Lengths) (n : ℕ) {b : Bytes} {a : WriteAnswer} (h : write_outcome a b ≡ norm_into text ls n) where
+module _ (text : Bytes) (ls : Lengths) (n : ℕ) {b : Bytes} {a : Result ℕ Refusal} (h : write_outcome a b ≡ norm_into text ls n) where
   ways : Ways n (norm_into text ls n)
   ways = from-ways (read_into text ls).answer (read_into text ls) n
 
-  pub prints-text : {m : ℕ} → a ≡ Written m → Wrote (printed (norm_into text ls n)) (zeros n) b m
-  prints-text {m} q = text-laid n m (norm_into text ls n) b ways (ap (λ (y : WriteAnswer). write_outcome y b) (sym q) ∙ h)
+  pub prints-text : {m : ℕ} → a ≡ Ok m → Wrote (printed (norm_into text ls n)) (zeros n) b m
+  prints-text {m} q = text-laid n m (norm_into text ls n) b ways (ap (λ (y : Result ℕ Refusal). write_outcome y b) (sym q) ∙ h)
 
-  pub prints-line : {k : Refusal} {p : Bytes} {r : ℕ} → a ≡ Refused k → Wrote (refused_line k) b p r → Wrote (printed (norm_into text ls n)) (zeros n) p r
-  prints-line {k} {p} {r} q w = line-laid n k (norm_into text ls n) b p r ways (ap (λ (y : WriteAnswer). write_outcome y b) (sym q) ∙ h) w
+  pub prints-line : {k : Refusal} {p : Bytes} {r : ℕ} → a ≡ Err k → Wrote (refused_line k) b p r → Wrote (printed (norm_into text ls n)) (zeros n) p r
+  prints-line {k} {p} {r} q w = line-laid n k (norm_into text ls n) b p r ways (ap (λ (y : Result ℕ Refusal). write_outcome y b) (sym q) ∙ h) w

@@ -1,4 +1,5 @@
 -- The forms of a network that is read: none of its gates is an Xor or Xnor of the Nary form, so none is refused with 21. Assumes nothing.
+use Rattle.std.specs.Prelude.{Ok}
 use mathlib.Core.Path.{◌≡◌, refl, ap, ◌∙◌, subst}
 use mathlib.Core.Bool.{Bool, true, false, cond, ◌&&◌}
 use mathlib.Core.List.{List, [], ◌∷◌, map}
@@ -18,7 +19,7 @@ use Rattle.blif_meaning.specs.Model.{Line, Block, Latch, Cover}
 use Rattle.blif_reading.specs.Build.{literals, literal_gate, line_gate, cover_gate, line_gates, block_gate, new_gates, block_gates, all_new_gates}
 use Rattle.blif_reading.specs.TextModel.{block_of}
 use Rattle.blif_writing.specs.WrittenModel.{exclusive, max_exclusive, wide}
-use Rattle.blif_reading.specs.Read.{read, signal_of, built_from, read_text}
+use Rattle.blif_reading.specs.Read.{signal_of, built_from, read_text}
 use Rattle.blif_reading.proofs.Passed.{passed-valid}
 use Rattle.blif_reading.proofs.Accepted.{passed-read}
 
@@ -98,7 +99,7 @@ permuted-other l net h = every_map (λ (o : ℕ). remap_gate (place_of l) (gate_
 -- ---- what is read
 
 -- no gate of a network that is read is an Xor or Xnor of the Nary form
-pub read-no-exclusive : (s : Bytes) (new : Net) → read_text s ≡ read new → NoExclusive new.gates
+pub read-no-exclusive : (s : Bytes) (new : Net) → read_text s ≡ Ok new → NoExclusive new.gates
 read-no-exclusive s new e =
     let ds = decls_of s in
     let r = passed-read s new e in
@@ -109,5 +110,5 @@ not_wide : (x : Gate) → exclusive_gate x ≡ false → wide x ≡ false
 not_wide x h = ap (λ (b : Bool). b && ltb max_exclusive (length (pins x))) h
 
 -- so that none is too wide to be written
-pub read-not-wide : (s : Bytes) (new : Net) → read_text s ≡ read new → any wide new.gates ≡ false
+pub read-not-wide : (s : Bytes) (new : Net) → read_text s ≡ Ok new → any wide new.gates ≡ false
 read-not-wide s new e = every-no wide not_wide (read-no-exclusive s new e)

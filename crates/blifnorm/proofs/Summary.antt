@@ -1,5 +1,5 @@
 -- What `blifnorm` prints, as a reviewer would read it. Assumes nothing.
-use Rattle.std.specs.Prelude.{if◌then◌else◌}
+use Rattle.std.specs.Prelude.{if◌then◌else◌, Result, Ok, Err}
 use mathlib.Core.Path.{◌≡◌, sym, ap, ◌∙◌}
 use mathlib.Core.Bool.{Bool, true, false}
 use mathlib.Core.List.{map}
@@ -14,7 +14,7 @@ use Rattle.network.specs.Record.{gate_cells, pin_cells}
 use Rattle.blif_writing.specs.WrittenModel.{wide}
 use Rattle.blif_writing.specs.Text.{text_of}
 use Rattle.printed_lines.specs.Lines.{refused_line}
-use Rattle.blif_reading.specs.Read.{Result, read, refused, read_text}
+use Rattle.blif_reading.specs.Read.{read_text}
 use Rattle.blif_read.specs.Into.{Lengths, enough, ReadOutcome, filled, read_into}
 use Rattle.blif_read.proofs.CellsRead.{read-layout, read-decodes}
 use Rattle.blif_write.specs.Into.{too_long, write_into}
@@ -24,16 +24,16 @@ use Rattle.blifnorm.proofs.ReadForms.{read-not-wide}
 
 module _ (text : Bytes) (ls : Lengths) (n : ℕ) (e : enough ls ≡ true) where
   -- what the reader leaves, with enough cells
-  left : {r : Result} → read_text text ≡ r → read_into text ls ≡ filled r ls
+  left : {r : Result Net Refusal} → read_text text ≡ r → read_into text ls ≡ filled r ls
   unfolding read_into
-  left q = ap (λ (b : Bool). filled (if b then read_text text else refused refusal.TooFewCells) ls) e ∙ ap (λ (x : Result). filled x ls) q
+  left q = ap (λ (b : Bool). filled (if b then read_text text else Err refusal.TooFewCells) ls) e ∙ ap (λ (x : Result Net Refusal). filled x ls) q
 
   -- a text that is refused is answered by the line with the refusal's number
-  pub refusal-printed : (r : Refusal) → read_text text ≡ refused r → printed (norm_into text ls n) ≡ refused_line r
+  pub refusal-printed : (r : Refusal) → read_text text ≡ Err r → printed (norm_into text ls n) ≡ refused_line r
   refusal-printed r q = ap (λ (o : ReadOutcome). printed (written_from o.answer o n)) (left q)
 
   -- a text that is read, by what the writer answers for the cells of the network read
-  pub network-printed : (net : Net) → read_text text ≡ read net
+  pub network-printed : (net : Net) → read_text text ≡ Ok net
       → printed (norm_into text ls n)
       ≡ printed
       (write_into
@@ -43,11 +43,11 @@ module _ (text : Bytes) (ls : Lengths) (n : ℕ) (e : enough ls ≡ true) where
   network-printed net q = ap (λ (o : ReadOutcome). printed (written_from o.answer o n)) (left q)
 
   -- a text that is read is answered by the written text of the network read, or by 22 where that text is too long
-  pub text-printed : (net : Net) → read_text text ≡ read net
+  pub text-printed : (net : Net) → read_text text ≡ Ok net
       → printed (norm_into text ls n) ≡ (if too_long (text_of net) n then refused_line refusal.TextDoesNotFit else text_of net)
   text-printed net q =
       let cells : ReadOutcome → Lent = λ o. lent (counts_of net) o.gates o.pins o.outputs in
-      let l : Lent = cells (filled (read net) ls) in
+      let l : Lent = cells (filled (Ok net) ls) in
       let same : l ≡ cells (read_into text ls) = ap cells (sym (left q)) in
       let decodes : net_of l ≡ net = ap net_of same ∙ read-decodes text net ls e q in
       let layout : is_network l ≡ true = ap is_network same ∙ read-layout text net ls e q in

@@ -10,11 +10,12 @@ ghost use Rattle.blif_read.specs.Into.{lengths};
 ghost use Rattle.blif_write.specs.Into.{write_outcome};
 ghost use Rattle.blifnorm.specs.Norm.{norm_into, printed};
 
-use blif_read::{ReadAnswer, read_blif};
-use blif_write::{WriteAnswer, write_blif};
+use blif_read::read_blif;
+use blif_write::write_blif;
 use lists::fill_zero_bytes;
 use printed_lines::append_refused;
 use program_io::{print_front, read_open};
+use refusals::Refusal;
 
 // Writes the text of the network read into out, or gives the reader's or else the writer's refusal.
 fn normalise(
@@ -25,16 +26,16 @@ fn normalise(
     outputs: &mut [u32],
     work_gates: &mut [u32],
     work_pins: &mut [u32],
-) -> WriteAnswer
+) -> Result<usize, Refusal>
     ensures { let n = lengths (length gates.old) (length pins.old) (length outputs.old)
         (length work_gates.old) (length work_pins.old) in
         write_outcome result out.new ≡ norm_into text.now n (length out.old) }
 {
     match read_blif(text, gates, pins, outputs, work_gates, work_pins) {
-        ReadAnswer::Read(counts) => write_blif(counts, gates, pins, outputs, out),
-        ReadAnswer::Refused(refusal) => {
+        Ok(counts) => write_blif(counts, gates, pins, outputs, out),
+        Err(refusal) => {
             fill_zero_bytes(out);
-            WriteAnswer::Refused(refusal)
+            Err(refusal)
         }
     }
 }
@@ -54,8 +55,8 @@ fn answer(
         Wrote (printed (norm_into text.now n (length out.old))) (zeros (length out.old)) out.new result }
 {
     match normalise(text, out, gates, pins, outputs, work_gates, work_pins) {
-        WriteAnswer::Written(n) => n,
-        WriteAnswer::Refused(refusal) => append_refused(out, 0, refusal),
+        Ok(n) => n,
+        Err(refusal) => append_refused(out, 0, refusal),
     }
 }
 
@@ -91,7 +92,7 @@ fn main(rt: HostRuntime) {
     let n = read_open(&mut rt.stdin(), &mut text);
     if n > 32769 {
         let _ = eprintln!(rt; "blifnorm: standard input cannot be read");
-        return;
+    } else {
+        print_answer(&rt, &rt.stderr(), &text[..n]);
     }
-    print_answer(&rt, &rt.stderr(), &text[..n]);
 }

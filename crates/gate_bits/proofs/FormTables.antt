@@ -11,13 +11,7 @@ use borrow.Author.Tests.{eqb-true}
 use Rattle.lists.proofs.Tests.{and_left, and_right}
 use Rattle.gates.specs.Gate.{Form, And2, Xor2, And3, Xor3, Maj3, Mux3, AndN, OrN, NandN, NorN, XorN, XnorN, Buf, form_bit}
 use Rattle.gates.specs.Forms.{can_have}
-use Rattle.gates.specs.Between.Forms.{kind_of_form, binary_form, ternary_form}
-use Rattle.gates.specs.declared.Kind.{Kind}
-use Rattle.gates.specs.declared.Kind.TheVariants as K
-use Rattle.gates.specs.declared.BinaryType.{BinaryType}
-use Rattle.gates.specs.declared.BinaryType.TheVariants as B
-use Rattle.gates.specs.declared.TernaryType.{TernaryType}
-use Rattle.gates.specs.declared.TernaryType.TheVariants as T
+use Rattle.gates.specs.Between.Forms.{kind_of_form}
 use Rattle.gate_bits.specs.Between.Tables.{truth_bit, form_table, form_pad, padded, kind_table, kind_pad, wide_bit}
 
 -- ---- every short list of bits
@@ -88,22 +82,3 @@ kind-pad f = (computed f).pad
 
 pub wide_form : (f : Form) (bs : List Bool) → 6 < length bs → can_have f (length bs) ≡ true → wide_bit (kind_of_form f) bs ≡ form_bit f bs
 wide_form f = (computed f).wide
-
--- ---- a Binary or Ternary kind's pad is zero's slot
-
-module _ {k : Kind} where
-  pub binary-pad : {t : BinaryType} → k ≡ K.Binary t → 0 ≡ kind_pad k
-  binary-pad {t} e = rw e (go t)
-    where
-      go : (u : BinaryType) → 0 ≡ form_pad (binary_form u)
-      go B.And = refl
-      go B.Xor = refl
-
-  pub ternary-pad : {t : TernaryType} → k ≡ K.Ternary t → 0 ≡ kind_pad k
-  ternary-pad {t} e = rw e (go t)
-    where
-      go : (u : TernaryType) → 0 ≡ form_pad (ternary_form u)
-      go T.And = refl
-      go T.Xor = refl
-      go T.Maj = refl
-      go T.Mux = refl

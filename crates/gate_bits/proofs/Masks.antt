@@ -1,17 +1,15 @@
 -- Masks of bits, and the bit of a table at a mask. Assumes nothing.
-use mathlib.Core.Path.{◌≡◌, refl, ap, ◌∙◌}
+use mathlib.Core.Path.{◌≡◌, refl, ap}
 use mathlib.Core.Bool.{Bool, true, false}
 use mathlib.Core.List.{List, []}
-use Prim.Native.Nat.{ℕ, suc, ◌+◌, ◌*◌, ◌/◌, ◌%◌, ◌^◌, ◌≤◌, ◌<◌}
+use Prim.Native.Nat.{ℕ, suc, ◌+◌, ◌*◌, ◌≤◌, ◌<◌}
 use native.Mathlib.Omega.{arith}
-use lib.Bits.{bit_and, and_mask}
-use lib.Dec.{eqb}
 use lib.ListN.{length, get_or, drop, drop_of_length-le}
 use lib.Seq.{drop-cons}
 use mir.Val.{bool_byte}
 use Rattle.signal.specs.Cell.{bit_of}
 use Rattle.gate_bits.specs.Between.Slots.{bits_in}
-use Rattle.gate_bits.specs.Between.Tables.{mask_of, truth_bit}
+use Rattle.gate_bits.specs.Between.Tables.{mask_of}
 
 -- ---- the mask of the bits in six slots
 
@@ -55,6 +53,3 @@ module _ (bits : List Bool) (slots : List ℕ) where
   six_low l = omega (arith, mask-six l, bytes_le)
 
 -- ---- the bit of a table
-
-pub table_at : (t : ℕ) (bs : List Bool) {m : ℕ} → m ≡ mask_of bs → eqb (bit_and (t / 2 ^ m) 1) 1 ≡ truth_bit t bs
-table_at t bs {m} e = ap (λ (x : ℕ). eqb x 1) (and_mask (t / 2 ^ m) 1 ∙ ap (λ (k : ℕ). t / 2 ^ k % 2) e)

@@ -1,11 +1,11 @@
 -- What a gate makes of the bits of a run of pins, one after the other and by parts. Assumes nothing.
 use mathlib.Core.Path.{◌≡◌, refl, sym, ap, ◌∙◌}
-use mathlib.Core.Bool.{Bool, true, false, not, ◌||◌, beq, not-not, or_assoc, or-false}
+use mathlib.Core.Bool.{Bool, true, false, not, ◌||◌, beq, not-not, or_assoc}
 use mathlib.Core.List.{List, [], ◌∷◌, ◌++◌, map-append}
 use Prim.Native.Nat.{ℕ, ◌+◌, ◌-◌, ◌≤◌, ◌<◌}
 use native.Mathlib.Omega.{arith}
 use lib.ListN.{length, get_or, take, drop, take-append-drop}
-use lib.Seq.{take-add, take_all}
+use lib.Seq.{take-add}
 use Rattle.lists.specs.Lists.{any}
 use Rattle.lists.proofs.Places.{drop-next}
 use Rattle.signal.specs.Signal.{invert_if}
@@ -20,9 +20,6 @@ differ-invert_if true true = refl
 differ-invert_if true false = refl
 differ-invert_if false true = refl
 differ-invert_if false false = refl
-
-pub any-single : (i b : Bool) → not (beq b i) ≡ any (invert_if i) (b ∷ [])
-any-single i b = differ-invert_if b i ∙ sym (or-false (invert_if i b))
 
 pub odd-single : (b : Bool) → b ≡ odd (b ∷ [])
 odd-single true = refl
@@ -73,9 +70,6 @@ pub record MadeOf (make : List Bool → Bool) (bits : List Bool) (run : List ℕ
   pub so : b ≡ make (pin_bits bits (take i run))
 
 module _ {make : List Bool → Bool} {bits : List Bool} {run : List ℕ} where
-  pub made-start : false ≡ make [] → MadeOf make bits run false 0
-  made-start e = record { within = omega arith; so = e }
-
   module _ {b : Bool} {i : ℕ} where
     module _ {op : Bool → Bool → Bool} (j : Joins make op) (c : MadeOf make bits run b i) where
       -- a part more
@@ -96,9 +90,6 @@ module _ {make : List Bool → Bool} {bits : List Bool} {run : List ℕ} where
           let s : i + 1 - i ≡ 1 = omega arith in
           let t : take (i + 1 - i) (drop i run) ≡ get_or run i 0 ∷ [] = rw (s, drop-next run i 0 h) in
           made-part (omega arith) (omega arith) (q ∙ ap (op b) (p ∙ ap (λ (l : List ℕ). make (pin_bits bits l)) (sym t)))
-
-    pub made-done : length run ≤ i → MadeOf make bits run b i → b ≡ make (pin_bits bits run)
-    made-done h c = c.so ∙ ap (λ (l : List ℕ). make (pin_bits bits l)) (take_all i run h)
 
 -- one that is found in a part is found in the whole
 pub made_found : (p : Bool → Bool) {bits : List Bool} {run : List ℕ} {i : ℕ} → MadeOf (any p) bits run true i → true ≡ any p (pin_bits bits run)

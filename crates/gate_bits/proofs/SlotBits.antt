@@ -2,11 +2,11 @@
 use mathlib.Core.Path.{◌≡◌, refl, sym, ap, ◌∙◌}
 use mathlib.Core.Bool.{Bool, true, false, not}
 use mathlib.Core.List.{List, [], ◌∷◌, map}
-use Prim.Native.Nat.{ℕ, zero, suc, ◌+◌, ◌-◌, ◌%◌, ◌^◌, ◌≤◌, ◌<◌}
+use Prim.Native.Nat.{ℕ, zero, suc, ◌+◌, ◌-◌, ◌%◌, ◌^◌, ◌<◌}
 use native.Mathlib.Omega.{arith}
 use native.Mathlib.Nat.{add-zero}
 use native.Mathlib.Numerals.{add-one}
-use lib.ListN.{length, get_or, set, length-set, length-map, get_or-map, get_or-eq_default}
+use lib.ListN.{length, get_or, set, length-set, length-map, get_or-map}
 use lib.Seq.{take_all, get_or-set_same, get_or-set_other}
 use Rattle.lists.specs.Lists.{range, overwrite}
 use Rattle.lists.proofs.Places.{map-map, get_d_any}
@@ -89,9 +89,6 @@ put_other bits n m b h k d s = record {
 
 pub slot_at : (run : List ℕ) (pad i : ℕ) → i < length run → slot_or run pad i ≡ slot_of (get_or run i 0)
 slot_at run pad i h = get_d_any (map slot_of run) i pad (slot_of 0) (omega (arith, length-map run slot_of)) ∙ get_or-map slot_of run i 0
-
-pub slot-past : (run : List ℕ) (pad i : ℕ) → length run ≤ i → slot_or run pad i ≡ pad
-slot-past run pad i h = get_or-eq_default (map slot_of run) pad (omega (arith, length-map run slot_of))
 
 -- the bit in the slot of pin i is that of pin i
 slot-bit : (bits : List Bool) (run : List ℕ) (pad i : ℕ) → get_or bits (slot_or run pad i) false ≡ get_or (pin_bits bits run) i (get_or bits pad false)

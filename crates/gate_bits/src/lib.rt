@@ -48,10 +48,8 @@ fn any_in(bits: &[bool], run: &[u32], inverted: bool) -> bool
     ensures { result ≡ any (invert_if inverted) (pin_bits bits.now run.now) }
 {
     let mut found = false;
-    let mut i = 0;
-    while i < run.len() {
-        found |= signal_bit(bits, run[i]) != inverted;
-        i += 1;
+    for pin in run {
+        found |= signal_bit(bits, *pin) != inverted;
     }
     found
 }
@@ -61,10 +59,7 @@ fn part_end(at: usize, len: usize) -> usize
     requires { at < len }
     ensures { result ≡ at + min 8 (len - at) }
 {
-    if len - at <= 8 {
-        return len;
-    }
-    at + 8
+    at + (len - at).min(8)
 }
 
 // The same as any_in, by parts of eight pins, up to the first that has such a bit.
@@ -89,10 +84,8 @@ fn odd_ones(bits: &[bool], run: &[u32]) -> bool
     ensures { result ≡ odd (pin_bits bits.now run.now) }
 {
     let mut found = false;
-    let mut i = 0;
-    while i < run.len() {
-        found = found != signal_bit(bits, run[i]);
-        i += 1;
+    for pin in run {
+        found = found != signal_bit(bits, *pin);
     }
     found
 }
@@ -207,20 +200,15 @@ pub fn pad_of(k: Kind) -> u16
 fn slot_or(run: &[u32], i: usize, pad: u16) -> u16
     ensures { result ≡ slot_or run.now pad i }
 {
-    if i < run.len() {
-        return slot_of(run[i]);
-    }
-    pad
+    run.get(i).map_or(pad, |cell| slot_of(*cell))
 }
 
 // Lays the slots of the first six pins, with the pad for those that are not there.
 pub fn lay_slots(run: &[u32], pad: u16, slots: &mut [u16])
     ensures { slots.new ≡ run_slots run.now pad (length slots.old) }
 {
-    let mut i = 0;
-    while i < slots.len() {
-        slots[i] = slot_or(run, i, pad);
-        i += 1;
+    for (i, slot) in slots.iter_mut().enumerate() {
+        *slot = slot_or(run, i, pad);
     }
 }
 

@@ -1,4 +1,5 @@
 -- The code's `Gate` and the data `Gate`: a kind with its pins is the gate of its number and pins. Assumes nothing.
+use Rattle.std.specs.Prelude.{Some, None}
 use mathlib.Core.Path.{◌≡◌, refl, sym, ap, ◌∙◌}
 use mathlib.Core.Bool.{Bool, true, false, ◌&&◌, false≢true, true≢false}
 use mathlib.Core.List.{List, [], ◌∷◌, map}
@@ -6,35 +7,29 @@ use mathlib.Core.Option.{none, some}
 use Prim.Native.Nat.{ℕ, suc, ◌+◌, ◌≤◌}
 use native.Mathlib.Omega.{arith}
 use lib.Dec.{eqb}
-use lib.ListN.{length, get_or, take, drop, length-map, get_or-eq_default}
+use lib.ListN.{length, get_or, take, drop, length-map}
 use borrow.Author.Tests.{eqb-true, eq-eqb, le-leb}
 use Rattle.lists.proofs.Tests.{by-test, and-false}
 use Rattle.gates.proofs.Forms.{gate-kind, start-kind, binary-count, ternary-count}
-use Rattle.signal.specs.declared.Signal as code
 use Rattle.signal.specs.Signal.{Signal}
 use Rattle.signal.specs.Cell.{bit_of, sig_of}
 use Rattle.gates.specs.Gate as data-gate
 use Rattle.gates.specs.Gate.{Comb, Dff, Buf, is_comb}
 use Rattle.gates.specs.Forms.{can_have, form_cell, start_cell, comb_from, flop_from, gate_with, gate_from}
 use Rattle.gates.specs.Between.Forms.{binary_form, ternary_form, nary_form, kind_of, kind_takes, kind_starts, gate_of_kind, kind_number}
-use Rattle.gates.specs.Between.Decode.{run_within, gate_in, start_in, decoded_in, kind_of_gate, kind_comb, cell_signal, kind_gate, with_pins}
+use Rattle.gates.specs.Between.Decode.{run_within, gate_in, start_in, decoded_in, kind_of_gate, kind_comb, kind_gate, with_pins}
 use Rattle.gates.specs.declared.Gate.{Gate}
 use Rattle.gates.specs.declared.Gate.TheVariants as G
 use Rattle.gates.specs.declared.Kind.{Kind}
 use Rattle.gates.specs.declared.Kind.TheVariants as K
-use Rattle.gates.specs.declared.Decoded.{Decoded}
-use Rattle.gates.specs.declared.Decoded.TheVariants.{Good, Bad}
-
--- past the run's end the signal is zero
-pub signal-past : (ps : List ℕ) (i : ℕ) → length ps ≤ i → ◌≡◌ {A = code.Signal} (record { a = 0 }) (cell_signal ps i)
-signal-past ps i h = ap (λ (x : ℕ). record { a = x }) (sym (get_or-eq_default ps 0 h))
+use Rattle.std.specs.declared.option.Option as std-option
 
 module _ (k : Kind) (i v : ℕ) (ps : List ℕ) where
-  pub with_none : kind_takes k (length ps) ≡ false → Bad ≡ with_pins k i v ps
+  pub with_none : kind_takes k (length ps) ≡ false → None ≡ with_pins k i v ps
   unfolding with_pins
   with_none e = rw e
 
-  pub with-no-start : kind_starts k v ≡ false → Bad ≡ with_pins k i v ps
+  pub with-no-start : kind_starts k v ≡ false → None ≡ with_pins k i v ps
   unfolding with_pins
   with-no-start e = sym (simp (e, and-false))
 
@@ -107,20 +102,20 @@ module _ (pins : List ℕ) (i : ℕ) (ps : List ℕ) (run : RunAt pins i ps) whe
       rw (start-kind n v)
       (by-test (kind_starts (kind_of n) v)
       (λ s. rw s (takes s))
-      (λ s. rw s (ap (λ (d : Decoded). decoded_in d pins) (sym (with-no-start (kind_of n) i v ps s)))))
+      (λ s. rw s (ap (λ (d : std-option.Option Gate). decoded_in d pins) (sym (with-no-start (kind_of n) i v ps s)))))
     where
       takes : kind_starts (kind_of n) v ≡ true → decoded_in (with_pins (kind_of n) i v ps) pins ≡ gate_with n v (map sig_of ps)
       takes s =
           by-test (kind_takes (kind_of n) (length ps))
-          (λ t. ap (λ (d : Decoded). decoded_in d pins) (sym (with-some (kind_of n) i v ps t s)) ∙ kind-in (kind_of n) v t ∙ sym (gate-kind n v (map sig_of ps)))
-          (λ t. ap (λ (d : Decoded). decoded_in d pins) (sym (with_none (kind_of n) i v ps t)) ∙ none-kind ps (kind_of n) v t ∙ sym (gate-kind n v (map sig_of ps)))
+          (λ t. ap (λ (d : std-option.Option Gate). decoded_in d pins) (sym (with-some (kind_of n) i v ps t s)) ∙ kind-in (kind_of n) v t ∙ sym (gate-kind n v (map sig_of ps)))
+          (λ t. ap (λ (d : std-option.Option Gate). decoded_in d pins) (sym (with_none (kind_of n) i v ps t)) ∙ none-kind ps (kind_of n) v t ∙ sym (gate-kind n v (map sig_of ps)))
 
 -- ---- the run of a gate that was decoded
 
 -- the gate's run, where there is a gate, ends within these pin cells
-abbrev within : Decoded → List ℕ → Bool
-within (Good g) pins = run_within g pins
-within Bad pins = true
+abbrev within : std-option.Option Gate → List ℕ → Bool
+within (Some g) pins = run_within g pins
+within None pins = true
 
 module _ (i : ℕ) (ps pins : List ℕ) (h : i + length ps ≤ length pins) where
   kind-within : (k : Kind) (v : ℕ) → within (kind_gate k i v ps) pins ≡ true
@@ -132,10 +127,10 @@ module _ (i : ℕ) (ps pins : List ℕ) (h : i + length ps ≤ length pins) wher
   kind-within K.Unknown v = refl
 
   -- a kind with the pins of a run that ends within the cells
-  pub run-decoded : (k : Kind) (v : ℕ) {g : Gate} → with_pins k i v ps ≡ Good g → run_within g pins ≡ true
+  pub run-decoded : (k : Kind) (v : ℕ) {g : Gate} → with_pins k i v ps ≡ Some g → run_within g pins ≡ true
   unfolding with_pins
   run-decoded k v e =
-      ap (λ (d : Decoded). within d pins) (sym e)
+      ap (λ (d : std-option.Option Gate). within d pins) (sym e)
       ∙ by-test (kind_takes k (length ps) && kind_starts k v) (λ t. rw t (kind-within k v)) (λ t. rw t)
 
 -- ---- combinational or not

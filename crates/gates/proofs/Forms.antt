@@ -23,7 +23,6 @@ use Rattle.gates.specs.declared.BinaryType.{BinaryType}
 use Rattle.gates.specs.declared.BinaryType.TheVariants as B
 use Rattle.gates.specs.declared.TernaryType.{TernaryType}
 use Rattle.gates.specs.declared.TernaryType.TheVariants as T
-use Rattle.gates.specs.declared.NaryType.{NaryType}
 use Rattle.gates.specs.declared.NaryType.TheVariants as N
 
 -- ---- numbers, both ways
@@ -128,48 +127,6 @@ ternary-count T.And n = refl
 ternary-count T.Xor n = refl
 ternary-count T.Maj n = refl
 ternary-count T.Mux n = refl
-
-pub nary-count : (t : NaryType) (n : ℕ) → true ≡ can_have (nary_form t) n
-nary-count N.And n = refl
-nary-count N.Or n = refl
-nary-count N.Nand n = refl
-nary-count N.Nor n = refl
-nary-count N.Xor n = refl
-nary-count N.Xnor n = refl
-
-module _ {k : Kind} (n : ℕ) where
-  pub takes-binary : {t : BinaryType} → k ≡ K.Binary t → eqb n 2 ≡ kind_takes k n
-  takes-binary {t} e = rw e (binary-count t n)
-
-  pub takes-ternary : {t : TernaryType} → k ≡ K.Ternary t → eqb n 3 ≡ kind_takes k n
-  takes-ternary {t} e = rw e (ternary-count t n)
-
-  pub takes-nary : {t : NaryType} → k ≡ K.Nary t → true ≡ kind_takes k n
-  takes-nary {t} e = rw e (nary-count t n)
-
-  pub takes-buf : k ≡ K.Buf → eqb n 1 ≡ kind_takes k n
-  takes-buf e = rw e
-
-  pub takes-dff : k ≡ K.Dff → eqb n 3 ≡ kind_takes k n
-  takes-dff e = rw e
-
-  pub starts-binary : {t : BinaryType} → k ≡ K.Binary t → eqb n 0 ≡ kind_starts k n
-  starts-binary e = rw e
-
-  pub starts-ternary : {t : TernaryType} → k ≡ K.Ternary t → eqb n 0 ≡ kind_starts k n
-  starts-ternary e = rw e
-
-  pub starts-nary : {t : NaryType} → k ≡ K.Nary t → eqb n 0 ≡ kind_starts k n
-  starts-nary e = rw e
-
-  pub starts-buf : k ≡ K.Buf → eqb n 0 ≡ kind_starts k n
-  starts-buf e = rw e
-
-  pub starts-dff : k ≡ K.Dff → leb n 1 ≡ kind_starts k n
-  starts-dff e = rw e
-
-  pub starts-unknown : k ≡ K.Unknown → eqb n 0 ≡ kind_starts k n
-  starts-unknown e = rw e
 
 -- ---- gates from numbers and pins
 

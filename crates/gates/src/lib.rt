@@ -16,28 +16,29 @@ pub const BUF: u32 = 13;
 
 pub const DFF: u32 = 14;
 
+// The types of gates, each with its form number.
 #[derive(Clone, Copy)]
 pub enum BinaryType {
-    And,
-    Xor,
+    And = 1,
+    Xor = 2,
 }
 
 #[derive(Clone, Copy)]
 pub enum TernaryType {
-    And,
-    Xor,
-    Maj,
-    Mux,
+    And = 3,
+    Xor = 4,
+    Maj = 5,
+    Mux = 6,
 }
 
 #[derive(Clone, Copy)]
 pub enum NaryType {
-    And,
-    Or,
-    Nand,
-    Nor,
-    Xor,
-    Xnor,
+    And = 7,
+    Or = 8,
+    Nand = 9,
+    Nor = 10,
+    Xor = 11,
+    Xnor = 12,
 }
 
 // A run of pin cells.
@@ -69,13 +70,6 @@ pub enum Kind {
     Unknown,
 }
 
-// A gate read out of cells, or cells that hold none.
-#[derive(Clone, Copy)]
-pub enum Decoded {
-    Good(Gate),
-    Bad,
-}
-
 // The kind of a form number.
 pub fn kind_of(form: u32) -> Kind
     ensures { result ≡ kind_of form }
@@ -99,48 +93,15 @@ pub fn kind_of(form: u32) -> Kind
     }
 }
 
-fn binary_number(t: BinaryType) -> u32
-    ensures { result ≡ kind_number (Kind.Binary t) }
-{
-    match t {
-        BinaryType::And => 1,
-        BinaryType::Xor => 2,
-    }
-}
-
-fn ternary_number(t: TernaryType) -> u32
-    ensures { result ≡ kind_number (Kind.Ternary t) }
-{
-    match t {
-        TernaryType::And => 3,
-        TernaryType::Xor => 4,
-        TernaryType::Maj => 5,
-        TernaryType::Mux => 6,
-    }
-}
-
-fn nary_number(t: NaryType) -> u32
-    ensures { result ≡ kind_number (Kind.Nary t) }
-{
-    match t {
-        NaryType::And => 7,
-        NaryType::Or => 8,
-        NaryType::Nand => 9,
-        NaryType::Nor => 10,
-        NaryType::Xor => NARY_XOR,
-        NaryType::Xnor => NARY_XNOR,
-    }
-}
-
 impl Kind {
     // The form number, 0 for an unknown kind.
     pub fn number(self) -> u32
         ensures { result ≡ kind_number self }
     {
         match self {
-            Kind::Binary(t) => binary_number(t),
-            Kind::Ternary(t) => ternary_number(t),
-            Kind::Nary(t) => nary_number(t),
+            Kind::Binary(t) => t as u32,
+            Kind::Ternary(t) => t as u32,
+            Kind::Nary(t) => t as u32,
             Kind::Buf => BUF,
             Kind::Dff => DFF,
             Kind::Unknown => 0,
@@ -190,16 +151,15 @@ impl Kind {
     }
 
     // The gate of this kind with a start value and the pins of its run, which starts at cell first.
-    pub fn with_pins(self, first: usize, start: u32, run: &[u32]) -> Decoded
+    #[tactic(auto, unfolding(crate::specs::Between::Decode::with_pins))]
+    pub fn with_pins(self, first: usize, start: u32, run: &[u32]) -> Option<Gate>
         ensures { result ≡ with_pins self first start run.now }
     {
-        if !self.takes(run.len()) {
-            return Decoded::Bad;
+        if self.takes(run.len()) && self.starts(start) {
+            gate_of(self, first, start, run)
+        } else {
+            None
         }
-        if !self.starts(start) {
-            return Decoded::Bad;
-        }
-        gate_of(self, first, start, run)
     }
 }
 
@@ -207,39 +167,38 @@ impl Kind {
 fn signal_at(run: &[u32], i: usize) -> Signal
     ensures { result ≡ cell_signal run.now i }
 {
-    if i >= run.len() {
-        return Signal { a: 0 };
+    Signal {
+        a: run.get(i).copied().unwrap_or(0),
     }
-    Signal { a: run[i] }
 }
 
 // The gate of a kind that can have the run's pins.
-fn gate_of(k: Kind, first: usize, start: u32, run: &[u32]) -> Decoded
+fn gate_of(k: Kind, first: usize, start: u32, run: &[u32]) -> Option<Gate>
     ensures { result ≡ kind_gate k first start run.now }
 {
     match k {
-        Kind::Binary(t) => { Decoded::Good(Gate::Binary(t, signal_at(run, 0), signal_at(run, 1))) }
-        Kind::Ternary(t) => Decoded::Good(Gate::Ternary(
+        Kind::Binary(t) => { Some(Gate::Binary(t, signal_at(run, 0), signal_at(run, 1))) }
+        Kind::Ternary(t) => Some(Gate::Ternary(
             t,
             signal_at(run, 0),
             signal_at(run, 1),
             signal_at(run, 2),
         )),
-        Kind::Nary(t) => Decoded::Good(Gate::Nary(
+        Kind::Nary(t) => Some(Gate::Nary(
             t,
             PinRun {
                 first,
                 count: run.len(),
             },
         )),
-        Kind::Buf => Decoded::Good(Gate::Buf(signal_at(run, 0))),
-        Kind::Dff => Decoded::Good(Gate::Dff(
+        Kind::Buf => Some(Gate::Buf(signal_at(run, 0))),
+        Kind::Dff => Some(Gate::Dff(
             signal_at(run, 0),
             signal_at(run, 1),
             signal_at(run, 2),
             start == 1,
         )),
-        Kind::Unknown => Decoded::Bad,
+        Kind::Unknown => None,
     }
 }
 

@@ -1,6 +1,5 @@
 pub mod Tests
 pub mod Same
-pub mod Fill
 pub mod Places
 pub mod Range
 pub mod Twice

@@ -5,7 +5,7 @@ use Prim.Native.Nat.{ℕ, zero, suc, ◌+◌, ◌-◌, ◌≤◌, ◌<◌}
 use native.Mathlib.Omega.{arith}
 use native.Mathlib.Nat.{suc-add, add-zero, zero-add, sub-zero}
 use lib.ListN.{length, get_or, take, drop, set, length-take, length-drop, length-replicate, drop_of_length-le}
-use lib.Seq.{drop-append_seam, take_all, get_or-take, get_or-drop}
+use lib.Seq.{drop-append_seam, take_all, take-add, get_or-take, get_or-drop}
 use Rattle.lists.specs.Lists.{zeros, overwrite}
 use Rattle.lists.specs.Between.Lists.{overwrite_at}
 use Rattle.lists.proofs.Over.{length-overwrite, overwrite-is, take-overwrite}
@@ -105,6 +105,11 @@ pub run-overwrite_at : (k : ℕ) (t o : List ℕ) → k + length t ≤ length o 
 run-overwrite_at zero t o h = take-overwrite t o (omega arith)
 run-overwrite_at (suc k) t [] h = absurd (omega arith)
 run-overwrite_at (suc k) t (y ∷ o) h = run-overwrite_at k t o (omega arith)
+
+-- the cells up to its end
+pub take-overwrite_at : (k : ℕ) (t o : List ℕ) → k + length t ≤ length o → take (k + length t) (overwrite_at k t o) ≡ take k o ++ t
+take-overwrite_at k t o h =
+    take-add k (length t) (overwrite_at k t o) ∙ ap₂ (λ (x y : List ℕ). x ++ y) (run-before k t o 0 k (omega arith)) (run-overwrite_at k t o h)
 
 -- the cells from k on, with a list laid over their front
 pub overwrite_at-rest : (k : ℕ) (t o : List ℕ) → k ≤ length o → take k o ++ overwrite t (drop k o) ≡ overwrite_at k t o

@@ -28,10 +28,8 @@ fn hash_of(name: &[u8]) -> usize
     ensures { result ≡ hash_of name.now }
 {
     let mut h = 0;
-    let mut i = 0;
-    while i < name.len() {
-        h = (h * 623 + name[i] as usize) % HASHES;
-        i += 1;
+    for &byte in name {
+        h = (h * 623 + usize::from(byte)) % HASHES;
     }
     h
 }
@@ -51,7 +49,7 @@ fn seek(text: &[u8], index: &[u32], name: &[u8]) -> usize
             return at;
         }
         at = e + 2 + bits % 2;
-        bits = bits / 2;
+        bits /= 2;
     }
     at
 }
@@ -63,9 +61,10 @@ pub fn find_signal(text: &[u8], index: &[u32], name: &[u8]) -> u32
 {
     let held = index[seek(text, index, name)] as usize;
     if held == 0 {
-        return 0;
+        0
+    } else {
+        index[TREES + (held - 1) * ENTRY_CELLS + 1]
     }
-    index[TREES + (held - 1) * ENTRY_CELLS + 1]
 }
 
 // Enters the name at a place with its signal behind the others, unless it is known; answers whether it is new.

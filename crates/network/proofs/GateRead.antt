@@ -1,5 +1,6 @@
 -- What `gate_at` answers, and a gate that can be read out of the cells: its record and its run of pins are there, its pins are the run's, and
 -- it is one of the gates that the cells hold. Assumes nothing.
+use Rattle.std.specs.Prelude.{Some, None}
 use mathlib.Core.Path.{◌≡◌, sym, ap, ◌∙◌}
 use mathlib.Core.Bool.{Bool, true}
 use mathlib.Core.List.{List, map}
@@ -19,14 +20,13 @@ use Rattle.gates.specs.Gate.{Gate, pins}
 use Rattle.gates.specs.Between.Forms.{kind_of}
 use Rattle.gates.specs.Between.Decode.{run_within, decoded_in}
 use Rattle.gates.specs.declared.Gate as code
-use Rattle.gates.specs.declared.Decoded.{Decoded}
-use Rattle.gates.specs.declared.Decoded.TheVariants.{Good, Bad}
 use Rattle.gates.proofs.Forms.{From, gate-from}
 use Rattle.gates.proofs.Decode.{RunAt, decode_is, run-decoded}
 use Rattle.network.specs.Cells.{or_buf, cell_gates}
 use Rattle.network.specs.Record.{gate_width, record_cells, record_of, form_at, first_at, count_at, start_at, run_at, has_run, gate_at}
 use Rattle.network.specs.Between.Record.{record_at, decoded_at, HasRun}
 use Rattle.network.proofs.RecordCells.{record-parts, gate-some, decoded-some, gate-none, decoded-none}
+use Rattle.std.specs.declared.option.Option as std-option
 
 -- what the test for a record and its run gives
 there : (cells ps : List ℕ) (g : ℕ) → has_run cells ps g ≡ true → HasRun cells ps g
@@ -50,23 +50,23 @@ module _ (cells ps : List ℕ) (g : ℕ) where
       by-test (has_run cells ps g)
       (λ t.
       let run : RunAt ps (first_at cells g) (run_at cells ps g) = ap (λ (k : ℕ). take k (drop (first_at cells g) ps)) (run_length t) in
-      ap (λ (d : Decoded). decoded_in d ps) (decoded-some cells ps g t)
+      ap (λ (d : std-option.Option code.Gate). decoded_in d ps) (decoded-some cells ps g t)
       ∙ decode_is ps (first_at cells g) (run_at cells ps g) run (form_at cells g) (start_at cells g)
       ∙ sym (gate-some cells ps g t))
-      (λ t. ap (λ (d : Decoded). decoded_in d ps) (decoded-none cells ps g t) ∙ sym (gate-none cells ps g t))
+      (λ t. ap (λ (d : std-option.Option code.Gate). decoded_in d ps) (decoded-none cells ps g t) ∙ sym (gate-none cells ps g t))
 
-  module _ {d : Decoded} (e : d ≡ decoded_at cells ps g) where
+  module _ {d : std-option.Option code.Gate} (e : d ≡ decoded_at cells ps g) where
     pub decoded-is : decoded_in d ps ≡ gate_at cells ps g
-    decoded-is = ap (λ (x : Decoded). decoded_in x ps) e ∙ decoded_in-decoded_at
+    decoded-is = ap (λ (x : std-option.Option code.Gate). decoded_in x ps) e ∙ decoded_in-decoded_at
 
     -- its run ends within the pins
-    pub decoded-within : {x : code.Gate} → d ≡ Good x → run_within x ps ≡ true
+    pub decoded-within : {x : code.Gate} → d ≡ Some x → run_within x ps ≡ true
     decoded-within {x} h =
         by-test (has_run cells ps g)
         (λ t.
         let n : first_at cells g + length (run_at cells ps g) ≤ length ps = omega (arith, run_length t, (there cells ps g t).within) in
         run-decoded (first_at cells g) (run_at cells ps g) ps n (kind_of (form_at cells g)) (start_at cells g) (sym (decoded-some cells ps g t) ∙ sym e ∙ h))
-        (λ t. absurd (let b : d ≡ Bad = e ∙ decoded-none cells ps g t in let z : ◌≡◌ {A = ℕ} 0 1 = cc in omega arith))
+        (λ t. absurd (let b : d ≡ None = e ∙ decoded-none cells ps g t in let z : ◌≡◌ {A = ℕ} 0 1 = cc in omega arith))
 
 -- ---- a gate that can be read
 

@@ -1,4 +1,5 @@
 -- Where a gate's record and its run of pins stand in the cells. Assumes nothing.
+use Rattle.std.specs.Prelude.{None}
 use mathlib.Core.Path.{◌≡◌, refl, sym, ap, ◌∙◌, subst}
 use mathlib.Core.Bool.{Bool, true, false}
 use mathlib.Core.List.{List, [], ◌∷◌, ◌++◌, map}
@@ -25,7 +26,6 @@ use Rattle.gates.specs.declared.Gate as code
 use Rattle.gates.specs.declared.Gate.TheVariants as G
 use Rattle.signal.specs.Signal.{Signal, remap}
 use Rattle.network.specs.Renumber.{remap_gate}
-use Rattle.gates.specs.declared.Decoded.TheVariants.{Bad}
 use Rattle.network.specs.Cells.{pins_below}
 use Rattle.network.specs.Record.{gate_width, record_cells, record_of, form_at, first_at, count_at, start_at, run_at, has_run, gate_at}
 use Rattle.network.specs.Between.Record.{record_at, with_first, decoded_at, RecordIn, HasRun, hand_record}
@@ -160,7 +160,7 @@ module _ (cells ps : List ℕ) (g : ℕ) where
     unfolding gate_at
     gate-none = rw t
 
-    pub decoded-none : decoded_at cells ps g ≡ Bad
+    pub decoded-none : decoded_at cells ps g ≡ None
     unfolding decoded_at
     decoded-none = rw t
 

@@ -1,85 +1,42 @@
 -- The tests that refusal 20 asks for, as the code makes them. Assumes nothing.
-use mathlib.Core.Path.{◌≡◌, refl, sym, ap, ap₂, ◌∙◌}
-use mathlib.Core.Bool.{Bool, true, false, ◌||◌, or-true}
+use Rattle.std.specs.Prelude.{None}
+use mathlib.Core.Path.{◌≡◌, sym, ap, ap₂, ◌∙◌}
+use mathlib.Core.Bool.{Bool, true, false}
 use mathlib.Core.List.{List}
-use mathlib.Core.Option.{none}
-use Prim.Native.Nat.{ℕ, suc, ◌+◌, ◌-◌, ◌*◌, ◌/◌, ◌^◌, ◌≤◌, ◌<◌}
+use Prim.Native.Nat.{ℕ, suc, ◌+◌, ◌-◌, ◌*◌, ◌/◌, ◌≤◌, ◌<◌}
 use native.Mathlib.Omega.{arith}
 use native.Mathlib.Numerals.{add-one}
-use lib.Dec.{eqb, leb, ltb}
+use lib.Dec.{eqb, leb}
 use lib.ListN.{length, take, drop}
-use borrow.Author.Tests.{le-leb, lt-leb, le-ltb, lt-ltb, leb-true, not-true}
-use Rattle.lists.proofs.Tests.{by_order, and-false, and_left, and_right, or-false}
+use borrow.Author.Tests.{le-leb, lt-leb, le-ltb, leb-true, not-true}
+use Rattle.lists.proofs.Tests.{and-false, and_left, and_right}
 use Rattle.lists.proofs.Places.{part-run}
-use Rattle.lists.proofs.Range.{TestedTo, to_start, to-next, to-fails, to-done}
-use Rattle.signal.specs.Cell.{node_of}
-use Rattle.signal.proofs.Cells as cells
+use Rattle.lists.proofs.Range.{TestedTo, to-next, to-fails, to-done}
 use Rattle.gates.specs.Forms.{can_take, can_start}
 use Rattle.gates.specs.Between.Forms.{kind_of, kind_takes, kind_starts}
 use Rattle.gates.proofs.Forms.{take-kind, start-kind}
 use Rattle.gates.specs.Between.Decode.{with_pins}
 use Rattle.gates.specs.declared.Kind.{Kind}
-use Rattle.gates.specs.declared.Decoded.{Decoded}
-use Rattle.gates.specs.declared.Decoded.TheVariants.{Bad}
-use Rattle.network.specs.Cells.{sizes_fit, pins_below, record_fits, records_fit, valid_node, all_valid, lent, is_network}
+use Rattle.network.specs.Cells.{sizes_fit, pins_below, record_fits, records_fit, all_valid, lent, is_network}
 use Rattle.network.specs.Between.Sizes.{WithinSizes}
-use Rattle.network.specs.Between.Cells.{FewNodes}
-use Rattle.network.specs.Record.{gate_width, form_at, first_at, count_at, start_at, run_at, has_run, gate_at}
+use Rattle.network.specs.Record.{gate_width, form_at, first_at, count_at, start_at, run_at, has_run}
 use Rattle.network.specs.Between.Record.{CellIs, decoded_at}
 use Rattle.network.specs.declared.Counts.{Counts}
 use Rattle.network.proofs.SizeLimits.{not-over}
-use Rattle.network.proofs.RecordCells.{record-below, gate-none, decoded-none, decoded-there}
+use Rattle.network.proofs.RecordCells.{record-below, decoded-none, decoded-there}
+use Rattle.std.specs.declared.option.Option as std-option
+use Rattle.gates.specs.declared.Gate.{Gate}
 
 -- ---- valid signals
-
--- a valid signal by the halves of its cell and of the cell's complement
-pub valid-halves : (inputs gates c : ℕ) → FewNodes inputs gates → c < 2 ^ 32 → (leb (c / 2) gates || ltb ((2 ^ 32 - 1 - c) / 2) inputs) ≡ valid_node inputs gates (node_of c)
-valid-halves inputs gates c few low = by (cells.kind c)
-  where
-    by : cells.Kind c → (leb (c / 2) gates || ltb ((2 ^ 32 - 1 - c) / 2) inputs) ≡ valid_node inputs gates (node_of c)
-    by (cells.const h e) = rw (e, le-leb (c / 2) gates (omega arith))
-    by (cells.gate h k e) =
-        rw (e, le-ltb ((2 ^ 32 - 1 - c) / 2) inputs (omega (arith, few.few_inputs)), or-false)
-        (by_order (c / 2) gates (λ l. le-leb (c / 2) gates l ∙ sym (lt-ltb (c / 2 - 1) gates (omega arith)))
-        (λ l. lt-leb (c / 2) gates l ∙ sym (le-ltb (c / 2 - 1) gates (omega arith))))
-    by (cells.input h e) =
-        let n : (2 ^ 32 - 1 - c) / 2 ≡ 2 ^ 31 - 1 - c / 2 = omega arith in
-        rw (e, lt-leb (c / 2) gates (omega (arith, few.few_gates)), n)
 
 -- ---- sizes
 
 module _ (n : Counts) (gs ps os : ℕ) where
-  pub over-inputs : 256 < n.inputs → false ≡ sizes_fit n gs ps os
-  unfolding sizes_fit
-  over-inputs h = sym (simp (lt-ltb 256 n.inputs h))
-
-  pub over-gates : 1024 < n.gates → false ≡ sizes_fit n gs ps os
-  unfolding sizes_fit
-  over-gates h = sym (simp (lt-ltb 1024 n.gates h, or-true))
-
-  pub over-pins : 16384 < n.pins → false ≡ sizes_fit n gs ps os
-  unfolding sizes_fit
-  over-pins h = sym (simp (lt-ltb 16384 n.pins h, or-true))
-
-  pub over-outputs : 256 < n.outputs → false ≡ sizes_fit n gs ps os
-  unfolding sizes_fit
-  over-outputs h = sym (simp (lt-ltb 256 n.outputs h, or-true))
-
-  pub over-gate-cells : gs < n.gates * gate_width → false ≡ sizes_fit n gs ps os
-  unfolding sizes_fit
-  over-gate-cells h = sym (simp (lt-leb (n.gates * gate_width) gs h, and-false))
-
-  pub over-pin-cells : ps < n.pins → false ≡ sizes_fit n gs ps os
-  unfolding sizes_fit
-  over-pin-cells h = sym (simp (lt-leb n.pins ps h, and-false))
-
   pub within-sizes : n.inputs ≤ 256 → n.gates ≤ 1024 → n.pins ≤ 16384 → n.outputs ≤ 256 → n.gates * gate_width ≤ gs → n.pins ≤ ps
       → leb n.outputs os ≡ sizes_fit n gs ps os
   unfolding sizes_fit
   within-sizes a b c d e f =
       sym (simp (le-ltb 256 n.inputs a, le-ltb 1024 n.gates b, le-ltb 16384 n.pins c, le-ltb 256 n.outputs d, le-leb (n.gates * gate_width) gs e, le-leb n.pins ps f))
-
-pub ruleset sizes = (over-inputs, over-gates, over-pins, over-outputs, over-gate-cells, over-pin-cells, within-sizes)
 
 -- ---- records
 
@@ -89,16 +46,10 @@ module _ (cells : List ℕ) (g : ℕ) where
       → b ≡ can_take (form_at cells g) (count_at cells g)
   takes-is p q r e = e ∙ ap₂ kind_takes (q ∙ ap kind_of p) r.cell ∙ sym (take-kind (form_at cells g) (count_at cells g))
 
-  pub form-refused : can_take (form_at cells g) (count_at cells g) ≡ false → false ≡ record_fits cells g
-  form-refused t = rw t
-
   -- and the start value
   pub starts_is : {f m : ℕ} {k : Kind} {b : Bool} → f ≡ form_at cells g → k ≡ kind_of f → m ≡ start_at cells g → b ≡ kind_starts k m
       → b ≡ can_start (form_at cells g) (start_at cells g)
   starts_is p q r e = e ∙ ap₂ kind_starts (q ∙ ap kind_of p) r ∙ sym (start-kind (form_at cells g) (start_at cells g))
-
-  pub start-refused : can_start (form_at cells g) (start_at cells g) ≡ false → false ≡ record_fits cells g
-  start-refused t = sym (simp (t, and-false))
 
   pub form-taken : {at first : ℕ} → can_take (form_at cells g) (count_at cells g) ≡ true → can_start (form_at cells g) (start_at cells g) ≡ true
       → CellIs (first_at cells g) first → at ≡ pins_below cells g → eqb first at ≡ record_fits cells g
@@ -111,9 +62,6 @@ pub record Following (cells : List ℕ) (n at g : ℕ) : Type 0 where
   pub start : at ≡ pins_below cells g
   pub bound : at ≤ g * 4294967295
   pub fit : TestedTo (record_fits cells) n g
-
-pub following-start : {cells : List ℕ} (n : ℕ) → n ≤ 1024 → n * gate_width ≤ length cells → Following cells n 0 0
-following-start n h k = record { few = h; inside = k; start = refl; bound = omega arith; fit = to_start }
 
 module _ {cells : List ℕ} {n at g : ℕ} (c : Following cells n at g) where
   pub following-next : {m : ℕ} → g < n → record_fits cells g ≡ true → CellIs (count_at cells g) m → Following cells n (at + m) (g + 1)
@@ -142,10 +90,7 @@ module _ (cells pins : List ℕ) (g : ℕ) where
   record-past : length cells / gate_width ≤ g → has_run cells pins g ≡ false
   record-past h = rw (lt-leb (suc g * gate_width) (length cells) (omega arith))
 
-  pub no_record : length cells / gate_width ≤ g → none ≡ gate_at cells pins g
-  no_record h = sym (gate-none cells pins g (record-past h))
-
-  pub bad-record : length cells / gate_width ≤ g → Bad ≡ decoded_at cells pins g
+  pub bad-record : length cells / gate_width ≤ g → None ≡ decoded_at cells pins g
   bad-record h = sym (decoded-none cells pins g (record-past h))
 
   module _ {first count : ℕ} (f : CellIs (first_at cells g) first) (c : CellIs (count_at cells g) count) where
@@ -155,17 +100,14 @@ module _ (cells pins : List ℕ) (g : ℕ) where
     run_past : length pins < first + count → has_run cells pins g ≡ false
     run_past h = rw (lt-leb (first_at cells g + count_at cells g) (length pins) (omega (arith, end_is)), and-false (leb (suc g * gate_width) (length cells)))
 
-    pub no_run : length pins < first + count → none ≡ gate_at cells pins g
-    no_run h = sym (gate-none cells pins g (run_past h))
-
-    pub bad-run : length pins < first + count → Bad ≡ decoded_at cells pins g
+    pub bad-run : length pins < first + count → None ≡ decoded_at cells pins g
     bad-run h = sym (decoded-none cells pins g (run_past h))
 
     -- the run from the first pin to the end, as the code cuts it
     pub cut-run : take (first + count - first) (drop first pins) ≡ run_at cells pins g
     cut-run = part-run first count pins ∙ ap₂ (λ (m i : ℕ). take m (drop i pins)) c.cell f.cell
 
-    pub gate-read : {form start : ℕ} {k : Kind} {d : Decoded} → g < length cells / gate_width → first + count ≤ length pins → form ≡ form_at cells g → k ≡ kind_of form
+    pub gate-read : {form start : ℕ} {k : Kind} {d : std-option.Option Gate} → g < length cells / gate_width → first + count ≤ length pins → form ≡ form_at cells g → k ≡ kind_of form
         → start ≡ start_at cells g → d ≡ with_pins k first start (take (first + count - first) (drop first pins)) → d ≡ decoded_at cells pins g
     gate-read h l p q s e =
         e ∙ (λ i. with_pins ((q ∙ ap kind_of p) i) (f.cell i) (s i) (cut-run i))

@@ -14,7 +14,6 @@ use Rattle.signal.specs.Signal.{Node, Const, Input, Var, Signal}
 use Rattle.signal.specs.Cell.{node_of, sig_of}
 use Rattle.gates.specs.Gate.{Gate, Comb, Dff, pins}
 use Rattle.gates.specs.Forms.{form_cell, flop_number}
-use Rattle.gates.proofs.Forms.{comb-other}
 use Rattle.network.specs.Net.{Net, lower_than, inputs_lower, sorted_from, topo_sorted}
 use Rattle.network.specs.Cells.{valid_node, all_valid, or_buf}
 use Rattle.network.specs.Record.{form_at, run_at, gate_at}
@@ -92,14 +91,6 @@ module _ {inputs n g : ℕ} {cells ps : List ℕ} (c : GateCells inputs n cells 
 
   held-gate : held ≡ c.gate
   held-gate = ap or_buf c.is
-
-  -- a flip-flop's inputs are free
-  pub flop-lower : form_at cells g ≡ flop_number → true ≡ inputs_lower g held
-  flop-lower e = by c.gate (sym c.form ∙ e) ∙ ap (inputs_lower g) (sym held-gate)
-    where
-      by : (x : Gate) → form_cell x ≡ flop_number → true ≡ inputs_lower g x
-      by (Dff ff) q = refl
-      by (Comb f qs) q = absurd (comb-other f qs q)
 
   pub comb-lower : {b : Bool} → (form_at cells g ≡ flop_number → ⊥) → b ≡ all_valid inputs g (run_at cells ps g) → b ≡ inputs_lower g held
   comb-lower f e = e ∙ lower-run inputs n g (run_at cells ps g) c.valid ∙ by c.gate c.run (λ q. f (c.form ∙ q)) ∙ ap (inputs_lower g) (sym held-gate)

@@ -13,7 +13,7 @@ ghost use Rattle.gates.specs.Between.Decode.{pin_count, pins_in};
 ghost use Rattle.network.specs.Record.{gate_width, form_at, first_at, count_at, start_at, run_at, gate_at};
 ghost use Rattle.network.specs.Between.Record.{RecordIn, HasRun, RunFrom, LayRoom, GateLaid, hand_record, with_first, record_at, decoded_at, CellIs};
 
-use gates::{Decoded, Gate};
+use gates::Gate;
 use lists::copy_cells;
 use signal::Signal;
 
@@ -54,37 +54,24 @@ pub fn all_valid(inputs: usize, gates: usize, cells: &[u32]) -> bool
     ensures { result ≡ all_valid inputs gates cells.now }
 {
     let mut valid = true;
-    let mut i = 0;
-    while i < cells.len() {
-        valid &= is_valid(inputs, gates, Signal { a: cells[i] });
-        i += 1;
+    for cell in cells {
+        valid &= is_valid(inputs, gates, Signal { a: *cell });
     }
     valid
 }
 
 // Whether the counts are within the limits and within slices of these lengths.
+#[tactic(auto, unfolding(crate::specs::Cells::sizes_fit))]
 pub fn sizes_fit(counts: Counts, gates: usize, pins: usize, outputs: usize) -> bool
     ensures { result ≡ sizes_fit counts gates pins outputs }
 {
-    if counts.inputs > MAX_INPUTS {
-        return false;
-    }
-    if counts.gates > MAX_GATES {
-        return false;
-    }
-    if counts.pins > MAX_PINS {
-        return false;
-    }
-    if counts.outputs > MAX_OUTPUTS {
-        return false;
-    }
-    if counts.gates * GATE_CELLS > gates {
-        return false;
-    }
-    if counts.pins > pins {
-        return false;
-    }
-    counts.outputs <= outputs
+    counts.inputs <= MAX_INPUTS
+        && counts.gates <= MAX_GATES
+        && counts.pins <= MAX_PINS
+        && counts.outputs <= MAX_OUTPUTS
+        && counts.gates * GATE_CELLS <= gates
+        && counts.pins <= pins
+        && counts.outputs <= outputs
 }
 
 // Gate g's form number.
@@ -201,13 +188,7 @@ fn record_fits(gates: &[u32], g: usize, at: usize) -> bool
     ensures { result ≡ record_fits gates.now g }
 {
     let kind = gates::kind_of(form_at(gates, g));
-    if !kind.takes(count_at(gates, g)) {
-        return false;
-    }
-    if !kind.starts(start_at(gates, g)) {
-        return false;
-    }
-    first_at(gates, g) == at
+    kind.takes(count_at(gates, g)) && kind.starts(start_at(gates, g)) && first_at(gates, g) == at
 }
 
 // Whether n gates' records fit, and their runs follow each other and end at pin p.
@@ -216,13 +197,11 @@ fn records_fit(gates: &[u32], n: usize, p: usize) -> bool
     ensures { result ≡ records_fit gates.now n p }
 {
     let mut at = 0;
-    let mut g = 0;
-    while g < n {
+    for g in 0..n {
         if !record_fits(gates, g, at) {
             return false;
         }
         at += count_at(gates, g);
-        g += 1;
     }
     at == p
 }
@@ -231,19 +210,13 @@ fn records_fit(gates: &[u32], n: usize, p: usize) -> bool
 pub fn check_layout(counts: Counts, gates: &[u32], pins: &[u32], outputs: &[u32]) -> bool
     ensures { result ≡ is_network (lent counts gates.now pins.now outputs.now) }
 {
-    if !sizes_fit(counts, gates.len(), pins.len(), outputs.len()) {
-        return false;
-    }
     let n = counts.gates;
     let p = counts.pins;
     let o = counts.outputs;
-    if !records_fit(gates, n, p) {
-        return false;
-    }
-    if !all_valid(counts.inputs, n, &pins[..p]) {
-        return false;
-    }
-    all_valid(counts.inputs, n, &outputs[..o])
+    sizes_fit(counts, gates.len(), pins.len(), outputs.len())
+        && records_fit(gates, n, p)
+        && all_valid(counts.inputs, n, &pins[..p])
+        && all_valid(counts.inputs, n, &outputs[..o])
 }
 
 // Whether gate g is a flip-flop, or each of its gate inputs has a lower number: each input is a valid signal of the gates before it.
@@ -251,10 +224,7 @@ fn inputs_lower(inputs: usize, gates: &[u32], pins: &[u32], g: usize) -> bool
     requires { (n : ℕ) × GateCells inputs n gates.now pins.now g × FewNodes inputs g }
     ensures { result ≡ inputs_lower g (or_buf (gate_at gates.now pins.now g)) }
 {
-    if form_at(gates, g) == gates::DFF {
-        return true;
-    }
-    all_valid(inputs, g, gate_pins(gates, pins, g))
+    form_at(gates, g) == gates::DFF || all_valid(inputs, g, gate_pins(gates, pins, g))
 }
 
 // Whether every gate input of a combinational gate, of n gates, has a lower number.
@@ -262,27 +232,25 @@ pub fn is_topo_sorted(inputs: usize, gates: &[u32], pins: &[u32], n: usize) -> b
     requires { NetCells inputs n gates.now pins.now }
     ensures { result ≡ sorted_from 0 (cell_gates gates.now pins.now 0 n) }
 {
-    let mut g = 0;
-    while g < n {
+    for g in 0..n {
         if !inputs_lower(inputs, gates, pins, g) {
             return false;
         }
-        g += 1;
     }
     true
 }
 
 // Gate g of the cells.
-pub fn gate_at(gates: &[u32], pins: &[u32], g: usize) -> Decoded
+pub fn gate_at(gates: &[u32], pins: &[u32], g: usize) -> Option<Gate>
     ensures { result ≡ decoded_at gates.now pins.now g }
 {
     if g >= gates.len() / GATE_CELLS {
-        return Decoded::Bad;
+        return None;
     }
     let first = first_at(gates, g);
     let end = first + count_at(gates, g);
     if end > pins.len() {
-        return Decoded::Bad;
+        return None;
     }
     gates::kind_of(form_at(gates, g)).with_pins(first, start_at(gates, g), &pins[first..end])
 }

@@ -1,4 +1,5 @@
 -- What is found of the commands on a network, from what a run answers. Assumes nothing.
+use Rattle.std.specs.Prelude.{Result, Ok, Err}
 use mathlib.Core.Path.{◌≡◌, refl, sym, ap, ◌∙◌}
 use mathlib.Core.Bool.{Bool, true, false}
 use mathlib.Core.List.{List, [], ◌∷◌, map, append_assoc}
@@ -22,18 +23,14 @@ use Rattle.network.specs.Cells.{Lent, net_of, is_network}
 use Rattle.network.proofs.Lent.{network-sizes}
 use Rattle.blif_text.specs.Lines.{split}
 use Rattle.blif_text.proofs.Parts.{Without, split-end}
-use Rattle.blif_reading.specs.Read.{read}
 use Rattle.run_rows.specs.Rows.{digit, rows_text, rows_of}
 use Rattle.run_rows.specs.Into.{RunOutcome, run_outcome, run_on, run_into}
 use Rattle.run_rows.specs.Ran.{RunsFor}
-use Rattle.run_rows.specs.declared.RunAnswer.{RunAnswer}
-use Rattle.run_rows.specs.declared.RunAnswer.TheVariants as rows
 use Rattle.run_rows.proofs.RowsOf.{wide-run}
 use Rattle.run_rows.proofs.Outcomes.{runs_on}
 use Rattle.run_rows.proofs.Summary.{rows-of-text, runs-answer, length-answered, rows_take, ran-text}
 use Rattle.pass_report.specs.Report.{verdicts_of, judged_rows, judged}
 use Rattle.pass_report.specs.declared.Verdicts.{Verdicts}
-use Rattle.pass_report.specs.declared.Judged.TheVariants.{Counted, Refused}
 use Rattle.pass_report.specs.Between.Rows.{OutputRows, RunReady}
 
 -- ---- the lines of rows
@@ -89,34 +86,34 @@ module _ (l : Lent) (t : Bytes) (ready : RunReady l t) where
   runs-for : {rs : List (List Bool)} → rows_of net.inputs t ≡ some rs → RunsFor l t room
   runs-for {rs} e = record { network = ready.network; sorted = ready.sorted; plain = ready.plain; rows = rs; has = e; room = fits e }
 
-  module _ {a : RunAnswer} {out : Bytes} (h : run_outcome a out ≡ run_into l t room) where
+  module _ {a : Result ℕ Refusal} {out : Bytes} (h : run_outcome a out ≡ run_into l t room) where
     answer-is : a ≡ (run_into l t room).answer
     answer-is = ap (λ (o : RunOutcome). o.answer) h
 
     -- a refusal: the commands are no such rows
-    pub judged-refused : {r : Refusal} → a ≡ rows.Refused r → Refused r ≡ judged_rows net (rows_of net.inputs t)
+    pub judged-refused : {r : Refusal} → a ≡ Err r → Err r ≡ judged_rows net (rows_of net.inputs t)
     unfolding runs-for
     judged-refused {r} e = by (rows_of net.inputs t) refl
       where
-        by : (o : Option (List (List Bool))) → rows_of net.inputs t ≡ o → Refused r ≡ judged_rows net o
+        by : (o : Option (List (List Bool))) → rows_of net.inputs t ≡ o → Err r ≡ judged_rows net o
         by none q =
-            let is : rows.Refused r ≡ rows.Refused refusal.WrongRows =
+            let is : Err r ≡ Err refusal.WrongRows =
             sym e ∙ answer-is ∙ ap (λ (o : RunOutcome). o.answer) (sym (runs_on l t room ready.network ready.sorted ready.plain))
             ∙ ap (λ (o : Option (List (List Bool))). (run_on net o room).answer) q in
             let same : r ≡ refusal.WrongRows = cc in
-            ap (λ (k : Refusal). Refused k) same
+            ap (λ (k : Refusal). Err k) same
         by (some rs) q =
-            let is : rows.Refused r ≡ rows.Ran (length (rows_text (run net rs))) = sym e ∙ answer-is ∙ ap (λ (o : RunOutcome). o.answer) (runs-answer l t room (runs-for q)) in
+            let is : Err r ≡ Ok (length (rows_text (run net rs))) = sym e ∙ answer-is ∙ ap (λ (o : RunOutcome). o.answer) (runs-answer l t room (runs-for q)) in
             absurd (let z : ◌≡◌ {A = ℕ} 0 1 = cc in omega arith)
 
     -- a length: the output rows stand in front
-    module _ {k : ℕ} (e : a ≡ rows.Ran k) where
+    module _ {k : ℕ} (e : a ≡ Ok k) where
       for : RunsFor l t room
       for = length-answered l t room k (sym answer-is ∙ e)
 
       length-is : k ≡ length (rows_text (run net for.rows))
       length-is =
-          let is : rows.Ran k ≡ rows.Ran (length (rows_text (run net for.rows))) = sym e ∙ answer-is ∙ ap (λ (o : RunOutcome). o.answer) (runs-answer l t room for) in
+          let is : Ok k ≡ Ok (length (rows_text (run net for.rows))) = sym e ∙ answer-is ∙ ap (λ (o : RunOutcome). o.answer) (runs-answer l t room for) in
           cc
 
       out-is : out ≡ overwrite (rows_text (run net for.rows)) (zeros room)
@@ -139,15 +136,15 @@ module _ (l : Lent) (t : Bytes) (ready : RunReady l t) where
 
       pub judged-counted : 0 < l.counts.outputs → {v : Verdicts}
           → ((outs : List (List Bool)) → OutputRows outs (l.counts.outputs + 1) (take k out) → v ≡ verdicts_of outs)
-          → Counted v ≡ judged_rows net (rows_of net.inputs t)
+          → Ok v ≡ judged_rows net (rows_of net.inputs t)
       judged-counted some-output f =
-          ap (λ (v : Verdicts). Counted v) (f (run net for.rows) (rows-laid some-output)) ∙ sym (ap (judged_rows net) for.has)
+          ap (λ (v : Verdicts). Ok v) (f (run net for.rows) (rows-laid some-output)) ∙ sym (ap (judged_rows net) for.has)
 
 -- ---- 33
 
 module _ (l : Lent) (t : Bytes) (is : is_network l ≡ true) where
-  pub no_output : l.counts.outputs ≡ 0 → Refused refusal.NoOutput ≡ judged (read (net_of l)) t
+  pub no_output : l.counts.outputs ≡ 0 → Err refusal.NoOutput ≡ judged (Ok (net_of l)) t
   no_output e = rw (eq-eqb (length (net_of l).outputs) 0 (outputs-are l is ∙ e))
 
-  pub some-output : (l.counts.outputs ≡ 0 → ⊥) → judged_rows (net_of l) (rows_of (net_of l).inputs t) ≡ judged (read (net_of l)) t
+  pub some-output : (l.counts.outputs ≡ 0 → ⊥) → judged_rows (net_of l) (rows_of (net_of l).inputs t) ≡ judged (Ok (net_of l)) t
   some-output f = rw (ne_eqb (length (net_of l).outputs) 0 (λ e. f (sym (outputs-are l is) ∙ e)))

@@ -1,4 +1,5 @@
 -- A netlist that was read is a network that a run takes. Assumes nothing.
+use Rattle.std.specs.Prelude.{Result, Ok, Err}
 use mathlib.Core.Path.{◌≡◌, refl, sym, ap, ◌∙◌, subst}
 use mathlib.Core.Bool.{true}
 use mathlib.Core.List.{List}
@@ -11,45 +12,42 @@ use Rattle.refusals.specs.declared.Refusal.TheVariants as refusal
 use Rattle.network.specs.Net.{Net}
 use Rattle.network.specs.Cells.{Lent, lent, net_of, is_network, counts_of}
 use Rattle.network.specs.declared.Counts.{Counts}
-use Rattle.blif_reading.specs.Read.{Result, read, refused, read_text}
+use Rattle.blif_reading.specs.Read.{read_text}
 use Rattle.blif_reading.proofs.ReadNet.{NetRead, read-net}
 use Rattle.blif_read.specs.Into.{Lengths, enough, ReadOutcome, read_outcome, filled, answered, read_into}
-use Rattle.blif_read.specs.declared.ReadAnswer.{ReadAnswer}
-use Rattle.blif_read.specs.declared.ReadAnswer.TheVariants as answer
 use Rattle.blif_read.proofs.CellsRead.{read-layout, read-decodes}
 use Rattle.pass_report.specs.Report.{judged}
-use Rattle.pass_report.specs.declared.Judged.TheVariants.{Refused}
 use Rattle.pass_report.specs.Between.Rows.{FewRows, RunReady}
 
 -- ---- the reader's answer
 
 -- counts are answered of a network
-result-read : (r : Result) (n : Lengths) {c : Counts} → (filled r n).answer ≡ answer.Read c → (net : Net) × (r ≡ read net) × (c ≡ counts_of net)
-result-read (read net) n e = (net, refl, cc)
-result-read (refused k) n e = absurd (let z : ◌≡◌ {A = ℕ} 0 1 = cc in omega arith)
+result-read : (r : Result Net Refusal) (n : Lengths) {c : Counts} → (filled r n).answer ≡ Ok c → (net : Net) × (r ≡ Ok net) × (c ≡ counts_of net)
+result-read (Ok net) n e = (net, refl, cc)
+result-read (Err k) n e = absurd (let z : ◌≡◌ {A = ℕ} 0 1 = cc in omega arith)
 
 -- and a refusal of a refusal
-result-refused : (r : Result) (n : Lengths) {k : Refusal} → (filled r n).answer ≡ answer.Refused k → r ≡ refused k
-result-refused (read net) n e = absurd (let z : ◌≡◌ {A = ℕ} 0 1 = cc in omega arith)
-result-refused (refused j) n {k} e = let same : j ≡ k = cc in ap (λ (x : Refusal). refused x) same
+result-refused : (r : Result Net Refusal) (n : Lengths) {k : Refusal} → (filled r n).answer ≡ Err k → r ≡ Err k
+result-refused (Ok net) n e = absurd (let z : ◌≡◌ {A = ℕ} 0 1 = cc in omega arith)
+result-refused (Err j) n {k} e = let same : j ≡ k = cc in ap (λ (x : Refusal). Err x) same
 
 -- a network is answered where the cells suffice and the text is read
-pub answered-read : (text : Bytes) (n : Lengths) {net : Net} → answered text n ≡ read net → (enough n ≡ true) × (read_text text ≡ read net)
+pub answered-read : (text : Bytes) (n : Lengths) {net : Net} → answered text n ≡ Ok net → (enough n ≡ true) × (read_text text ≡ Ok net)
 answered-read text n {net} e =
-    by-test (enough n) (λ h. (h, rw h at e)) (λ h. absurd (let w : refused refusal.TooFewCells ≡ read net = rw h at e in let z : ◌≡◌ {A = ℕ} 0 1 = cc in omega arith))
+    by-test (enough n) (λ h. (h, rw h at e)) (λ h. absurd (let w : Err refusal.TooFewCells ≡ Ok net = rw h at e in let z : ◌≡◌ {A = ℕ} 0 1 = cc in omega arith))
 
 -- ---- what was read
 
-module _ (text : Bytes) (n : Lengths) {gs ps os wgs wps : List ℕ} {a : ReadAnswer} (h : read_outcome a gs ps os wgs wps ≡ read_into text n) (t : Bytes) where
+module _ (text : Bytes) (n : Lengths) {gs ps os wgs wps : List ℕ} {a : Result Counts Refusal} (h : read_outcome a gs ps os wgs wps ≡ read_into text n) (t : Bytes) where
   answer-is : a ≡ (filled (answered text n) n).answer
   unfolding read_into
   answer-is = ap (λ (o : ReadOutcome). o.answer) h
 
-  pub refused-is : {k : Refusal} → a ≡ answer.Refused k → Refused k ≡ judged (answered text n) t
-  refused-is e = sym (ap (λ (r : Result). judged r t) (result-refused (answered text n) n (sym answer-is ∙ e)))
+  pub refused-is : {k : Refusal} → a ≡ Err k → Err k ≡ judged (answered text n) t
+  refused-is e = sym (ap (λ (r : Result Net Refusal). judged r t) (result-refused (answered text n) n (sym answer-is ∙ e)))
 
-  module _ {c : Counts} (e : a ≡ answer.Read c) where
-    found : (net : Net) × (answered text n ≡ read net) × (c ≡ counts_of net)
+  module _ {c : Counts} (e : a ≡ Ok c) where
+    found : (net : Net) × (answered text n ≡ Ok net) × (c ≡ counts_of net)
     found = result-read (answered text n) n (sym answer-is ∙ e)
 
     abbrev cells : Lent
@@ -59,7 +57,7 @@ module _ (text : Bytes) (n : Lengths) {gs ps os wgs wps : List ℕ} {a : ReadAns
     as-left : cells ≡ lent (counts_of found.0) (read_into text n).gates (read_into text n).pins (read_into text n).outputs
     as-left = λ i. lent (found.2 i) (h i).gates (h i).pins (h i).outputs
 
-    was_read : (enough n ≡ true) × (read_text text ≡ read found.0)
+    was_read : (enough n ≡ true) × (read_text text ≡ Ok found.0)
     was_read = answered-read text n found.1
 
     net-is : net_of cells ≡ found.0
@@ -75,5 +73,5 @@ module _ (text : Bytes) (n : Lengths) {gs ps os wgs wps : List ℕ} {a : ReadAns
           commands = few;
         }
 
-    pub read_is : judged (read (net_of cells)) t ≡ judged (answered text n) t
-    read_is = ap (λ (x : Net). judged (read x) t) net-is ∙ sym (ap (λ (r : Result). judged r t) found.1)
+    pub read_is : judged (Ok (net_of cells)) t ≡ judged (answered text n) t
+    read_is = ap (λ (x : Net). judged (Ok x) t) net-is ∙ sym (ap (λ (r : Result Net Refusal). judged r t) found.1)

@@ -1,4 +1,5 @@
 -- The report, from where the parts of the sheet stand and what is found of its commands. Assumes nothing.
+use Rattle.std.specs.Prelude.{Result, Ok, Err}
 use mathlib.Core.Path.{◌≡◌, refl, sym, ap, ◌∙◌}
 use mathlib.Core.Bool.{Bool, true, false}
 use mathlib.Core.List.Memᴰ
@@ -19,7 +20,6 @@ use Rattle.network.specs.Net.{Net}
 use Rattle.network.specs.Clock.{start_bits}
 use Rattle.network.specs.Settle.{run}
 use Rattle.blif_text.specs.Lines.{split}
-use Rattle.blif_reading.specs.Read.{Result, read, refused}
 use Rattle.blif_read.specs.Into.{Lengths, answered}
 use Rattle.blif_write_names.specs.Between.Text.{Wrote}
 use Rattle.run_rows.specs.Rows.{rows_of, Wide}
@@ -28,14 +28,10 @@ use Rattle.printed_lines.specs.Lines.{key_line, count_line, refused_line}
 use Rattle.pass_sheet.specs.Sheet.{Sheet, sheet_of, command_text, sheet_text, IsSheet}
 use Rattle.pass_sheet.specs.Between.Places.{places_of, sheet_answer}
 use Rattle.pass_sheet.specs.declared.SheetPlaces.{SheetPlaces}
-use Rattle.pass_sheet.specs.declared.SheetAnswer.{SheetAnswer}
-use Rattle.pass_sheet.specs.declared.SheetAnswer.TheVariants as sheet
 use Rattle.pass_sheet.proofs.SheetTexts.{sheet-text, command-lines, rows_few}
 use Rattle.pass_report.specs.Report.{verdicts_of, judged_rows, judged, printed, report_from}
 use Rattle.pass_report.specs.Into.{report_outcome, report_into}
 use Rattle.pass_report.specs.declared.Verdicts.{Verdicts}
-use Rattle.pass_report.specs.declared.Judged.{Judged}
-use Rattle.pass_report.specs.declared.Judged.TheVariants.{Counted, Refused}
 use Rattle.pass_report.specs.Between.Rows.{FewRows, FewJudged}
 use Rattle.pass_report.proofs.CountRows.{accepted_of, rejected_of}
 use Rattle.pass_report.proofs.Judging.{rows-count}
@@ -50,30 +46,30 @@ verdicts-all n ((true ∷ bits) ∷ outs) w h = omega (arith, verdicts-all n out
 verdicts-all n ((false ∷ bits) ∷ outs) w h = omega (arith, verdicts-all n outs (λ r m. w r (Memᴰ.tail m)) h)
 
 -- counts are found where a network with an output was read and the commands are rows of its inputs
-pub record CountedRows (result : Result) (t : Bytes) (v : Verdicts) : Type 0 where
+pub record CountedRows (result : Result Net Refusal) (t : Bytes) (v : Verdicts) : Type 0 where
   pub net : Net
-  pub reads : result ≡ read net
+  pub reads : result ≡ Ok net
   pub some-output : 0 < length net.outputs
   pub rows : List (List Bool)
   pub has : rows_of net.inputs t ≡ some rows
   pub verdicts : v ≡ verdicts_of (run net rows)
 
-rows-counted : (net : Net) (o : Option (List (List Bool))) {v : Verdicts} → judged_rows net o ≡ Counted v → (rows : List (List Bool)) × (o ≡ some rows) × (v ≡ verdicts_of (run net rows))
+rows-counted : (net : Net) (o : Option (List (List Bool))) {v : Verdicts} → judged_rows net o ≡ Ok v → (rows : List (List Bool)) × (o ≡ some rows) × (v ≡ verdicts_of (run net rows))
 rows-counted net none e = absurd (let z : ◌≡◌ {A = ℕ} 0 1 = cc in omega arith)
 rows-counted net (some rows) {v} e = let same : verdicts_of (run net rows) ≡ v = cc in (rows, refl, sym same)
 
-pub counted-rows : (result : Result) (t : Bytes) {v : Verdicts} → judged result t ≡ Counted v → CountedRows result t v
-counted-rows (refused r) t e = absurd (let z : ◌≡◌ {A = ℕ} 0 1 = cc in omega arith)
-counted-rows (read net) t {v} e =
+pub counted-rows : (result : Result Net Refusal) (t : Bytes) {v : Verdicts} → judged result t ≡ Ok v → CountedRows result t v
+counted-rows (Err r) t e = absurd (let z : ◌≡◌ {A = ℕ} 0 1 = cc in omega arith)
+counted-rows (Ok net) t {v} e =
     by-test (eqb (length net.outputs) 0)
-    (λ h. absurd (let w : Refused refusal.NoOutput ≡ Counted v = rw h at e in let z : ◌≡◌ {A = ℕ} 0 1 = cc in omega arith))
+    (λ h. absurd (let w : Err refusal.NoOutput ≡ Ok v = rw h at e in let z : ◌≡◌ {A = ℕ} 0 1 = cc in omega arith))
     (λ h.
     let x = rows-counted net (rows_of net.inputs t) (rw h at e) in
     let f : length net.outputs ≡ 0 → ⊥ = eqb-false (length net.outputs) 0 h in
     record { net = net; reads = refl; some-output = omega arith; rows = x.0; has = x.1; verdicts = x.2 })
 
 -- accepted and rejected rows are all rows of the sheet, and all that are run
-module _ {result : Result} {t : Bytes} {v : Verdicts} (c : CountedRows result t v) where
+module _ {result : Result Net Refusal} {t : Bytes} {v : Verdicts} (c : CountedRows result t v) where
   pub counted-run : v.accepted + v.rejected ≡ length c.rows
   counted-run =
       ap (λ (x : Verdicts). x.accepted + x.rejected) c.verdicts
@@ -86,20 +82,20 @@ module _ {result : Result} {t : Bytes} {v : Verdicts} (c : CountedRows result t 
 -- ---- the places of the sheet's parts
 
 -- places are answered of a sheet
-sheet-found : (t : Bytes) (o : Option Sheet) {p : SheetPlaces} → sheet_answer t o ≡ sheet.Found p → (s : Sheet) × (o ≡ some s) × (p ≡ places_of t s)
+sheet-found : (t : Bytes) (o : Option Sheet) {p : SheetPlaces} → sheet_answer t o ≡ Ok p → (s : Sheet) × (o ≡ some s) × (p ≡ places_of t s)
 sheet-found t none e = absurd (let z : ◌≡◌ {A = ℕ} 0 1 = cc in omega arith)
 sheet-found t (some s) {p} e = let same : places_of t s ≡ p = cc in (s, refl, sym same)
 
 -- and a refusal where there is none, which is 32
-sheet-none : (t : Bytes) (o : Option Sheet) {r : Refusal} (result : Result) → sheet_answer t o ≡ sheet.Refused r → refused_line r ≡ report_from result o
+sheet-none : (t : Bytes) (o : Option Sheet) {r : Refusal} (result : Result Net Refusal) → sheet_answer t o ≡ Err r → refused_line r ≡ report_from result o
 sheet-none t none {r} result e = let same : refusal.WrongSheet ≡ r = cc in ap refused_line (sym same)
 sheet-none t (some s) result e = absurd (let z : ◌≡◌ {A = ℕ} 0 1 = cc in omega arith)
 
-pub refused-report : (t : Bytes) {a : SheetAnswer} {r : Refusal} (result : Result) → a ≡ sheet_answer t (sheet_of t) → a ≡ sheet.Refused r
+pub refused-report : (t : Bytes) {a : Result SheetPlaces Refusal} {r : Refusal} (result : Result Net Refusal) → a ≡ sheet_answer t (sheet_of t) → a ≡ Err r
     → refused_line r ≡ report_from result (sheet_of t)
 refused-report t result h e = sheet-none t (sheet_of t) result (sym h ∙ e)
 
-module _ (t : Bytes) {a : SheetAnswer} {p : SheetPlaces} (h : a ≡ sheet_answer t (sheet_of t)) (e : a ≡ sheet.Found p) where
+module _ (t : Bytes) {a : Result SheetPlaces Refusal} {p : SheetPlaces} (h : a ≡ sheet_answer t (sheet_of t)) (e : a ≡ Ok p) where
   found : (s : Sheet) × (sheet_of t ≡ some s) × (p ≡ places_of t s)
   found = sheet-found t (sheet_of t) (sym h ∙ e)
 
@@ -120,9 +116,6 @@ module _ (t : Bytes) {a : SheetAnswer} {p : SheetPlaces} (h : a ≡ sheet_answer
 
   commands-at : p.commands ≡ length head
   commands-at = omega (arith, ap (λ (x : SheetPlaces). x.commands) found.2, long)
-
-  pub commands-inside : p.commands ≤ length t
-  commands-inside = omega (arith, commands-at, long)
 
   -- the commands are what stands from their place on
   commands-are : take (length t - p.commands) (drop p.commands t) ≡ command_text s
@@ -159,7 +152,7 @@ module _ (t : Bytes) {a : SheetAnswer} {p : SheetPlaces} (h : a ≡ sheet_answer
 
   -- ---- what is printed
 
-  module _ (result : Result) {j : Judged} (q : j ≡ judged result (take (length t - p.commands) (drop p.commands t))) where
+  module _ (result : Result Net Refusal) {j : Result Verdicts Refusal} (q : j ≡ judged result (take (length t - p.commands) (drop p.commands t))) where
     judged-is : j ≡ judged result (command_text s)
     judged-is = q ∙ ap (judged result) commands-are
 

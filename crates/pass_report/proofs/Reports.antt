@@ -1,5 +1,5 @@
 -- What is printed for two texts, and why. Assumes nothing.
-use Rattle.std.specs.Prelude.{if◌then◌else◌}
+use Rattle.std.specs.Prelude.{if◌then◌else◌, Result, Ok, Err}
 use mathlib.Core.Path.{◌≡◌, refl, sym, ap, ◌∙◌}
 use mathlib.Core.Bool.{Bool, true, false}
 use mathlib.Core.List.{List, [], ◌∷◌, ◌++◌}
@@ -20,7 +20,7 @@ use Rattle.signal.specs.Signal.{Signal}
 use Rattle.network.specs.Net.{Net}
 use Rattle.network.specs.Clock.{NetRuns}
 use Rattle.network.specs.Settle.{run}
-use Rattle.blif_reading.specs.Read.{Result, read, refused, answer, read_fault, read_text}
+use Rattle.blif_reading.specs.Read.{answer, read_fault, read_text}
 use Rattle.blif_reading.proofs.Summary.{read-means, reading-refuses}
 use Rattle.blif_read.specs.Into.{Lengths, enough}
 use Rattle.blif_writing.specs.Names.{decimal}
@@ -36,19 +36,20 @@ use Rattle.pass_report.specs.declared.Verdicts.{Verdicts}
 use Rattle.pass_report.proofs.Judging.{rows-count}
 use Rattle.pass_report.proofs.Reporting.{CountedRows, counted-run}
 use Rattle.pass_report.proofs.Tally.{tallies-are}
+use Rattle.refusals.specs.declared.Refusal.{Refusal}
 
 -- ---- with enough cells
 
 pub report-into : (netlist sheet : Bytes) (n : Lengths) (m : ℕ) → enough n ≡ true → report_into netlist sheet n m ≡ leaving (report_of netlist sheet) n m
 unfolding report_into report_of
 report-into netlist sheet n m e =
-    ap (λ (b : Bool). leaving (report_from (if b then read_text netlist else refused refusal.TooFewCells) (sheet_of sheet)) n m) e
+    ap (λ (b : Bool). leaving (report_from (if b then read_text netlist else Err refusal.TooFewCells) (sheet_of sheet)) n m) e
 
 -- ---- the ways
 
 module _ (netlist sheet : Bytes) where
   -- the rows of a network with an output
-  module _ {s : Sheet} {net : Net} (is : sheet_of sheet ≡ some s) (reads : read_text netlist ≡ read net) (first : Signal) (others : List Signal) (outputs : net.outputs ≡ first ∷ others) where
+  module _ {s : Sheet} {net : Net} (is : sheet_of sheet ≡ some s) (reads : read_text netlist ≡ Ok net) (first : Signal) (others : List Signal) (outputs : net.outputs ≡ first ∷ others) where
     -- the one run that the clocks allow
     one-run : {rows : List (List Bool)} (other : List (List Bool)) → NetRuns net rows other ↔ (other ≡ run net rows)
     one-run {rows} other =
@@ -59,7 +60,7 @@ module _ (netlist sheet : Bytes) where
     counted-for rows has =
         let outs : List (List Bool) = run net rows in
         let some-output : 0 < length net.outputs = omega (arith, ap length outputs) in
-        let c : CountedRows (read net) (command_text s) (verdicts_of outs) =
+        let c : CountedRows (Ok net) (command_text s) (verdicts_of outs) =
         record { net = net; reads = refl; some-output = some-output; rows = rows; has = has; verdicts = refl } in
         let all-rows : length rows ≡ length s.rows =
         sym (rows-count net.inputs (command_text s) has) ∙ ap length (command-lines s (sheet-text sheet is).1) in
@@ -83,16 +84,16 @@ module _ (netlist sheet : Bytes) where
     rows_as none has = wrong-rows is reads outputs has
     rows_as (some rows) has = reported is (counted-for rows has)
 
-  outputs-as : {s : Sheet} {net : Net} → sheet_of sheet ≡ some s → read_text netlist ≡ read net → (os : List Signal) → net.outputs ≡ os
-      → ReportedAs netlist sheet (printed s.part (length s.rows) (judged (read net) (command_text s)))
+  outputs-as : {s : Sheet} {net : Net} → sheet_of sheet ≡ some s → read_text netlist ≡ Ok net → (os : List Signal) → net.outputs ≡ os
+      → ReportedAs netlist sheet (printed s.part (length s.rows) (judged (Ok net) (command_text s)))
   outputs-as is reads [] q = let e = ap (λ (os : List Signal). eqb (length os) 0) q in rw e (no_output is reads q)
   outputs-as {s} {net} is reads (first ∷ others) q =
       let e : eqb (length net.outputs) 0 ≡ false = ne_eqb (length net.outputs) 0 (λ z. omega (arith, z, ap length q)) in
       rw e (rows_as is reads first others q (rows_of net.inputs (command_text s)) refl)
 
-  result_as : {s : Sheet} → sheet_of sheet ≡ some s → (r : Result) → read_text netlist ≡ r → ReportedAs netlist sheet (printed s.part (length s.rows) (judged r (command_text s)))
-  result_as is (refused k) q = not-read is q (reading-refuses netlist k q)
-  result_as is (read net) q = outputs-as is q net.outputs refl
+  result_as : {s : Sheet} → sheet_of sheet ≡ some s → (r : Result Net Refusal) → read_text netlist ≡ r → ReportedAs netlist sheet (printed s.part (length s.rows) (judged r (command_text s)))
+  result_as is (Err k) q = not-read is q (reading-refuses netlist k q)
+  result_as is (Ok net) q = outputs-as is q net.outputs refl
 
   sheet-as : (o : Option Sheet) → sheet_of sheet ≡ o → ReportedAs netlist sheet (report_from (read_text netlist) o)
   sheet-as none q = wrong-sheet q
@@ -105,7 +106,7 @@ module _ (netlist sheet : Bytes) where
 -- ---- how much is read of a file
 
 -- a text over the limit is refused by 2
-too_long : (t : Bytes) → 32768 < length t → read_text t ≡ refused refusal.TextTooLong
+too_long : (t : Bytes) → 32768 < length t → read_text t ≡ Err refusal.TextTooLong
 unfolding read_text read_fault refuse_if ◌or_else◌ answer
 too_long t h = rw (lt-ltb 32768 (length t) h)
 
@@ -123,7 +124,7 @@ front k t f x g =
 pub report-front : (netlist sheet : Bytes) → report_of (take 32769 netlist) (take 40961 sheet) ≡ report_of netlist sheet
 unfolding report_of
 report-front netlist sheet =
-    λ i. report_from (front 32769 netlist read_text (refused refusal.TextTooLong) (λ u h. too_long u (omega (arith, h))) i) (front 40961 sheet sheet_of none (λ u h. too_large_lem u (omega (arith, h))) i)
+    λ i. report_from (front 32769 netlist read_text (Err refusal.TextTooLong) (λ u h. too_long u (omega (arith, h))) i) (front 40961 sheet sheet_of none (λ u h. too_large_lem u (omega (arith, h))) i)
 
 -- ---- how long a report is
 
@@ -154,7 +155,7 @@ lines-short sheet {s} v e adds =
 
 as_short : {netlist sheet t : Bytes} → ReportedAs netlist sheet t → length t ≤ 61
 as_short (wrong-sheet e) = omega arith
-as_short (not-read {k = k} e q i) = omega (arith, count-short (bytes "refused=") (number_of k) (⊎_elim (λ h. omega arith) (λ h. omega arith) i))
+as_short (not-read {k = k} e q i) = omega (arith, count-short (bytes "Err=") (number_of k) (⊎_elim (λ h. omega arith) (λ h. omega arith) i))
 as_short (no_output e q o) = omega arith
 as_short (wrong-rows e q o r) = omega arith
 as_short {sheet = sheet} (reported {v = v} e c) = lines-short sheet v e c.adds

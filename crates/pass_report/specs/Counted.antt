@@ -3,7 +3,7 @@
 --   Tallies net first held rows a r   by document 01's clock, a of the rows are accepted and r rejected
 --   CountedFor netlist s v            v are the counts of the sheet s on the netlist
 --   ReportedAs netlist sheet t        t is printed for the two texts, and why
-use Rattle.std.specs.Prelude.{◌≡◌, Bool, true, false, List, [], ◌∷◌, ◌↔◌, ℕ, suc, ◌+◌, length}
+use Rattle.std.specs.Prelude.{◌≡◌, Bool, true, false, List, [], ◌∷◌, ◌↔◌, ℕ, suc, ◌+◌, length, Ok, Err}
 use Rattle.std.proofs.Math.Option.{none, some}
 use Rattle.lists.specs.Lists.{Bytes}
 use Rattle.refusals.specs.Numbers.{InReading}
@@ -14,7 +14,7 @@ use Rattle.network.specs.Net.{Net}
 use Rattle.network.specs.Clock.{sig_bit, Clock, start_bits}
 use Rattle.blif_meaning.specs.Model.{BlifRuns}
 use Rattle.blif_reading.specs.TextModel.{model_of_text}
-use Rattle.blif_reading.specs.Read.{read, refused, read_text}
+use Rattle.blif_reading.specs.Read.{read_text}
 use Rattle.run_rows.specs.Rows.{rows_of}
 use Rattle.printed_lines.specs.Lines.{refused_line}
 use Rattle.pass_sheet.specs.Sheet.{Sheet, sheet_of, command_text}
@@ -34,7 +34,7 @@ pub record CountedFor (netlist : Bytes) (s : Sheet) (v : Verdicts) : Type 0 wher
   -- the network
   pub net : Net
   -- which is read
-  pub reads : read_text netlist ≡ read net
+  pub reads : read_text netlist ≡ Ok net
   -- its first output
   pub first : Signal
   -- and its others
@@ -63,11 +63,11 @@ pub data ReportedAs (netlist sheet : Bytes) : Bytes → Type 0 where
   -- "32 .. before all others"
   wrong-sheet : sheet_of sheet ≡ none → ReportedAs netlist sheet (refused_line refusal.WrongSheet)
   -- then the reader's
-  not-read : {s : Sheet} {k : Refusal} → sheet_of sheet ≡ some s → read_text netlist ≡ refused k → InReading k → ReportedAs netlist sheet (refused_line k)
+  not-read : {s : Sheet} {k : Refusal} → sheet_of sheet ≡ some s → read_text netlist ≡ Err k → InReading k → ReportedAs netlist sheet (refused_line k)
   -- "33 when the network has no output, between 30 and 31"
-  no_output : {s : Sheet} {net : Net} → sheet_of sheet ≡ some s → read_text netlist ≡ read net → net.outputs ≡ [] → ReportedAs netlist sheet (refused_line refusal.NoOutput)
+  no_output : {s : Sheet} {net : Net} → sheet_of sheet ≡ some s → read_text netlist ≡ Ok net → net.outputs ≡ [] → ReportedAs netlist sheet (refused_line refusal.NoOutput)
   -- "A command row's length and characters are left to 31"
-  wrong-rows : {s : Sheet} {net : Net} {first : Signal} {others : List Signal} → sheet_of sheet ≡ some s → read_text netlist ≡ read net
+  wrong-rows : {s : Sheet} {net : Net} {first : Signal} {others : List Signal} → sheet_of sheet ≡ some s → read_text netlist ≡ Ok net
       → net.outputs ≡ first ∷ others → rows_of net.inputs (command_text s) ≡ none → ReportedAs netlist sheet (refused_line refusal.WrongRows)
   -- else the four lines
   reported : {s : Sheet} {v : Verdicts} → sheet_of sheet ≡ some s → CountedFor netlist s v → ReportedAs netlist sheet (report_lines s.part (length s.rows) v)

@@ -2,19 +2,18 @@
 --   verdicts_of outs           how many rows of outputs accept and how many reject
 --   judged result t           the counts for the commands t, of what was read; or a refusal
 --   report_of netlist sheet    the bytes printed
-use Rattle.std.specs.Prelude.{Bool, false, not, List, [], ◌∷◌, ◌++◌, ℕ, eqb, length, if◌then◌else◌}
+use Rattle.std.specs.Prelude.{Bool, false, not, List, [], ◌∷◌, ◌++◌, ℕ, eqb, length, if◌then◌else◌, Result, Ok, Err}
 use Rattle.std.proofs.Math.Option.{Option, none, some}
 use Rattle.lists.specs.Lists.{Bytes, bytes, filter}
 use Rattle.refusals.specs.declared.Refusal.TheVariants as refusal
 use Rattle.network.specs.Net.{Net}
 use Rattle.network.specs.Settle.{run}
 use Rattle.run_rows.specs.Rows.{rows_of}
-use Rattle.blif_reading.specs.Read.{Result, read, refused, read_text}
+use Rattle.blif_reading.specs.Read.{read_text}
 use Rattle.printed_lines.specs.Lines.{key_line, count_line, refused_line}
 use Rattle.pass_sheet.specs.Sheet.{Sheet, sheet_of, command_text}
 use Rattle.pass_report.specs.declared.Verdicts.{Verdicts}
-use Rattle.pass_report.specs.declared.Judged.{Judged}
-use Rattle.pass_report.specs.declared.Judged.TheVariants.{Counted, Refused}
+use Rattle.refusals.specs.declared.Refusal.{Refusal}
 
 -- ---- the counts
 
@@ -35,15 +34,15 @@ verdicts_of outs = record { accepted = length (filter accepts outs); rejected = 
 -- ---- the commands on a network
 
 -- of the rows that the commands are, by the run from the start values; "A command row's length and characters are left to 31"
-abbrev pub judged_rows : Net → Option (List (List Bool)) → Judged
-judged_rows net none = Refused refusal.WrongRows
-judged_rows net (some rows) = Counted (verdicts_of (run net rows))
+abbrev pub judged_rows : Net → Option (List (List Bool)) → Result Verdicts Refusal
+judged_rows net none = Err refusal.WrongRows
+judged_rows net (some rows) = Ok (verdicts_of (run net rows))
 
 -- of what was read: the reader's refusals, then "33 when the network has no output, between 30 and 31", then 31; a network that was read is
 -- never refused by 20, 29 or 30
-abbrev pub judged : Result → Bytes → Judged
-judged (refused r) t = Refused r
-judged (read net) t = if eqb (length net.outputs) 0 then Refused refusal.NoOutput else judged_rows net (rows_of net.inputs t)
+abbrev pub judged : Result Net Refusal → Bytes → Result Verdicts Refusal
+judged (Err r) t = Err r
+judged (Ok net) t = if eqb (length net.outputs) 0 then Err refusal.NoOutput else judged_rows net (rows_of net.inputs t)
 
 -- ---- what is printed
 
@@ -54,12 +53,12 @@ report_lines part commands v =
     ++ count_line (bytes "rejected=") v.rejected
 
 -- the lines, "or `refused=N`"
-abbrev pub printed : Bytes → ℕ → Judged → Bytes
-printed part commands (Counted v) = report_lines part commands v
-printed part commands (Refused r) = refused_line r
+abbrev pub printed : Bytes → ℕ → Result Verdicts Refusal → Bytes
+printed part commands (Ok v) = report_lines part commands v
+printed part commands (Err r) = refused_line r
 
 -- "32 when a sheet line is missing, misformed or left over, or the sheet passes 40,960 bytes, before all others"
-abbrev pub report_from : Result → Option Sheet → Bytes
+abbrev pub report_from : Result Net Refusal → Option Sheet → Bytes
 report_from result none = refused_line refusal.WrongSheet
 report_from result (some s) = printed s.part (length s.rows) (judged result (command_text s))
 

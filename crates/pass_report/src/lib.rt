@@ -1,10 +1,9 @@
 // The report for a pass log: the commands of a sheet, run on a netlist and counted (document 02, request 2).
 #![tactic(auto)]
 
-ghost use Rattle.std.specs.Prelude.{◌≡◌, Bool, List, ◌<◌, length};
+ghost use Rattle.std.specs.Prelude.{◌≡◌, Bool, List, ◌<◌, length, Ok};
 ghost use Rattle.network.specs.Cells.{lent, net_of};
 ghost use Rattle.run_rows.specs.Rows.{rows_of};
-ghost use Rattle.blif_reading.specs.Read.{read};
 ghost use Rattle.blif_read.specs.Into.{lengths, answered};
 ghost use Rattle.blif_write_names.specs.Between.Text.{Wrote};
 ghost use Rattle.pass_sheet.specs.Sheet.{sheet_of};
@@ -12,26 +11,19 @@ ghost use Rattle.pass_report.specs.Report.{verdicts_of, judged_rows, judged, rep
 ghost use Rattle.pass_report.specs.Into.{report_outcome, report_into};
 ghost use Rattle.pass_report.specs.Between.Rows.{OutputRows, FewRows, RunReady, FewCounts, FewJudged};
 
-use blif_read::{ReadAnswer, read_blif};
+use blif_read::read_blif;
 use lists::{fill_zero, fill_zero_bytes};
 use network::Counts;
-use pass_sheet::{SheetAnswer, SheetPlaces, read_sheet};
+use pass_sheet::{SheetPlaces, read_sheet};
 use printed_lines::{append_count, append_line, append_refused};
 use refusals::Refusal;
-use run_rows::{RunAnswer, run_rows};
+use run_rows::run_rows;
 
 // How many rows were accepted and how many rejected.
 #[derive(Clone, Copy)]
 pub struct Verdicts {
     pub accepted: usize,
     pub rejected: usize,
-}
-
-// What is found of a sheet's commands on a netlist: the counts, or why there are none.
-#[derive(Clone, Copy)]
-pub enum Judged {
-    Counted(Verdicts),
-    Refused(Refusal),
 }
 
 // Counts rows of outputs by the first character of each. Each row takes width bytes.
@@ -57,17 +49,15 @@ fn run_commands(
     pins: &[u32],
     outputs: &[u32],
     commands: &[u8],
-) -> Judged
+) -> Result<Verdicts, Refusal>
     requires run_ready { RunReady (lent counts gates.now pins.now outputs.now) commands.now }
     requires outputs_nonzero { 0 < counts.outputs }
     ensures { let net = net_of (lent counts gates.now pins.now outputs.now) in
         result ≡ judged_rows net (rows_of net.inputs commands.now) }
 {
     let mut out = [0u8; 32896];
-    match run_rows(counts, gates, pins, outputs, commands, &mut out) {
-        RunAnswer::Ran(n) => Judged::Counted(count_verdicts(&out[..n], counts.outputs + 1)),
-        RunAnswer::Refused(refusal) => Judged::Refused(refusal),
-    }
+    let n = run_rows(counts, gates, pins, outputs, commands, &mut out)?;
+    Ok(count_verdicts(&out[..n], counts.outputs + 1))
 }
 
 // The commands on a network that was read: 33, or what the run gives.
@@ -77,14 +67,15 @@ fn judge_network(
     pins: &[u32],
     outputs: &[u32],
     commands: &[u8],
-) -> Judged
+) -> Result<Verdicts, Refusal>
     requires { RunReady (lent counts gates.now pins.now outputs.now) commands.now }
-    ensures { result ≡ judged (read (net_of (lent counts gates.now pins.now outputs.now))) commands.now }
+    ensures { result ≡ judged (Ok (net_of (lent counts gates.now pins.now outputs.now))) commands.now }
 {
     if counts.outputs == 0 {
-        return Judged::Refused(Refusal::NoOutput);
+        Err(Refusal::NoOutput)
+    } else {
+        run_commands(counts, gates, pins, outputs, commands)
     }
-    run_commands(counts, gates, pins, outputs, commands)
 }
 
 // The commands on a netlist: the reader's refusal, or what the network read gives.
@@ -96,16 +87,14 @@ fn judge(
     outputs: &mut [u32],
     work_gates: &mut [u32],
     work_pins: &mut [u32],
-) -> Judged
+) -> Result<Verdicts, Refusal>
     requires { FewRows commands.now }
     ensures { let n = lengths (length gates.old) (length pins.old) (length outputs.old)
         (length work_gates.old) (length work_pins.old) in
         result ≡ judged (answered netlist.now n) commands.now }
 {
-    match read_blif(netlist, gates, pins, outputs, work_gates, work_pins) {
-        ReadAnswer::Read(counts) => judge_network(counts, gates, pins, outputs, commands),
-        ReadAnswer::Refused(refusal) => Judged::Refused(refusal),
-    }
+    let counts = read_blif(netlist, gates, pins, outputs, work_gates, work_pins)?;
+    judge_network(counts, gates, pins, outputs, commands)
 }
 
 // Writes the four lines.
@@ -120,13 +109,13 @@ fn put_report(out: &mut [u8], part: &[u8], rows: usize, verdicts: Verdicts) -> u
 }
 
 // Writes the four lines, or the refusal's line.
-fn put_judged(out: &mut [u8], part: &[u8], rows: usize, judged: Judged) -> usize
+fn put_judged(out: &mut [u8], part: &[u8], rows: usize, judged: Result<Verdicts, Refusal>) -> usize
     requires { FewJudged rows judged }
     ensures { Wrote (printed part.now rows judged) out.old out.new result }
 {
     match judged {
-        Judged::Counted(verdicts) => put_report(out, part, rows, verdicts),
-        Judged::Refused(refusal) => append_refused(out, 0, refusal),
+        Ok(verdicts) => put_report(out, part, rows, verdicts),
+        Err(reason) => append_refused(out, 0, reason),
     }
 }
 
@@ -146,7 +135,7 @@ fn report(
         Wrote (report_from (answered netlist.now n) (sheet_of sheet.now)) out.old out.new result }
 {
     match read_sheet(sheet) {
-        SheetAnswer::Found(s) => {
+        Ok(s) => {
             let from = s.commands;
             let end = 5 + s.part;
             let commands = &sheet[from..];
@@ -155,7 +144,7 @@ fn report(
             );
             put_judged(out, &sheet[5..end], s.rows, judged)
         }
-        SheetAnswer::Refused(refusal) => append_refused(out, 0, refusal),
+        Err(refusal) => append_refused(out, 0, refusal),
     }
 }
 

@@ -1,13 +1,14 @@
 -- The answer of `read_sheet`, from the places of the lines. Assumes nothing.
-use mathlib.Core.Path.{◌≡◌, refl, sym, ap, ap₂, ◌∙◌}
+use Rattle.std.specs.Prelude.{Ok, Err}
+use mathlib.Core.Path.{◌≡◌, sym, ap, ap₂, ◌∙◌}
 use mathlib.Core.Bool.{true, false}
 use mathlib.Core.List.{List, [], ◌∷◌, ◌++◌, flat_map}
-use Prim.Native.Nat.{ℕ, suc, ◌+◌, ◌-◌, ◌≤◌, ◌<◌}
+use Prim.Native.Nat.{ℕ, ◌+◌, ◌-◌, ◌≤◌, ◌<◌}
 use native.Mathlib.Omega.{arith}
 use lib.Dec.{eqb, leb}
 use lib.ListN.{length, get_or, take, drop, length-drop, drop_of_length-le}
 use lib.Seq.{get_or-drop, length-take-le}
-use borrow.Author.Tests.{eqb-true, le-leb, lt-leb}
+use borrow.Author.Tests.{eqb-true, lt-leb}
 use Rattle.lists.specs.Lists.{Bytes}
 use Rattle.lists.proofs.Tests.{and_right}
 use Rattle.lists.proofs.OverAt.{part-is}
@@ -17,7 +18,6 @@ use Rattle.blif_text.specs.Between.Scan.{LineAfter}
 use Rattle.pass_sheet.specs.Sheet.{is_part_line, is_rows_line, in_order, max_sheet, is_whole, sheet_of}
 use Rattle.pass_sheet.specs.Between.Places.{sheet_answer}
 use Rattle.pass_sheet.specs.Between.HeadLines.{HeadLines}
-use Rattle.pass_sheet.specs.declared.SheetAnswer.TheVariants.{Found, Refused}
 use Rattle.pass_sheet.proofs.Lines.{ended_at, lines-again}
 use Rattle.pass_sheet.proofs.HeadTests.{part-line-long}
 
@@ -27,17 +27,8 @@ pub whole_long : (t : Bytes) → 40960 < length t → false ≡ is_whole t
 unfolding is_whole
 whole_long t h = rw (lt-leb (length t) 40960 h)
 
-pub whole-empty : (t : Bytes) → length t ≡ 0 → false ≡ is_whole t
-unfolding ends_in_lf is_whole
-whole-empty [] e = refl
-whole-empty (c ∷ t) e = absurd (let z : suc (length t) ≡ 0 = e in omega arith)
-
-pub whole-last : (t : Bytes) → length t ≤ 40960 → eqb 10 (get_or t (length t - 1) 0) ≡ is_whole t
-unfolding ends_in_lf is_whole
-whole-last t h = rw (le-leb (length t) 40960 h)
-
 -- what is not whole is no sheet
-pub not-whole : (t : Bytes) → is_whole t ≡ false → Refused refusal.WrongSheet ≡ sheet_answer t (sheet_of t)
+pub not-whole : (t : Bytes) → is_whole t ≡ false → Err refusal.WrongSheet ≡ sheet_answer t (sheet_of t)
 unfolding sheet_of
 not-whole t e = rw e
 
@@ -56,7 +47,7 @@ module _ (t : Bytes) (w : is_whole t ≡ true) where
   last-lf = sym (eqb-true 10 (get_or t (length t - 1) 0) (and_right (leb (length t) max_sheet) (ends_in_lf t) w))
 
   -- where the first line takes the whole text there is no sheet
-  pub one_line : {second : ℕ} → LineAfter t 0 second → length t ≤ second → Refused refusal.WrongSheet ≡ sheet_answer t (sheet_of t)
+  pub one_line : {second : ℕ} → LineAfter t 0 second → length t ≤ second → Err refusal.WrongSheet ≡ sheet_answer t (sheet_of t)
   unfolding split in_order
   one_line {second} l h =
       let x = ended_at l (some_byte t last-lf) last-lf in
@@ -93,7 +84,7 @@ module _ {t : Bytes} {second third : ℕ} (h : HeadLines t second third) where
   abbrev rows : List Bytes
   rows = split (eqb 10) (drop third t)
 
-  pub wrong-part : is_part_line first-line ≡ false → Refused refusal.WrongSheet ≡ sheet_answer t (in_order (split (eqb 10) t))
+  pub wrong-part : is_part_line first-line ≡ false → Err refusal.WrongSheet ≡ sheet_answer t (in_order (split (eqb 10) t))
   unfolding in_order
   wrong-part e = rw (h.cuts, e)
 
@@ -105,11 +96,11 @@ module _ {t : Bytes} {second third : ℕ} (h : HeadLines t second third) where
     rows_are : n ≡ length rows
     rows_are = counted ∙ ap (λ (s : Bytes). length (split (eqb 10) s)) (part-is third t)
 
-    pub wrong-rows : is_rows_line n second-line ≡ false → Refused refusal.WrongSheet ≡ sheet_answer t (in_order (split (eqb 10) t))
+    pub wrong-rows : is_rows_line n second-line ≡ false → Err refusal.WrongSheet ≡ sheet_answer t (in_order (split (eqb 10) t))
     unfolding in_order
     wrong-rows f = rw (h.cuts, e, sym rows_are, f)
 
-    pub right-lines : is_rows_line n second-line ≡ true → Found (record { part = second - 6; rows = n; commands = third }) ≡ sheet_answer t (in_order (split (eqb 10) t))
+    pub right-lines : is_rows_line n second-line ≡ true → Ok (record { part = second - 6; rows = n; commands = third }) ≡ sheet_answer t (in_order (split (eqb 10) t))
     unfolding in_order
     right-lines f =
         let long : length first-line ≡ second - 1 = length-take-le (second - 1) t (omega (arith, h.first, h.low, h.high)) in
@@ -117,4 +108,4 @@ module _ {t : Bytes} {second third : ℕ} (h : HeadLines t second third) where
         let behind : third ≡ length t - length (drop third t) = omega (arith, length-drop third t, h.high) in
         let found : is_rows_line (length rows) second-line ≡ true = ap (λ (k : ℕ). is_rows_line k second-line) (sym rows_are) ∙ f in
         let commands : third ≡ length t - length (flat_map (λ (l : Bytes). l ++ 10 ∷ []) rows) = behind ∙ ap (λ (s : Bytes). length t - length s) (sym h.ended) in
-        rw (h.cuts, e, found) (λ i. Found (record { part = part i; rows = rows_are i; commands = commands i }))
+        rw (h.cuts, e, found) (λ i. Ok (record { part = part i; rows = rows_are i; commands = commands i }))

@@ -109,9 +109,6 @@ pub record Counted (t : Bytes) (n at : ℕ) : Type 0 where
   pub few : n ≤ at
   pub whole : length (split (eqb 10) t) ≡ n + length (split (eqb 10) (drop at t))
 
-pub count-start : (t : Bytes) → Counted t 0 0
-count-start t = record { inside = omega arith; few = omega arith; whole = omega arith }
-
 pub count_next : {t : Bytes} {n at next : ℕ} → Counted t n at → at < length t → LineAfter t at next → Counted t (n + 1) next
 count_next {t} {n} {at} {next} c h l =
     let x = line_at l h in

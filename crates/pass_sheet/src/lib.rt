@@ -23,51 +23,24 @@ pub struct SheetPlaces {
     pub commands: usize,
 }
 
-// What reading a sheet answers.
-#[derive(Clone, Copy)]
-pub enum SheetAnswer {
-    Found(SheetPlaces),
-    Refused(Refusal),
-}
-
 // Whether the byte is an ASCII letter or digit.
 fn is_letter_or_digit(c: u8) -> bool
     ensures { result ≡ is_letter_or_digit c }
 {
-    if c < b'0' {
-        return false;
-    }
-    if c <= b'9' {
-        return true;
-    }
-    if c < b'A' {
-        return false;
-    }
-    if c <= b'Z' {
-        return true;
-    }
-    if c < b'a' {
-        return false;
-    }
-    c <= b'z'
+    c.is_ascii_alphanumeric()
 }
 
 // Whether the bytes are 1 to 16 letters or digits.
 fn is_part(part: &[u8]) -> bool
     ensures { result ≡ is_part part.now }
 {
-    if part.len() == 0 {
+    if part.is_empty() || part.len() > 16 {
         return false;
     }
-    if part.len() > 16 {
-        return false;
-    }
-    let mut i = 0;
-    while i < part.len() {
-        if !is_letter_or_digit(part[i]) {
+    for &c in part {
+        if !is_letter_or_digit(c) {
             return false;
         }
-        i += 1;
     }
     true
 }
@@ -76,23 +49,14 @@ fn is_part(part: &[u8]) -> bool
 fn is_part_line(line: &[u8]) -> bool
     ensures { result ≡ is_part_line line.now }
 {
-    if line.len() < 5 {
-        return false;
-    }
-    if !equal(&line[..5], b"part=") {
-        return false;
-    }
-    is_part(&line[5..])
+    line.len() >= 5 && equal(&line[..5], b"part=") && is_part(&line[5..])
 }
 
 // Whether the line is `rows=` with this number, which is 1 to 128.
 fn is_rows_line(line: &[u8], n: usize) -> bool
     ensures { result ≡ is_rows_line n line.now }
 {
-    if n == 0 {
-        return false;
-    }
-    if n > 128 {
+    if n == 0 || n > 128 {
         return false;
     }
     let mut wanted = [0u8; 8];
@@ -118,44 +82,37 @@ fn count_lines(text: &[u8]) -> usize
 fn is_whole(text: &[u8]) -> bool
     ensures { result ≡ is_whole text.now }
 {
-    if text.len() > 40960 {
-        return false;
-    }
-    if text.len() == 0 {
-        return false;
-    }
-    b'\n' == text[text.len() - 1]
+    text.last() == Some(&b'\n') && text.len() <= 40960
 }
 
 // Reads the lines of a text of which the second line starts at place second and the third at place third.
-fn read_lines(text: &[u8], second: usize, third: usize) -> SheetAnswer
+fn read_lines(text: &[u8], second: usize, third: usize) -> Result<SheetPlaces, Refusal>
     requires { HeadLines text.now second third }
     ensures { result ≡ sheet_answer text.now (in_order (split (eqb 10) text.now)) }
 {
     let rows = count_lines(&text[third..]);
-    if !is_part_line(&text[..second - 1]) {
-        return SheetAnswer::Refused(Refusal::WrongSheet);
+    if is_part_line(&text[..second - 1]) && is_rows_line(&text[second..third - 1], rows) {
+        Ok(SheetPlaces {
+            part: second - 6,
+            rows,
+            commands: third,
+        })
+    } else {
+        Err(Refusal::WrongSheet)
     }
-    if !is_rows_line(&text[second..third - 1], rows) {
-        return SheetAnswer::Refused(Refusal::WrongSheet);
-    }
-    SheetAnswer::Found(SheetPlaces {
-        part: second - 6,
-        rows,
-        commands: third,
-    })
 }
 
 // Reads a sheet: where its parts stand, or 32.
-pub fn read_sheet(text: &[u8]) -> SheetAnswer
+pub fn read_sheet(text: &[u8]) -> Result<SheetPlaces, Refusal>
     ensures { result ≡ sheet_answer text.now (sheet_of text.now) }
 {
     if !is_whole(text) {
-        return SheetAnswer::Refused(Refusal::WrongSheet);
+        return Err(Refusal::WrongSheet);
     }
     let second = line_after(text, 0);
-    if second >= text.len() {
-        return SheetAnswer::Refused(Refusal::WrongSheet);
+    if second < text.len() {
+        read_lines(text, second, line_after(text, second))
+    } else {
+        Err(Refusal::WrongSheet)
     }
-    read_lines(text, second, line_after(text, second))
 }

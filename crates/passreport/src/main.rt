@@ -55,10 +55,7 @@ fn read_file(rt: &impl Files, name: &str, text: &mut [u8]) -> usize
         Ok(mut file) => read_open(&mut file, text),
         Err(_) => 0,
     };
-    if n > text.len() {
-        return 0;
-    }
-    n
+    if n > text.len() { 0 } else { n }
 }
 
 // A netlist has at most 32,768 bytes and a sheet 40,960; one byte more of each is read, so that a longer one is refused.

@@ -7,13 +7,9 @@ use std::io::Read;
 
 // Prints the first n bytes, where there are as many, or says on standard error that it cannot.
 pub fn print_front(rt: &impl Print, errors: &impl Print, bytes: &[u8], n: usize, cannot: &[u8]) {
-    if n > bytes.len() {
-        return;
+    if n <= bytes.len() && rt.write_all(&bytes[..n]).is_err() {
+        let _ = errors.write_all(cannot);
     }
-    if rt.write_all(&bytes[..n]).is_ok() {
-        return;
-    }
-    let _ = errors.write_all(cannot);
 }
 
 // One read of an open file: how many bytes came, none at its end, or more than there is room for where the read failed.

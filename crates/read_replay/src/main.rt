@@ -5,7 +5,7 @@
 
 ghost use Rattle.std.specs.Prelude.{◌≤◌};
 
-use blif_read::{ReadAnswer, read_blif};
+use blif_read::read_blif;
 use network::{Counts, GATE_CELLS};
 use replay::{expect_each, print_cells, put_word, read_full, read_word};
 use std::io;
@@ -87,18 +87,8 @@ fn read_into(
 ) -> io::Result<()> {
     let answer = read_blif(text, gates, pins, outputs, work_gates, work_pins);
     match answer {
-        ReadAnswer::Read(counts) => {
-            print_read(rt, counts, gates, pins, outputs, work_gates, work_pins)
-        }
-        ReadAnswer::Refused(r) => print_refused(
-            rt,
-            r.number(),
-            gates,
-            pins,
-            outputs,
-            work_gates,
-            work_pins,
-        ),
+        Ok(counts) => { print_read(rt, counts, gates, pins, outputs, work_gates, work_pins) }
+        Err(r) => print_refused(rt, r.number(), gates, pins, outputs, work_gates, work_pins),
     }
 }
 
@@ -179,15 +169,12 @@ fn show_kind(rt: &impl Print, kind: u32) -> io::Result<()> {
     put_word(&mut outputs, 256, (kind == 2) as u32);
     put_word(&mut work_gates, 4096, (kind == 3) as u32);
     put_word(&mut work_pins, 16384, (kind == 4) as u32);
-    let mut counts = Counts {
+    let counts = Counts {
         inputs: 0,
         gates: 0,
-        pins: 0,
+        pins: if kind == 5 { 16386 } else { 0 },
         outputs: 0,
     };
-    if kind == 5 {
-        counts.pins = 16386;
-    }
     print_read(rt, counts, &gates, &pins, &outputs, &work_gates, &work_pins)?;
     print_refused(rt, 1, &gates, &pins, &outputs, &work_gates, &work_pins)
 }

@@ -9,68 +9,61 @@ ghost use Rattle.refusals.specs.Order.{refuse_if};
 #[derive(Clone, Copy)]
 pub enum Refusal {
     // too few cells are lent
-    TooFewCells,
+    TooFewCells = 1,
     // the text is over 32,768 bytes
-    TextTooLong,
+    TextTooLong = 2,
     // the text has a byte of 128 or more
-    HighByte,
+    HighByte = 3,
     // `.model` lacks a name, or `.latch` has fewer than two
-    MissingName,
+    MissingName = 4,
     // a statement that starts with a dot is not supported
-    Unsupported,
+    Unsupported = 5,
     // there are over 256 inputs, 256 outputs, 1,024 gates or 16,384 pins
-    SizePassed,
+    SizePassed = 6,
     // there is a second `.model` before any `.end`
-    SecondModel,
+    SecondModel = 7,
     // `.end` comes before any `.model`
-    EndBeforeModel,
+    EndBeforeModel = 8,
     // `.names` has no names
-    NamesEmpty,
+    NamesEmpty = 9,
     // a name is defined twice
-    DefinedTwice,
+    DefinedTwice = 10,
     // an output, a latch's input or a cover's input is not defined
-    Undefined,
+    Undefined = 11,
     // a cube line is wrong: its tokens, its columns or its output
-    WrongCubeLine,
+    WrongCubeLine = 12,
     // the cube lines of a cover differ in output
-    OutputsDiffer,
+    OutputsDiffer = 13,
     // there is a combinational loop
-    CombinationalLoop,
+    CombinationalLoop = 14,
     // what is lent is no network
-    NotANetwork,
+    NotANetwork = 20,
     // an Xor or Xnor of any number of inputs has over 12
-    WideExclusive,
+    WideExclusive = 21,
     // the text does not fit into the output slice or into 32,768 bytes
-    TextDoesNotFit,
+    TextDoesNotFit = 22,
     // a combinational gate has a gate input whose number is not lower than its own
-    NotSorted,
+    NotSorted = 29,
     // a flip-flop has another enable or reset
-    OtherFlipFlop,
+    OtherFlipFlop = 30,
     // a row has the wrong length, another character or no LF, or the output rows do not fit
-    WrongRows,
+    WrongRows = 31,
     // a sheet line is missing, misformed or left over, or the sheet is over 40,960 bytes
-    WrongSheet,
+    WrongSheet = 32,
     // the network has no output
-    NoOutput,
+    NoOutput = 33,
     // a latch's start value is not 0, 1, 2 or 3
-    WrongStart,
-}
-
-// What a check answers: nothing is wrong, or the refusal.
-#[derive(Clone, Copy)]
-pub enum Checked {
-    Fine,
-    Refused(Refusal),
+    WrongStart = 34,
 }
 
 // The refusal where the test holds.
-pub fn refuse_if(test: bool, refusal: Refusal) -> Checked
+pub fn refuse_if(test: bool, refusal: Refusal) -> Result<(), Refusal>
     ensures { result ≡ refuse_if test refusal }
 {
     if test {
-        return Checked::Refused(refusal);
+        return Err(refusal);
     }
-    Checked::Fine
+    Ok(())
 }
 
 impl Refusal {
@@ -78,30 +71,6 @@ impl Refusal {
     pub fn number(self) -> u32
         ensures { result ≡ number_of self }
     {
-        match self {
-            Refusal::TooFewCells => 1,
-            Refusal::TextTooLong => 2,
-            Refusal::HighByte => 3,
-            Refusal::MissingName => 4,
-            Refusal::Unsupported => 5,
-            Refusal::SizePassed => 6,
-            Refusal::SecondModel => 7,
-            Refusal::EndBeforeModel => 8,
-            Refusal::NamesEmpty => 9,
-            Refusal::DefinedTwice => 10,
-            Refusal::Undefined => 11,
-            Refusal::WrongCubeLine => 12,
-            Refusal::OutputsDiffer => 13,
-            Refusal::CombinationalLoop => 14,
-            Refusal::NotANetwork => 20,
-            Refusal::WideExclusive => 21,
-            Refusal::TextDoesNotFit => 22,
-            Refusal::NotSorted => 29,
-            Refusal::OtherFlipFlop => 30,
-            Refusal::WrongRows => 31,
-            Refusal::WrongSheet => 32,
-            Refusal::NoOutput => 33,
-            Refusal::WrongStart => 34,
-        }
+        self as u32
     }
 }

@@ -12,9 +12,10 @@ fn digit(c: u8) -> u32
     ensures { result < 16 }
 {
     if c >= b'a' {
-        return (c - 87) as u32 % 16;
+        (c - 87) as u32 % 16
+    } else {
+        c as u32 % 16
     }
-    c as u32 % 16
 }
 
 // Reads until the slice is full or the input ends; what lies behind the end stays as it was.
@@ -37,8 +38,8 @@ pub fn read_word(input: &mut impl Read) -> io::Result<u32>
     let mut bytes = [0u8; 9];
     read_full(input, &mut bytes)?;
     let mut word = 0u32;
-    for i in 0..8 {
-        word = word % 0x1000_0000 * 16 + digit(bytes[i]);
+    for &byte in &bytes[..8] {
+        word = word % 0x1000_0000 * 16 + digit(byte);
     }
     Ok(word)
 }
@@ -81,9 +82,8 @@ pub fn put_word(cells: &mut [u32], i: usize, word: u32)
 
 // The next words, one for each cell.
 pub fn read_words(input: &mut impl Read, cells: &mut [u32]) -> io::Result<()> {
-    let n = cells.len();
-    for i in 0..n {
-        cells[i] = read_word(input)?;
+    for cell in cells.iter_mut() {
+        *cell = read_word(input)?;
     }
     Ok(())
 }
@@ -105,10 +105,8 @@ pub fn print_cells(rt: &impl Print, word: &[u8], cells: &[u32], n: usize) -> io:
     if n > cells.len() {
         return println!(rt; " more than are lent");
     }
-    let mut i = 0;
-    while i < n {
-        print_cell(rt, cells[i])?;
-        i += 1;
+    for &cell in &cells[..n] {
+        print_cell(rt, cell)?;
     }
     println!(rt)
 }
@@ -121,36 +119,31 @@ pub fn expect_each(
     v: u32,
     line: &[u8],
 ) -> io::Result<()> {
-    let mut i = n;
-    while i < cells.len() {
-        if cells[i] != v {
-            return rt.write_all(line);
-        }
-        i += 1;
+    if cells.iter().skip(n).all(|&cell| cell == v) {
+        Ok(())
+    } else {
+        rt.write_all(line)
     }
-    Ok(())
 }
 
 // A line that no stored answer has, unless every byte from place n on is zero.
 pub fn expect_zero_bytes(rt: &impl Print, bytes: &[u8], n: usize) -> io::Result<()> {
-    let mut i = n;
-    while i < bytes.len() {
-        if bytes[i] != 0 {
-            return println!(rt; "not zero");
-        }
-        i += 1;
+    if bytes.iter().skip(n).all(|&byte| byte == 0) {
+        Ok(())
+    } else {
+        println!(rt; "not zero")
     }
-    Ok(())
 }
 
 // A length and the first n bytes; the others must be zero.
 pub fn print_bytes(rt: &impl Print, bytes: &[u8], n: usize) -> io::Result<()> {
     print_line(rt, b"length=", n)?;
     if n > bytes.len() {
-        return println!(rt; "more than are lent");
+        println!(rt; "more than are lent")
+    } else {
+        rt.write_all(&bytes[..n])?;
+        expect_zero_bytes(rt, bytes, n)
     }
-    rt.write_all(&bytes[..n])?;
-    expect_zero_bytes(rt, bytes, n)
 }
 
 // A refusal's number; every byte must be zero.

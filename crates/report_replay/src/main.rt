@@ -16,10 +16,11 @@ fn print_report(rt: &impl Print, out: &[u8], n: usize) -> io::Result<()> {
     print_line(rt, b"length=", n)?;
     if n > out.len() {
         rt.write_all(out)?;
-        return println!(rt; "\ncut");
+        println!(rt; "\ncut")
+    } else {
+        rt.write_all(&out[..n])?;
+        expect_zero_bytes(rt, out, n)
     }
-    rt.write_all(&out[..n])?;
-    expect_zero_bytes(rt, out, n)
 }
 
 // A line that no stored answer has, unless every cell is zero.

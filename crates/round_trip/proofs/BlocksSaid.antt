@@ -3,7 +3,7 @@ use mathlib.Core.Path.{◌≡◌, refl, sym, ap, ap₂, ◌∙◌}
 use mathlib.Core.Bool.{Bool, true, false, ◌||◌, cond}
 use mathlib.Core.List.{List, [], ◌∷◌, ◌++◌, map, flat_map, head_d, map-append}
 use mathlib.Core.Option.{none}
-use Prim.Native.Nat.{ℕ, ◌+◌, ◌-◌}
+use Prim.Native.Nat.{ℕ, ◌-◌}
 use native.Mathlib.Omega.{arith}
 use lib.ListN.{length, get_or, take, length-append}
 use lib.Seq.{take-append_seam, get_or-append_seam}
@@ -16,8 +16,7 @@ use Rattle.blif_text.specs.Statements.{Stmt, Parsed, ok, stmt_of, parsed_line}
 use Rattle.blif_text.specs.Decls.{Def, latch, cover, Decl, gate, cubes, decls, ins_of, outs_of, defs_of, cover_out, cover_ins, columns, output, is_one}
 use Rattle.blif_text.proofs.Saying.{WordByte, IsWord, quoted, says, Single, words-single, says-words, stmt-names, stmt-latch}
 use Rattle.blif_meaning.specs.Model.{Col, C0, C1, Dash, Init, I0, I1, DontCare, Unknown, init_bytes, Line, LatchDef, Block, Latch, Cover, plain_latch}
-use Rattle.blif_writing.specs.WrittenModel.{written}
-use Rattle.blif_writing.specs.Text.{spaced, line, col_byte, out_byte, cube_line, latch_line, flop_line, given, stored_line, block_lines, all_lines}
+use Rattle.blif_writing.specs.Text.{spaced, col_byte, out_byte, cube_line, latch_line, flop_line, given, stored_line, block_lines, all_lines}
 use Rattle.blif_reading.specs.TextModel.{col_of_byte, line_of, block_of}
 
 -- ---- lines of words

@@ -1,4 +1,5 @@
 -- Demand 3 follows from what the writer and the reader answer. Assumes nothing.
+use Rattle.std.specs.Prelude.{Ok}
 use mathlib.Core.Path.{◌≡◌, sym, ap, ap₂, ◌∙◌, subst}
 use Prim.Native.Nat.{ℕ}
 use native.Mathlib.Omega.{arith}
@@ -14,7 +15,7 @@ use Rattle.network.specs.Settle.{SameOutputs}
 use Rattle.network.proofs.Lent.{network-laid}
 use Rattle.blif_text.specs.Lines.{max_text}
 use Rattle.blif_writing.specs.Text.{text_of}
-use Rattle.blif_reading.specs.Read.{read, read_text}
+use Rattle.blif_reading.specs.Read.{read_text}
 use Rattle.blif_writing.specs.WrittenModel.{wide}
 use Rattle.round_trip.specs.Conditions.{PlainNet, RoundTripNet, WrittenFrom}
 use Rattle.round_trip.proofs.ReadBack.{read_back}
@@ -49,7 +50,7 @@ module _ {l : Lent} {n : ℕ} {m : Lengths} (words : Words l) (c : RoundTripCond
   written = text-written l n c.written
 
   -- it is read back as a network that gives equal outputs
-  pub back : (new : Net) × (read_text (text_of (net_of l)) ≡ read new) × SameOutputs new (net_of l)
+  pub back : (new : Net) × (read_text (text_of (net_of l)) ≡ Ok new) × SameOutputs new (net_of l)
   back = read_back (net_of l) (lent-round-trip l n words c.written c.plain) c.written.short c.sized
 
   -- exactly the bytes written are read

@@ -12,9 +12,8 @@ use Rattle.lists.proofs.Places.{place-mem}
 use Rattle.lists.proofs.Range.{mem-all}
 use Rattle.lists.proofs.Known.{mem-known, out-unknown}
 use Rattle.lists.proofs.Once.{dup-left, dup-both}
-use Rattle.refusals.specs.Order.{◌or_else◌, refuse_if}
+use Rattle.refusals.specs.Order.{◌or_else◌, refuse_if, fine}
 use Rattle.refusals.specs.declared.Refusal.TheVariants as refusal
-use Rattle.refusals.specs.declared.Checked.TheVariants.{Fine}
 use Rattle.network.specs.Net.{Net}
 use Rattle.blif_text.specs.Decls.{Decl, gate, cover, defs, defines, used_names, columns, output, is_one, decls_of}
 use Rattle.blif_meaning.specs.Model.{Col, C0, C1, Dash, Line, Block, Latch, Cover, Model, target}
@@ -49,7 +48,7 @@ unfolding naming
 name-one seen earlier [] y ls ds = ap (λ (z : Bytes). refuse_if (known z earlier) refusal.DefinedTwice or_else naming seen (earlier ++ (z ∷ [])) ds) (cover-out [] y)
 name-one seen earlier (x ∷ xs) y ls ds = ap (λ (z : Bytes). refuse_if (known z earlier) refusal.DefinedTwice or_else naming seen (earlier ++ (z ∷ [])) ds) (cover-out (x ∷ xs) y)
 
-names-once : (seen : Bool) (earlier : List Bytes) (bs : List (Block Bytes)) → (Dup (earlier ++ map target bs) → ⊥) → naming seen earlier (map gate_of bs) ≡ Fine
+names-once : (seen : Bool) (earlier : List Bytes) (bs : List (Block Bytes)) → (Dup (earlier ++ map target bs) → ⊥) → naming seen earlier (map gate_of bs) ≡ fine
 unfolding naming refuse_if ◌or_else◌
 names-once seen earlier [] h = refl
 names-once seen earlier (Latch l ∷ bs) h =
@@ -129,13 +128,13 @@ one-kind : (n : ℕ) (o : Bool) (ls : List Line) → GoodLines n o ls → (any i
 one-kind n true ls g = ap (λ (b : Bool). any is_one (map tok_of ls) && not b) (all_ones n ls g) ∙ and-false (any is_one (map tok_of ls))
 one-kind n false ls g = ap (λ (b : Bool). b && not (all is_one (map tok_of ls))) (no_ones n ls g)
 
-cover-good : (b : Block Bytes) → GoodBlock b → cover_fault (def_of b) ≡ Fine
+cover-good : (b : Block Bytes) → GoodBlock b → cover_fault (def_of b) ≡ fine
 unfolding cover_fault refuse_if ◌or_else◌
 cover-good (Latch l) g = refl
 cover-good (Cover xs y ls) g =
     rw (last-at xs y, lines-good (length xs) g.0 ls g.1, one-kind (length xs) g.0 ls g.1)
 
-covers-good : (bs : List (Block Bytes)) → ((b : Block Bytes) → Memᴰ b bs → GoodBlock b) → cover_faults (map def_of bs) ≡ Fine
+covers-good : (bs : List (Block Bytes)) → ((b : Block Bytes) → Memᴰ b bs → GoodBlock b) → cover_faults (map def_of bs) ≡ fine
 unfolding cover_faults ◌or_else◌
 covers-good [] h = refl
 covers-good (b ∷ bs) h = rw (cover-good b (h b (mathlib.Core.List.Memᴰ.head refl))) (covers-good bs (λ c m. h c (mathlib.Core.List.Memᴰ.tail m)))
@@ -149,7 +148,7 @@ module _ (net : Net) (plain_flops : PlainFlops net) (acc : Accepts (written name
   abbrev dl : List Decl
   dl = text_decls net plain_flops
 
-  no-naming : naming false [] dl ≡ Fine
+  no-naming : naming false [] dl ≡ fine
   unfolding naming refuse_if ◌or_else◌
   no-naming =
       rw (not-twice [] w.inputs (λ d. acc.formed.once (dup-left w.inputs (map target w.blocks) d)))
@@ -170,14 +169,14 @@ module _ (net : Net) (plain_flops : PlainFlops net) (acc : Accepts (written name
       (λ i. not (all (λ (n : Bytes). known n (is i ++ (ap (map defines) gs ∙ defines-all w.blocks) i)) (os i ++ flat_map used_names (gs i))))
       ∙ ap not (mem-all (λ (n : Bytes). known n (defined w)) (w.outputs ++ flat_map used_names (map def_of w.blocks)) all_known)
 
-  no-cover-fault : cover_faults (defs dl) ≡ Fine
+  no-cover-fault : cover_faults (defs dl) ≡ fine
   no-cover-fault = ap cover_faults (defs-are net plain_flops) ∙ covers-good w.blocks acc.formed.good
 
   decls-are : decls_of (text_of net) ≡ dl
   decls-are = decls-of net plain_flops
 
   -- within our sizes: no refusal at all
-  pub no-fault : length (text_of net) ≤ 32768 → too_large (decls_of (text_of net)) ≡ false → read_fault (text_of net) ≡ Fine
+  pub no-fault : length (text_of net) ≤ 32768 → too_large (decls_of (text_of net)) ≡ false → read_fault (text_of net) ≡ fine
   unfolding read_fault decl_fault refuse_if ◌or_else◌
   no-fault short small =
       rw (le-ltb 32768 (length (text_of net)) short, text-ascii net plain_flops, text-sound net plain_flops, small)

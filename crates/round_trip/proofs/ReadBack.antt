@@ -1,4 +1,5 @@
 -- What is written is read, as a network with equal outputs; so no text is written for two networks with other outputs. Assumes nothing.
+use Rattle.std.specs.Prelude.{Ok}
 use mathlib.Core.Path.{◌≡◌, refl, sym, ap, ap₂, ◌∙◌, subst}
 use mathlib.Core.Bool.{false}
 use mathlib.Core.Option.{Option, none, some}
@@ -13,7 +14,7 @@ use Rattle.blif_writing.specs.WrittenModel.{written}
 use Rattle.blif_writing.specs.Names.{name_bytes}
 use Rattle.blif_writing.specs.Text.{text_of}
 use Rattle.blif_reading.specs.TextModel.{model_of_text}
-use Rattle.blif_reading.specs.Read.{too_large, read, answer, built_from, read_text}
+use Rattle.blif_reading.specs.Read.{too_large, answer, built_from, read_text}
 use Rattle.blif_text.specs.Decls.{decls_of}
 use Rattle.round_trip.specs.Conditions.{RoundTripNet}
 use Rattle.network.specs.Settle.{SameOutputs}
@@ -59,7 +60,7 @@ module _ (net : Net) (good : RoundTripNet net) where
 
   -- within our sizes it is read
   pub read_back : length (text_of net) ≤ 32768 → too_large (decls_of (text_of net)) ≡ false
-      → (new : Net) × (read_text (text_of net) ≡ read new) × SameOutputs new net
+      → (new : Net) × (read_text (text_of net) ≡ Ok new) × SameOutputs new net
   unfolding read_text answer built_from decls_of
   read_back short small =
       let s = text-sorts in

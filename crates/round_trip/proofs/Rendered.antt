@@ -1,10 +1,11 @@
 -- The text written for a network parses as its model: lines as statements, statements as declarations, declarations as blocks.
 -- Assumes nothing.
+use Rattle.refusals.specs.Order.{fine}
 use mathlib.Core.Path.{◌≡◌, refl, sym, ap, ap₂, ◌∙◌, subst}
 use mathlib.Core.Bool.{Bool, true, false}
 use mathlib.Core.List.{List, [], ◌∷◌, ◌++◌, map, flat_map, head_d, append_assoc, append-nil, map-append}
 use mathlib.Core.Option.{some}
-use Prim.Native.Nat.{ℕ, zero, suc, ◌+◌, ◌-◌, ◌/◌, ◌%◌, ◌<◌}
+use Prim.Native.Nat.{ℕ, zero, suc, ◌+◌, ◌/◌, ◌%◌, ◌<◌}
 use native.Mathlib.Omega.{arith}
 use lib.Dec.{leb, ltb}
 use lib.ListN.{get_elem?}
@@ -12,14 +13,13 @@ use borrow.Author.Tests.{ltb-true}
 use Rattle.lists.specs.Lists.{Bytes, bytes, same, any, range}
 use Rattle.lists.proofs.Places.{flat_map-append}
 use Rattle.lists.proofs.Every.{Every, every-nil, every-cons, every_append, every_map}
-use Rattle.refusals.specs.declared.Checked.TheVariants.{Fine}
 use Rattle.signal.specs.Signal.{Node, Const, Input, Var, Signal, plain, invert, one_s, zero_s}
 use Rattle.gates.specs.Gate.{FlipFlop, PlainFlop, Gate, Comb, Dff}
 use Rattle.network.specs.Net.{Net}
 use Rattle.blif_text.specs.Lines.{split, cons_first, cut, continues, is_blank, non_empty, tokens}
 use Rattle.blif_text.specs.Keywords.{keyword_of}
 use Rattle.blif_text.specs.Statements.{Stmt, Parsed, ok, stmt_of, model_stmt, parsed_line, parsed, stmts, first_bad}
-use Rattle.blif_text.specs.Decls.{latch, Decl, decls, decls_of, ins_of, outs_of, defs_of, ins, outs, defs}
+use Rattle.blif_text.specs.Decls.{Decl, decls, decls_of, ins_of, outs_of, defs_of, ins, outs, defs}
 use Rattle.blif_text.proofs.Saying.{WordByte, IsWord, quoted, says, Single, quoted-line, parsed-lines, lines-ascii, words-single, stmt-inputs, stmt-outputs, stmts-ok, none-bad}
 use Rattle.blif_meaning.specs.Model.{Line, init_bytes, Block, Latch, Cover, Model}
 use Rattle.blif_writing.specs.WrittenModel.{bare, latch_of, unless, latch_blocks, comb_blocks, inverter_block, inverters, const_blocks, written}
@@ -198,7 +198,7 @@ module _ (net : Net) (plain_flops : PlainFlops net) where
   text-ascii = lines-ascii (text_lines net) text-single
 
   -- no refusal 4 or 5
-  pub text-sound : first_bad (parsed (text_of net)) ≡ Fine
+  pub text-sound : first_bad (parsed (text_of net)) ≡ fine
   text-sound = ap first_bad stmts-of ∙ none-bad text_stmts
 
   -- the declarations of the text

@@ -1,4 +1,5 @@
 -- Demands 2 and 3, as a reviewer would read them; the definitions are in specs/Trip.antt. Assumes nothing.
+use Rattle.std.specs.Prelude.{Ok}
 use mathlib.Core.Path.{◌≡◌}
 use mathlib.Core.Bool.{Bool}
 use mathlib.Core.List.{List}
@@ -11,7 +12,7 @@ use Rattle.network.specs.Settle.{run}
 use Rattle.blif_meaning.specs.Model.{BlifRuns}
 use Rattle.blif_writing.specs.Text.{text_of}
 use Rattle.blif_reading.specs.TextModel.{model_of_text}
-use Rattle.blif_reading.specs.Read.{read, read_text}
+use Rattle.blif_reading.specs.Read.{read_text}
 use Rattle.round_trip.specs.Conditions.{RoundTripNet}
 use Rattle.blif_read.specs.Into.{Lengths}
 use Rattle.round_trip.specs.Trip.{trip_into, RoundTripConditions, ReadsBack}
@@ -56,5 +57,5 @@ written-parses = back.round-trip-parses
 -- what is written for "a valid, loop-free network with no exclusive gate over 12 inputs and plain flip-flops" is read, where it
 -- is within our sizes, as a network with as many inputs and outputs and equal outputs at every clock
 pub read_back : (net : Net) → RoundTripNet net → length (text_of net) ≤ max_text → too_large (decls_of (text_of net)) ≡ false
-    → (new : Net) × (read_text (text_of net) ≡ read new) × SameOutputs new net
+    → (new : Net) × (read_text (text_of net) ≡ Ok new) × SameOutputs new net
 read_back = back.read_back

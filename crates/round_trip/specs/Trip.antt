@@ -2,7 +2,7 @@
 -- within the sizes, is written and read back with as many inputs and outputs, and for every list of input rows the two give equal outputs
 -- at every clock, each from its start values ("Demand 3 is one claim over every list of rows, the empty one too, not one for each clock"). Assumes nothing:
 -- these are definitions.
-use Rattle.std.specs.Prelude.{◌≡◌, true, false, List, ℕ, length, take}
+use Rattle.std.specs.Prelude.{◌≡◌, true, false, List, ℕ, length, take, Result, Ok, Err}
 use Rattle.lists.specs.Lists.{Bytes, zeros, overwrite}
 use Rattle.network.specs.Net.{Net}
 use Rattle.network.specs.Cells.{Lent, lent, net_of}
@@ -12,36 +12,34 @@ use Rattle.blif_writing.specs.Text.{text_of}
 use Rattle.blif_reading.specs.Read.{too_large}
 use Rattle.blif_text.specs.Decls.{decls_of}
 use Rattle.blif_read.specs.Into.{Lengths, enough, read_into}
-use Rattle.blif_read.specs.declared.ReadAnswer.{ReadAnswer}
-use Rattle.blif_read.specs.declared.ReadAnswer.TheVariants as read
 use Rattle.blif_write.specs.Into.{write_into}
-use Rattle.blif_write.specs.declared.WriteAnswer.{WriteAnswer}
-use Rattle.blif_write.specs.declared.WriteAnswer.TheVariants as write
 use Rattle.round_trip.specs.Conditions.{PlainNet, WrittenFrom}
-use Rattle.round_trip.specs.declared.TripAnswer.{TripAnswer}
-use Rattle.round_trip.specs.declared.TripAnswer.TheVariants.{NotWritten, NotRead, ReadBack}
+use Rattle.round_trip.specs.declared.Returned.{Returned}
+use Rattle.round_trip.specs.declared.TripRefusal.{TripRefusal}
+use Rattle.round_trip.specs.declared.TripRefusal.TheVariants.{NotWritten, NotRead}
+use Rattle.refusals.specs.declared.Refusal.{Refusal}
 
 -- ---- what is answered, whatever is lent
 
 -- how much was written: nothing where writing was refused
-abbrev pub written_length : WriteAnswer → ℕ
-written_length (write.Written n) = n
-written_length (write.Refused r) = 0
+abbrev pub written_length : Result ℕ Refusal → ℕ
+written_length (Ok n) = n
+written_length (Err r) = 0
 
 -- the reader's refusal of a text of n bytes, or its length with the counts of the network read back
-abbrev pub read_answer : ℕ → ReadAnswer → TripAnswer
-read_answer n (read.Refused r) = NotRead r
-read_answer n (read.Read counts) = ReadBack n counts
+abbrev pub read_answer : ℕ → Result Counts Refusal → Result Returned TripRefusal
+read_answer n (Err r) = Err (NotRead r)
+read_answer n (Ok counts) = Ok (record { length = n; counts = counts })
 
 -- the writer's refusal, or the reader's answer
-abbrev pub answer_of : WriteAnswer → ReadAnswer → TripAnswer
-answer_of (write.Refused r) a = NotWritten r
-answer_of (write.Written n) a = read_answer n a
+abbrev pub answer_of : Result ℕ Refusal → Result Counts Refusal → Result Returned TripRefusal
+answer_of (Err r) a = Err (NotWritten r)
+answer_of (Ok n) a = read_answer n a
 
 -- an answer, and what the slices to be filled hold then
 pub record TripOutcome : Type 0 where
   -- what was answered
-  pub answer : TripAnswer
+  pub answer : Result Returned TripRefusal
   -- the text's slice
   pub text : Bytes
   -- the slices of the network read back
@@ -56,7 +54,7 @@ pub record TripOutcome : Type 0 where
   pub work_pins : List ℕ
 
 -- the same, from its parts
-abbrev pub trip_outcome : TripAnswer → Bytes → List ℕ → List ℕ → List ℕ → List ℕ → List ℕ → TripOutcome
+abbrev pub trip_outcome : Result Returned TripRefusal → Bytes → List ℕ → List ℕ → List ℕ → List ℕ → List ℕ → TripOutcome
 trip_outcome a t gs ps os wgs wps = record { answer = a; text = t; gates = gs; pins = ps; outputs = os; work_gates = wgs; work_pins = wps }
 
 -- writing into so many bytes, then reading exactly the bytes written into slices of these lengths
@@ -84,7 +82,7 @@ pub record ReadsBack (net : Net) (o : TripOutcome) : Type 0 where
   -- the counts of the network read back
   pub counts : Counts
   -- it is read back, and the text's length is answered too
-  pub answered : o.answer ≡ ReadBack (length (text_of net)) counts
+  pub answered : o.answer ≡ Ok (record { length = length (text_of net); counts = counts })
   -- the text is the network's, with zero bytes after it
   pub text : o.text ≡ overwrite (text_of net) (zeros (length o.text))
   -- as many inputs

@@ -4,49 +4,50 @@
 ghost use Rattle.std.specs.Prelude.{◌≡◌, length};
 ghost use Rattle.network.specs.Cells.{lent};
 ghost use Rattle.blif_read.specs.Into.{lengths};
-ghost use Rattle.round_trip.specs.Trip.{written_length, read_answer, answer_of, trip_outcome};
+ghost use Rattle.round_trip.specs.Trip.{read_answer, answer_of, trip_outcome};
 ghost use Rattle.round_trip.specs.Between.Trip.{WritesThenReads};
 
-use blif_read::{ReadAnswer, read_blif};
-use blif_write::{WriteAnswer, write_blif};
+use blif_read::read_blif;
+use blif_write::write_blif;
 use network::Counts;
 use refusals::Refusal;
 
-// The writer's refusal; the reader's; or the text's length and the counts of the network read back.
+// A network that came back: the text's length, and the counts of the network read.
 #[derive(Clone, Copy)]
-pub enum TripAnswer {
-    NotWritten(Refusal),
-    NotRead(Refusal),
-    ReadBack(usize, Counts),
+pub struct Returned {
+    pub length: usize,
+    pub counts: Counts,
 }
 
-// How many bytes were written: none where writing was refused.
-fn written_length(answer: WriteAnswer) -> usize
-    ensures { result ≡ written_length answer }
-{
-    match answer {
-        WriteAnswer::Written(n) => n,
-        WriteAnswer::Refused(_) => 0,
-    }
+// Why a network does not come back.
+#[derive(Clone, Copy)]
+pub enum TripRefusal {
+    // the writer refuses it
+    NotWritten(Refusal),
+    // the reader refuses its text
+    NotRead(Refusal),
 }
 
 // The reader's answer to a text of this length.
-fn read_answer(n: usize, answer: ReadAnswer) -> TripAnswer
+fn read_answer(n: usize, answer: Result<Counts, Refusal>) -> Result<Returned, TripRefusal>
     ensures { result ≡ read_answer n answer }
 {
     match answer {
-        ReadAnswer::Read(counts) => TripAnswer::ReadBack(n, counts),
-        ReadAnswer::Refused(r) => TripAnswer::NotRead(r),
+        Ok(counts) => Ok(Returned { length: n, counts }),
+        Err(r) => Err(TripRefusal::NotRead(r)),
     }
 }
 
 // The writer's refusal, or the reader's answer.
-fn trip_answer(written: WriteAnswer, read: ReadAnswer) -> TripAnswer
+fn trip_answer(
+    written: Result<usize, Refusal>,
+    read: Result<Counts, Refusal>,
+) -> Result<Returned, TripRefusal>
     ensures { result ≡ answer_of written read }
 {
     match written {
-        WriteAnswer::Written(n) => read_answer(n, read),
-        WriteAnswer::Refused(r) => TripAnswer::NotWritten(r),
+        Ok(n) => read_answer(n, read),
+        Err(r) => Err(TripRefusal::NotWritten(r)),
     }
 }
 
@@ -62,7 +63,7 @@ pub fn write_then_read(
     new_outputs: &mut [u32],
     work_gates: &mut [u32],
     work_pins: &mut [u32],
-) -> TripAnswer
+) -> Result<Returned, TripRefusal>
     ensures { let l = lent counts gates.now pins.now outputs.now in
         let m = lengths (length new_gates.old) (length new_pins.old) (length new_outputs.old)
         (length work_gates.old) (length work_pins.old) in
@@ -71,7 +72,7 @@ pub fn write_then_read(
         work_gates.new work_pins.new) }
 {
     let written = write_blif(counts, gates, pins, outputs, text);
-    let n = written_length(written);
+    let n = written.unwrap_or(0);
     let read = read_blif(
         &text[..n],
         new_gates,

@@ -5,18 +5,19 @@
 #![tactic(auto)]
 
 use network::Counts;
+use refusals::Refusal;
 use replay::{
     print_bytes, print_line, print_refused, read_counts, read_full, read_word, read_words,
 };
-use run_rows::{RunAnswer, run_rows};
+use run_rows::run_rows;
 use std::io;
 use std::io::Read;
 
 // An answer: the output rows behind their length, or a refusal's number; every other byte must be zero.
-fn print_answer(rt: &impl Print, answer: RunAnswer, out: &[u8]) -> io::Result<()> {
+fn print_answer(rt: &impl Print, answer: Result<usize, Refusal>, out: &[u8]) -> io::Result<()> {
     match answer {
-        RunAnswer::Ran(n) => print_bytes(rt, out, n),
-        RunAnswer::Refused(refusal) => print_refused(rt, out, refusal.number()),
+        Ok(n) => print_bytes(rt, out, n),
+        Err(refusal) => print_refused(rt, out, refusal.number()),
     }
 }
 
@@ -81,7 +82,7 @@ fn replay_network(rt: &impl Print, input: &mut impl Read, number: u32) -> io::Re
 fn show_kind(rt: &impl Print, length: usize, last: u8) -> io::Result<()> {
     let mut out = [0u8; 32800];
     out[32799] = last;
-    print_answer(rt, RunAnswer::Ran(length), &out)?;
+    print_answer(rt, Ok(length), &out)?;
     print_refused(rt, &out, 20)
 }
 

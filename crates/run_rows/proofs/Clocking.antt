@@ -7,7 +7,7 @@ use Prim.Native.Nat.{ℕ, zero, suc, ◌+◌, ◌-◌, ◌*◌, ◌/◌, ◌≤�
 use native.Mathlib.Omega.{arith}
 use native.Mathlib.Nat.{suc-mul, div-eq_of_eq-mul_left}
 use native.Mathlib.Numerals.{add-one}
-use lib.ListN.{length, take, drop, length-take, length-drop, length-append, length-map, take-append-drop, drop_of_length-le}
+use lib.ListN.{length, take, drop, length-take, length-drop, length-append, length-map, take-append-drop}
 use lib.Seq.{drop-drop, take-add, take_at, length-take-le}
 use Rattle.lists.specs.Lists.{Bytes}
 use Rattle.lists.proofs.Places.{same_parts}
@@ -223,12 +223,3 @@ module _ {inputs n : ℕ} {cells ps outs slots tables flops : List ℕ} {k : ℕ
                   (rw (row_first, s.is, after.1)
                   (clocked-row net row (rows_in inputs l.0 (drop (at + suc inputs) rows)) c.held line (drop (to + suc (length outs)) out') r (text ∙ ap row_text outs-shown) q));
             })
-
-    -- no row is left
-    pub clocking-done : length rows ≤ at → Clocked net (rows_of inputs rows) (start_bits net) out true
-    clocking-done h = c.leads out true refl (by c.left c.rows_left c.out_left)
-      where
-        by : (l : ℕ) → length rows ≡ at + l * suc inputs → length out ≡ to + l * suc (length net.outputs)
-            → Clocked net (rows_in inputs l (drop at rows)) c.held (drop to out) true
-        by zero e q = rw (drop_of_length-le rows {i = at} h, drop_of_length-le out {i = to} (omega arith)) (refl, refl)
-        by (suc m) e q = absurd (omega (arith, suc-mul m (suc inputs)))

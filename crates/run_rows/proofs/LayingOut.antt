@@ -1,18 +1,16 @@
 -- What is laid out before the clocks: each gate's truth table and slots, and the list of the flip-flops. Assumes nothing.
-use mathlib.Core.Path.{◌≡◌, refl, sym, ap, ◌∙◌}
+use mathlib.Core.Path.{◌≡◌, sym, ap, ◌∙◌}
 use mathlib.Core.List.{List, ◌++◌}
-use mathlib.Core.Logic.{◌⊎◌, inl, inr, ⊎_elim}
 use Prim.Native.Nat.{ℕ, ◌+◌, ◌-◌, ◌*◌, ◌≤◌, ◌<◌}
 use native.Mathlib.Omega.{arith}
-use lib.ListN.{length, get_or, take, drop, set, length-set, length-drop}
+use lib.ListN.{length, take, drop, set, length-set, length-drop}
 use lib.Seq.{get_or-set_same, get_or-set_other}
 use Rattle.lists.specs.Between.Lists.{overwrite_at}
-use Rattle.lists.proofs.Tests.{by_order, below_next}
+use Rattle.lists.proofs.Tests.{below_next}
 use Rattle.lists.proofs.Places.{length_run}
 use Rattle.lists.proofs.Over.{overwrite-is}
 use Rattle.lists.proofs.OverAt.{length-overwrite_at, overwrite_at-inside, overwrite_at-before, overwrite_at-rest}
 use Rattle.lists.proofs.Counting.{get_or-table}
-use Rattle.gates.specs.Forms.{flop_number}
 use Rattle.gates.specs.Between.Forms.{kind_of}
 use Rattle.gates.specs.declared.Kind.{Kind}
 use Rattle.network.specs.Record.{form_at, run_at}
@@ -20,7 +18,7 @@ use Rattle.network.specs.Between.Cells.{NetCells}
 use Rattle.gate_bits.specs.Between.Slots.{slot_or, run_slots}
 use Rattle.gate_bits.specs.Between.Tables.{kind_table, kind_pad}
 use Rattle.gate_bits.proofs.SlotBits.{length-slots}
-use Rattle.run_rows.specs.Between.Steps.{TableLaid, LaidOne, LaidOut, IsFlop, Flops}
+use Rattle.run_rows.specs.Between.Steps.{TableLaid, LaidOne, LaidOut, Flops}
 use Rattle.run_rows.specs.Between.Asks.{TableRoom}
 
 -- ---- one gate
@@ -86,9 +84,6 @@ pub record LayingOut (cells ps slots tables slots' tables' : List ℕ) (g : ℕ)
   pub tables_long : length tables' ≡ length tables
 
 module _ {cells ps slots tables : List ℕ} where
-  pub laying-out-start : LayingOut cells ps slots tables slots tables 0
-  laying-out-start = record { laid = record { each = λ h l. absurd (omega arith) }; slots_long = refl; tables_long = refl }
-
   module _ {slots' tables' : List ℕ} {g : ℕ} (c : LayingOut cells ps slots tables slots' tables' g) where
     pub laying-out-room : {i : ℕ} → NetCells i (length tables) cells ps → length tables * 6 ≤ length slots → g < length tables'
         → TableRoom cells ps g slots' tables'
@@ -105,9 +100,6 @@ module _ {cells ps slots tables : List ℕ} where
           tables_long = one.tables_long ∙ c.tables_long;
         }
 
-    pub laying-out-done : {n : ℕ} → n ≤ g → LaidOut cells ps n slots' tables'
-    laying-out-done le = record { each = λ h l. c.laid.each h (omega arith) }
-
 -- ---- the flip-flops
 
 -- the flip-flops before gate g, of n gates, are listed in the first k cells of a list, which was another of the same length
@@ -118,57 +110,3 @@ pub record Listing (cells : List ℕ) (n : ℕ) (flops flops' : List ℕ) (k g :
   pub long : length flops' ≡ length flops
   -- those before gate g
   pub listed : Flops cells g flops' k
-
-pub listing_start : {cells : List ℕ} {n : ℕ} {flops : List ℕ} → Listing cells n flops flops 0 0
-listing_start =
-    record {
-      within = omega arith;
-      long = refl;
-      listed = record { few = omega arith; flop = λ i l. absurd (omega arith); listed = λ h w. absurd (omega (arith, w.below)) };
-    }
-
-module _ {cells : List ℕ} {n : ℕ} {flops flops' : List ℕ} {k g : ℕ} (c : Listing cells n flops flops' k g) where
-  flop-before : {h : ℕ} → IsFlop cells g h → IsFlop cells (g + 1) h
-  flop-before w = record { below = omega (arith, w.below); form = w.form }
-
-  -- one before gate g + 1 is gate g or before it
-  flop-or : {h : ℕ} → IsFlop cells (g + 1) h → (g ≡ h) ⊎ IsFlop cells g h
-  flop-or {h} w = by_order g h (λ o. inl (omega (arith, w.below))) (λ o. inr (record { below = o; form = w.form }))
-
-  pub listing-flop : g < n → n ≤ length flops → form_at cells g ≡ flop_number → Listing cells n flops (set flops' k g) (k + 1) (g + 1)
-  listing-flop l r t =
-      let here : get_or (set flops' k g) k 0 ≡ g = get_or-set_same flops' k g 0 (omega (arith, c.long, c.listed.few)) in
-      let other : (i : ℕ) → i < k → get_or (set flops' k g) i 0 ≡ get_or flops' i 0 = λ i m. get_or-set_other flops' k i g 0 (λ e. omega arith) in
-      record {
-        within = omega arith;
-        long = length-set flops' k g ∙ c.long;
-        listed =
-            record {
-              few = omega (arith, c.listed.few);
-              flop =
-                  below_next (λ i. IsFlop cells (g + 1) (get_or (set flops' k g) i 0)) k
-                  (λ i m. rw (other i m) (flop-before (c.listed.flop i m)))
-                  (rw here (record { below = omega arith; form = t }));
-              listed = λ h w.
-                  ⊎_elim
-                  (λ e. (k, omega arith, here ∙ e))
-                  (λ b. let p = c.listed.listed h b in (p.0, omega (arith, p.1), other p.0 p.1 ∙ p.2))
-                  (flop-or w);
-            };
-      }
-
-  pub listing-other : g < n → (form_at cells g ≡ flop_number → ⊥) → Listing cells n flops flops' k (g + 1)
-  listing-other l d =
-      record {
-        within = omega arith;
-        long = c.long;
-        listed =
-            record {
-              few = omega (arith, c.listed.few);
-              flop = λ i m. flop-before (c.listed.flop i m);
-              listed = λ h w. ⊎_elim (λ e. absurd (d (ap (form_at cells) e ∙ w.form))) (λ b. c.listed.listed h b) (flop-or w);
-            };
-      }
-
-  pub listing-done : n ≤ g → Flops cells n flops' k
-  listing-done h = let e : g ≡ n = omega (arith, c.within) in rw e at c.listed

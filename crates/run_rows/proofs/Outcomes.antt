@@ -1,6 +1,7 @@
 -- What a run answers and leaves, from whether the rows fit and what the clocks leave. Assumes nothing.
+use Rattle.std.specs.Prelude.{Result, Ok, Err}
 use mathlib.Core.Path.{◌≡◌, refl, sym, ap, ap₂, ◌∙◌, subst}
-use mathlib.Core.Bool.{Bool, true, false, ◌&&◌, true≢false, false≢true}
+use mathlib.Core.Bool.{Bool, true, false, ◌&&◌, true≢false}
 use mathlib.Core.List.{List, ◌++◌}
 use mathlib.Core.Option.{Option, none, some}
 use mathlib.Core.Logic.{inl, inr}
@@ -29,8 +30,6 @@ use Rattle.run_rows.specs.Into.{RunOutcome, run_outcome, refused_run, ran_rows, 
 use Rattle.run_rows.specs.Ran.{RunsFor}
 use Rattle.run_rows.specs.Between.Steps.{Clocked, RunRefused}
 use Rattle.run_rows.specs.Between.Asks.{Runnable}
-use Rattle.run_rows.specs.declared.RunAnswer.{RunAnswer}
-use Rattle.run_rows.specs.declared.RunAnswer.TheVariants.{Ran, Refused}
 use Rattle.run_rows.proofs.RowsOf.{rows_are, length-rows_text, length-outputs}
 
 -- of a network and the rows' text into n bytes; a row has w bytes, and a row of outputs l
@@ -80,19 +79,11 @@ module _ (net : Net) (rows : Bytes) (n w l : ℕ) (ew : w ≡ suc net.inputs) (e
     pub lines_fit : count * l ≤ n
     lines_fit = (le-div_iff_mul-le {k = l} {x = count} {y = n} some_out).0 (leb-true count (n / l) (and_right (eqb (length rows % w) 0) (leb count (n / l)) f))
 
-  -- where a clock was refused
-  pub ran-not : (out : Bytes) {r : Bool} → r ≡ false → Clocked net (rows_of net.inputs rows) (start_bits net) out r → refused_run refusal.WrongRows n ≡ run_on net (rows_of net.inputs rows) n
-  ran-not out {r} e c = by (rows_of net.inputs rows) c
-    where
-      by : (o : Option (List (List Bool))) → Clocked net o (start_bits net) out r → refused_run refusal.WrongRows n ≡ run_on net o n
-      by none c = refl
-      by (some rs) c = absurd (false≢true (sym e ∙ c.0))
-
   -- where each row has run: the output rows, and zeros behind them
   pub ran-all : (q o : Bytes) {z : Bytes} {r : Bool} → length o ≡ n → count * l ≤ n → length q ≡ count * l → r ≡ true → Clocked net (rows_of net.inputs rows) (start_bits net) q r
       → let end = count * l in let p = q ++ drop end o in
       z ≡ zeros (length (take (length p - end) (drop end p)))
-      → run_outcome (Ran end) (take end p ++ (z ++ drop (length p - end) (drop end p))) ≡ run_on net (rows_of net.inputs rows) n
+      → run_outcome (Ok end) (take end p ++ (z ++ drop (length p - end) (drop end p))) ≡ run_on net (rows_of net.inputs rows) n
   ran-all q o {z} {r} lo fit lq t c zs = by (rows_of net.inputs rows) refl c
     where
       end : ℕ
@@ -102,17 +93,17 @@ module _ (net : Net) (rows : Bytes) (n w l : ℕ) (ew : w ≡ suc net.inputs) (e
       p = q ++ drop end o
 
       by : (os : Option (List (List Bool))) → rows_of net.inputs rows ≡ os → Clocked net os (start_bits net) q r
-          → run_outcome (Ran end) (take end p ++ (z ++ drop (length p - end) (drop end p))) ≡ run_on net os n
+          → run_outcome (Ok end) (take end p ++ (z ++ drop (length p - end) (drop end p))) ≡ run_on net os n
       by none h c = absurd (true≢false (sym t ∙ c))
       by (some rs) h c =
           let long : length (rows_text (run net rs)) ≡ end = outputs-long rs ∙ ap (λ (k : ℕ). k * l) (sym (count-is h)) in
           let whole : length p ≡ n = omega (arith, length-append q (drop end o), length-drop end o) in
           rw (le-ltb n (length (rows_text (run net rs))) (omega arith))
-          (ap₂ (λ (k : ℕ) (b : Bytes). run_outcome (Ran k) b) (sym long) (zeros-behind p end (take_at q (drop end o) end lq ∙ c.1) long whole zs))
+          (ap₂ (λ (k : ℕ) (b : Bytes). run_outcome (Ok k) b) (sym long) (zeros-behind p end (take_at q (drop end o) end lq ∙ c.1) long whole zs))
 
 -- ---- the order of refusals
 
-pub refused-is : {k : Refusal} {n : ℕ} {a : RunAnswer} {out : Bytes} → RunRefused k n a out → run_outcome a out ≡ refused_run k n
+pub refused-is : {k : Refusal} {n : ℕ} {a : Result ℕ Refusal} {out : Bytes} → RunRefused k n a out → run_outcome a out ≡ refused_run k n
 refused-is r = ap₂ run_outcome r.answer r.bytes
 
 module _ (l : Lent) (t : Bytes) (n : ℕ) where
@@ -164,14 +155,14 @@ ways l t n =
         (λ h. refuses refusal.WrongRows (inr (inr (inr refl)))
         (sym (runs_on l t n a b c) ∙ ap (λ (o : Option (List (List Bool))). run_on (net_of l) o n) e ∙ rw (lt-ltb n (length (rows_text (run (net_of l) rs))) h)))
 
-pub length-answered : (l : Lent) (t : Bytes) (n k : ℕ) → (run_into l t n).answer ≡ Ran k → RunsFor l t n
+pub length-answered : (l : Lent) (t : Bytes) (n k : ℕ) → (run_into l t n).answer ≡ Ok k → RunsFor l t n
 length-answered l t n k e = by (ways l t n)
   where
     by : Ways l t n → RunsFor l t n
     by (refuses r i q) = absurd (let z : ◌≡◌ {A = ℕ} 0 1 = (let w = ap (λ (o : RunOutcome). o.answer) q in cc) in omega arith)
     by (answers f) = f
 
-pub running-refuses : (l : Lent) (t : Bytes) (n : ℕ) (r : Refusal) → (run_into l t n).answer ≡ Refused r → InRunning r × ((run_into l t n).out ≡ zeros n)
+pub running-refuses : (l : Lent) (t : Bytes) (n : ℕ) (r : Refusal) → (run_into l t n).answer ≡ Err r → InRunning r × ((run_into l t n).out ≡ zeros n)
 running-refuses l t n r e = by (ways l t n)
   where
     by : Ways l t n → InRunning r × ((run_into l t n).out ≡ zeros n)

@@ -1,6 +1,6 @@
 -- Whether a flip-flop is plain, told by the cells of its enable and its reset. Assumes nothing.
 use mathlib.Core.Path.{◌≡◌, refl, sym, ap, ap₂, ◌∙◌}
-use mathlib.Core.Bool.{true, false, not, ◌&&◌}
+use mathlib.Core.Bool.{false, not, ◌&&◌}
 use mathlib.Core.List.{List}
 use Prim.Native.Nat.{ℕ, ◌+◌, ◌/◌, ◌%◌, ◌<◌}
 use native.Mathlib.Omega.{arith}
@@ -38,13 +38,6 @@ module _ {inputs n g : ℕ} {cells ps : List ℕ} (c : GateCells inputs n cells 
 
   held-gate : held ≡ c.gate
   held-gate = ap or_buf c.is
-
-  pub comb-plain : (form_at cells g ≡ flop_number → ⊥) → true ≡ is_plain held
-  comb-plain f = by c.gate (λ q. f (c.form ∙ q)) ∙ ap is_plain (sym held-gate)
-    where
-      by : (x : Gate) → (form_cell x ≡ flop_number → ⊥) → true ≡ is_plain x
-      by (Dff ff) q = absurd (q refl)
-      by (Comb f ps) q = refl
 
   -- cell i of a flip-flop's pins
   pin-is : (i : ℕ) → i < count_at cells g → get_or (pins c.gate) i (sig_of 0) ≡ sig_of (get_or ps (first_at cells g + i) 0)

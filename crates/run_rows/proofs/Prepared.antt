@@ -25,8 +25,8 @@ use Rattle.network.proofs.GateRead.{cell-gate}
 use Rattle.gate_bits.specs.Between.Slots.{slot_count}
 use Rattle.gate_bits.specs.Between.Tables.{kind_pad}
 use Rattle.gate_bits.proofs.SlotBits.{slot_at}
-use Rattle.run_rows.specs.Between.Steps.{LaidOut, IsFlop, Flops, Shown, Held, data_bit}
-use Rattle.run_rows.specs.Between.Asks.{Runnable, Workable, TakeRoom, PutRoom}
+use Rattle.run_rows.specs.Between.Steps.{LaidOut, IsFlop, Flops, Shown, data_bit}
+use Rattle.run_rows.specs.Between.Asks.{Runnable, TakeRoom, PutRoom}
 use Rattle.run_rows.proofs.PlainFlops.{flop-three}
 use Rattle.run_rows.proofs.Showing.{known-bit, valid-known}
 
@@ -51,17 +51,6 @@ module _ {inputs n : ℕ} {cells ps outs slots tables flops : List ℕ} {k : ℕ
 
   pub taken-tables : length (take n tables) ≡ n
   taken-tables = length-take-le n tables p.tables_long
-
-  pub prepared-workable : {held : ℕ → Bool} {bits : List Bool} → Held cells n held bits → Workable cells ps slots (take n tables) bits
-  prepared-workable h = record {
-    inputs = inputs;
-    gates = rw taken-tables p.runs.gates;
-    sorted = rw taken-tables p.runs.sorted;
-    laid = rw taken-tables p.laid;
-    room = rw taken-tables p.slots_long;
-    size = h.size;
-    const = h.const;
-  }
 
   -- the part of the list that is in use
   pub taken-flops : Flops cells n (take k flops) (length (take k flops))

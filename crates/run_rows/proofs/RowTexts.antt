@@ -15,7 +15,7 @@ use Rattle.lists.proofs.Tests.{and-true, below_next}
 use Rattle.lists.proofs.Places.{drop-next}
 use Rattle.lists.proofs.Over.{overwrite-is}
 use Rattle.lists.proofs.Laying.{Laying, laying-start, laying-next, laying-done}
-use Rattle.lists.proofs.Range.{Tested, tested-start, tested-next, tested-fails, tested-done}
+use Rattle.lists.proofs.Range.{Tested, tested-next, tested-fails, tested-done}
 use Rattle.signal.specs.Signal.{Const, Input, Var}
 use Rattle.gate_bits.specs.Between.Slots.{slot_count, bit_at, pin_bits, Shows}
 use Rattle.run_rows.specs.Rows.{digit, line_end, row_text, is_digit, digit_bit, row_of}
@@ -57,9 +57,6 @@ pub record Reading (line : Bytes) (bits bits' : List Bool) (i : ℕ) : Type 0 wh
   -- the gates' bits
   pub gates : (g : ℕ) {b : Bool} → g < 1024 → Shows bits (Var g) b → Shows bits' (Var g) b
 
-pub reading-start : {line : Bytes} {bits : List Bool} → Reading line bits bits 0
-reading-start = record { digits = tested-start; inputs = λ j l. absurd (omega arith); size = refl; const = λ s. s; gates = λ g l s. s }
-
 module _ {line : Bytes} {bits bits' : List Bool} {i : ℕ} (room : RowRoom line) (c : Reading line bits bits' i) where
   front_long : length (front line) ≡ length line - 1
   front_long = length-take-le (length line - 1) line (omega arith)
@@ -71,9 +68,9 @@ module _ {line : Bytes} {bits bits' : List Bool} {i : ℕ} (room : RowRoom line)
   read : {r : Bool} → RowTaken (row_of (length line - 1) line) bits' r → RowRead line bits bits' r
   read t = record { taken = t; size = c.size; const = c.const; gates = c.gates }
 
-  pub reading-next : length bits ≡ slot_count → i < length line - 1 → is_digit (get_or line i 0) ≡ true
+  reading-one : length bits ≡ slot_count → i < length line - 1 → is_digit (get_or line i 0) ≡ true
       → Reading line bits (put bits' (4094 - 2 * i) (digit_bit (get_or line i 0))) (i + 1)
-  reading-next l h t =
+  reading-one l h t =
       let b : Bool = digit_bit (get_or line i 0) in
       let slot : ℕ = 4094 - 2 * i in
       let few : i < 256 = omega (arith, room.few) in
@@ -89,20 +86,27 @@ module _ {line : Bytes} {bits bits' : List Bool} {i : ℕ} (room : RowRoom line)
         gates = λ g m s. input-keeps-gate bits' b i few place g m (c.gates g m s);
       }
 
-  pub reading-fails : i < length line - 1 → is_digit (get_or line i 0) ≡ false → RowRead line bits bits' false
+  pub reading-next : length bits ≡ slot_count → i < length (front line) → is_digit (get_or (front line) i 0) ≡ true
+      → Reading line bits (put bits' (4094 - 2 * i) (digit_bit (get_or (front line) i 0))) (i + 1)
+  reading-next l h t =
+      let k : i < length line - 1 = omega (arith, front_long) in
+      let e : get_or (front line) i 0 ≡ get_or line i 0 = front_at i k in
+      subst (λ (x : ℕ). Reading line bits (put bits' (4094 - 2 * i) (digit_bit x)) (i + 1)) (sym e) (reading-one l k (sym (ap is_digit e) ∙ t))
+
+  pub reading-fails : i < length (front line) → is_digit (get_or (front line) i 0) ≡ false → RowRead line bits bits' false
   reading-fails h t =
-      let f : false ≡ all is_digit (front line) = tested-fails 0 c.digits (omega (arith, front_long)) (ap is_digit (front_at i h) ∙ t) in
+      let f : false ≡ all is_digit (front line) = tested-fails 0 c.digits h t in
       read (rw (row_is line room.some_byte, ← f) refl)
 
-  pub reading-done : length line - 1 ≤ i → RowRead line bits bits' (eqb (last line) line_end)
+  pub reading-done : length (front line) ≤ i → RowRead line bits bits' (eqb (last line) line_end)
   reading-done h =
-      let t : true ≡ all is_digit (front line) = tested-done 0 c.digits (omega (arith, front_long)) in
+      let t : true ≡ all is_digit (front line) = tested-done 0 c.digits h in
       read (rw (row_is line room.some_byte, ← t) (taken (eqb (last line) line_end)))
     where
       shown : (j : ℕ) → j < length (map digit_bit (front line)) → Shows bits' (Input j) (get_or (map digit_bit (front line)) j false)
       shown j l =
           let m : j < length line - 1 = omega (arith, front_long, length-map (front line) digit_bit) in
-          subst (Shows bits' (Input j)) (sym (get_or-map digit_bit (front line) j 0 ∙ ap digit_bit (front_at j m))) (c.inputs j (omega arith))
+          subst (Shows bits' (Input j)) (sym (get_or-map digit_bit (front line) j 0 ∙ ap digit_bit (front_at j m))) (c.inputs j (omega (arith, front_long)))
 
       taken : (r : Bool) → RowTaken (if r then some (map digit_bit (front line)) else none) bits' r
       taken true = (refl, shown)
@@ -114,10 +118,6 @@ module _ {line : Bytes} {bits bits' : List Bool} {i : ℕ} (room : RowRoom line)
 pub digit-is : (b : Bool) → 48 + bool_byte b ≡ digit b
 digit-is true = refl
 digit-is false = refl
-
-pub digit_low : (b : Bool) → digit b ≤ 49
-digit_low true = omega arith
-digit_low false = omega arith
 
 -- the first i outputs' characters are written to the line, which was `old`
 pub record Writing (bits : List Bool) (outs old line : List ℕ) (i : ℕ) : Type 0 where
@@ -135,11 +135,16 @@ module _ {bits : List Bool} {outs old : List ℕ} where
     writing-next h e =
         record { within = omega arith; laying = laying-next c.laying (rw (drop-next outs i 0 h, e)) refl }
 
-    pub writing-done : length old ≡ suc (length outs) → length outs ≤ i → set line i line_end ≡ row_text (pin_bits bits outs)
-    writing-done l h =
+    writing-end : length old ≡ suc (length outs) → length outs ≤ i → set line i line_end ≡ row_text (pin_bits bits outs)
+    writing-end l h =
         let text = row_text (pin_bits bits outs) in
         let long : length text ≡ length old = simp (length-append, length-map) (omega arith) in
         let full : length old ≤ length text = omega arith in
         laying-done (laying-next c.laying {more = []} (rw (drop_of_length-le outs h)) refl) refl
         ∙ overwrite-is text old (omega arith)
         ∙ rw (drop_of_length-le old full, append-nil)
+
+    pub writing-done : length old ≡ suc (length outs) → length outs ≤ i → set line (length outs) line_end ≡ row_text (pin_bits bits outs)
+    writing-done l h =
+        let e : length outs ≡ i = omega (arith, c.within) in
+        ap (λ (k : ℕ). set line k line_end) e ∙ writing-end l h

@@ -38,13 +38,6 @@ module _ {line : Bytes} {bits bits' : List Bool} {r : Bool} (read : RowRead line
     gates = λ g k. read.gates g (h.few_gates g k) (h.gates g k);
   }
 
-  pub row-refused : {cells ps : List ℕ} {n : ℕ} → r ≡ false → RowSettled cells ps n line bits bits' false
-  row-refused {cells} {ps} {n} e = record { told = by (row_of (length line - 1) line) read.taken }
-    where
-      by : (o : Option (List Bool)) → RowTaken o bits' r → SettledFor cells ps n o bits bits' false
-      by none t = refl
-      by (some row) t = absurd (true≢false (sym t.0 ∙ e))
-
   pub row_settled : {cells ps : List ℕ} {n : ℕ} {bits'' : List Bool} → RowRoom line → r ≡ true → WorkedOut cells ps n bits' bits''
       → RowSettled cells ps n line bits bits'' true
   row_settled {cells} {ps} {n} {bits''} room e w = record {

@@ -2,13 +2,11 @@
 use mathlib.Core.Path.{◌≡◌, sym, ap, ◌∙◌}
 use mathlib.Core.Bool.{Bool, false}
 use mathlib.Core.List.{List}
-use mathlib.Core.Logic.{inl, inr}
-use Prim.Native.Nat.{ℕ, ◌+◌, ◌*◌, ◌≤◌, ◌<◌}
+use Prim.Native.Nat.{ℕ, ◌<◌}
 use native.Mathlib.Omega.{arith}
 use lib.Dec.{eqb}
 use lib.ListN.{length}
 use Rattle.lists.specs.Lists.{optional}
-use Rattle.lists.proofs.Tests.{by_order}
 use Rattle.signal.specs.Signal.{Const}
 use Rattle.gates.specs.Gate.{start_bit}
 use Rattle.gates.proofs.Forms.{bit-again}
@@ -20,7 +18,7 @@ use Rattle.network.proofs.GateRead.{cell-gate}
 use Rattle.gate_bits.specs.Between.Slots.{slot_count}
 use Rattle.gate_bits.proofs.SlotBits.{put-here}
 use Rattle.run_rows.specs.Between.Steps.{Started, Held}
-use Rattle.run_rows.proofs.Showing.{put, length-put, shown-more, shown-as, shown-fewer}
+use Rattle.run_rows.proofs.Showing.{put, length-put, shown-as}
 
 -- the constant's bit is put, and no gate's yet
 pub started_none : {cells : List ℕ} (bits : List Bool) → length bits ≡ slot_count → Started cells 0 (put bits 0 false)
@@ -37,16 +35,6 @@ started_none bits l = record {
 }
 
 module _ {cells : List ℕ} {n : ℕ} {bits : List Bool} (s : Started cells n bits) where
-  -- one gate more
-  pub started-next : {slot start : ℕ} → n < 1024 → slot ≡ 2 * (n + 1) → start ≡ start_at cells n → Started cells (n + 1) (put bits slot (eqb start 1))
-  started-next few at e = record {
-    shown = shown-more s.shown n few at (ap (λ (v : ℕ). eqb v 1) e) (λ h l. by_order n h (λ o. inr (omega arith)) (λ o. inl o));
-  }
-
-  -- the gates up to n
-  pub started-done : {m : ℕ} → m ≤ n → Started cells m bits
-  started-done h = record { shown = shown-fewer s.shown (λ g l. omega arith) }
-
   -- the flip-flops hold the network's start values
   pub started-held : {inputs : ℕ} {ps : List ℕ} (outs : List ℕ) → NetCells inputs n cells ps → Held cells n (start_bits (cell_net inputs cells ps n outs)) bits
   started-held {inputs} {ps} outs net = shown-as s.shown (λ g f. f.below) (λ g f. start_is g f.below)

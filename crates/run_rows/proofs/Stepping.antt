@@ -1,12 +1,11 @@
 -- Laws for a step of the flip-flops: their next bits are taken one after the other, then put one after the other. Assumes nothing.
-use mathlib.Core.Path.{◌≡◌, refl, sym, ap, ◌∙◌, subst}
+use mathlib.Core.Path.{◌≡◌, sym, ap, ◌∙◌, subst}
 use mathlib.Core.Bool.{Bool, false}
 use mathlib.Core.List.{List}
 use Prim.Native.Nat.{ℕ, ◌+◌, ◌*◌, ◌≤◌, ◌<◌}
 use native.Mathlib.Omega.{arith}
 use native.Mathlib.Decide.{ℕ_discrete}
-use lib.ListN.{length, get_or, set, length-set}
-use lib.Seq.{get_or-set_same, get_or-set_other}
+use lib.ListN.{length, get_or}
 use Rattle.lists.proofs.Tests.{by_order}
 use Rattle.signal.specs.Signal.{Const, Var}
 use Rattle.gate_bits.specs.Between.Slots.{slot_count, Shows}
@@ -22,24 +21,6 @@ pub record Taking (flops slots : List ℕ) (bits next₀ next : List Bool) (i : 
   pub long : length next ≡ length next₀
   -- each bit
   pub each : (j : ℕ) → j < i → get_or next j false ≡ data_bit slots bits (get_or flops j 0)
-
-module _ {flops slots : List ℕ} {bits next₀ : List Bool} where
-  pub taking-start : Taking flops slots bits next₀ next₀ 0
-  taking-start = record { long = refl; each = λ j l. absurd (omega arith) }
-
-  pub taking-next : {next : List Bool} {i : ℕ} → Taking flops slots bits next₀ next i → i < length next₀
-      → Taking flops slots bits next₀ (set next i (data_bit slots bits (get_or flops i 0))) (i + 1)
-  taking-next {next} {i} t h =
-      let b : Bool = data_bit slots bits (get_or flops i 0) in
-      record {
-        long = length-set next i b ∙ t.long;
-        each = λ j l.
-            by_order i j (λ o. let e : j ≡ i = omega arith in rw e (get_or-set_same next i b false (omega (arith, t.long))))
-            (λ o. get_or-set_other next i j b false (λ e. omega arith) ∙ t.each j o);
-      }
-
-  pub taking-done : {next : List Bool} {i : ℕ} → length flops ≤ i → Taking flops slots bits next₀ next i → DataTaken flops slots bits next
-  taking-done h t = record { each = λ j l. t.each j (omega arith) }
 
 -- ---- putting
 

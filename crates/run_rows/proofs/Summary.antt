@@ -6,6 +6,7 @@
 --   rows_take        how many bytes the output rows take
 --   ran-text         the bytes up to the length are their text
 --   ran-rows         the rows written are, clock by clock, the only ones that document 01's clock allows
+use Rattle.std.specs.Prelude.{Ok, Err}
 use mathlib.Core.Path.{◌≡◌, refl, sym, ap, ◌∙◌}
 use mathlib.Core.Bool.{Bool}
 use mathlib.Core.List.{List}
@@ -28,7 +29,6 @@ use Rattle.network.proofs.Lent.{network-laid}
 use Rattle.run_rows.specs.Rows.{rows_text, rows_of, Wide}
 use Rattle.run_rows.specs.Into.{RunOutcome, ran_rows, run_into}
 use Rattle.run_rows.specs.Ran.{RunsFor, RanFor}
-use Rattle.run_rows.specs.declared.RunAnswer.TheVariants.{Ran, Refused}
 use Rattle.run_rows.proofs.RowsOf.{rows_are, length-outputs}
 use Rattle.run_rows.proofs.Outcomes as outcomes
 
@@ -41,11 +41,11 @@ pub runs-answer : (l : Lent) (t : Bytes) (n : ℕ) (f : RunsFor l t n) → run_i
 runs-answer = outcomes.runs-answer
 
 -- and a length is answered nowhere else
-pub length-answered : (l : Lent) (t : Bytes) (n k : ℕ) → (run_into l t n).answer ≡ Ran k → RunsFor l t n
+pub length-answered : (l : Lent) (t : Bytes) (n k : ℕ) → (run_into l t n).answer ≡ Ok k → RunsFor l t n
 length-answered = outcomes.length-answered
 
 -- every other answer is a refusal by 20, 29, 30 or 31, and "A refusal zeroes the output rows"
-pub running-refuses : (l : Lent) (t : Bytes) (n : ℕ) (r : Refusal) → (run_into l t n).answer ≡ Refused r → InRunning r × ((run_into l t n).out ≡ zeros n)
+pub running-refuses : (l : Lent) (t : Bytes) (n : ℕ) (r : Refusal) → (run_into l t n).answer ≡ Err r → InRunning r × ((run_into l t n).out ≡ zeros n)
 running-refuses = outcomes.running-refuses
 
 -- the bytes that the output rows take: for each row one for each output and an LF

@@ -1,7 +1,7 @@
 -- What `run_rows` answers and leaves in the output slice (document 02, CR 1: "Try a sequence on the netlist"). Assumes nothing: these are
 -- definitions.
 --   run_into l t n   of the network l and the rows' text t, into n bytes
-use Rattle.std.specs.Prelude.{Bool, not, List, ℕ, ltb, length, if◌then◌else◌}
+use Rattle.std.specs.Prelude.{Bool, not, List, ℕ, ltb, length, if◌then◌else◌, Result, Ok, Err}
 use Rattle.std.proofs.Math.Option.{Option, none, some}
 use Rattle.lists.specs.Lists.{Bytes, all, zeros, overwrite}
 use Rattle.refusals.specs.declared.Refusal.{Refusal}
@@ -11,27 +11,25 @@ use Rattle.network.specs.Net.{Net, topo_sorted}
 use Rattle.network.specs.Settle.{run}
 use Rattle.network.specs.Cells.{Lent, net_of, is_network}
 use Rattle.run_rows.specs.Rows.{rows_text, rows_of}
-use Rattle.run_rows.specs.declared.RunAnswer.{RunAnswer}
-use Rattle.run_rows.specs.declared.RunAnswer.TheVariants.{Ran, Refused}
 
 -- an answer, and what the output slice holds then
 pub record RunOutcome : Type 0 where
   -- what was answered: the length of the rows written, or a refusal
-  pub answer : RunAnswer
+  pub answer : Result ℕ Refusal
   -- the bytes of the output slice
   pub out : Bytes
 
 -- the same, from its parts
-abbrev pub run_outcome : RunAnswer → Bytes → RunOutcome
+abbrev pub run_outcome : Result ℕ Refusal → Bytes → RunOutcome
 run_outcome a o = record { answer = a; out = o }
 
 -- "A refusal zeroes the output rows"
 abbrev pub refused_run : Refusal → ℕ → RunOutcome
-refused_run r n = run_outcome (Refused r) (zeros n)
+refused_run r n = run_outcome (Err r) (zeros n)
 
 -- "Success gives the length, with zero bytes after it"
 abbrev pub ran_rows : Bytes → ℕ → RunOutcome
-ran_rows t n = run_outcome (Ran (length t)) (overwrite t (zeros n))
+ran_rows t n = run_outcome (Ok (length t)) (overwrite t (zeros n))
 
 -- the rows of outputs, where they fit: "31 when .. the output rows do not fit"
 abbrev pub output_rows : Bytes → ℕ → RunOutcome

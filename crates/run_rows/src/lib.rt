@@ -25,13 +25,6 @@ use network::{
 };
 use refusals::Refusal;
 
-// What a run answers: the length of the rows written, or why it is refused.
-#[derive(Clone, Copy)]
-pub enum RunAnswer {
-    Ran(usize),
-    Refused(Refusal),
-}
-
 // ---- 30
 
 // Whether gate g is no flip-flop, or one whose enable is the signal 1 and whose reset is the signal 0.
@@ -39,14 +32,12 @@ fn is_plain(gates: &[u32], pins: &[u32], g: usize) -> bool
     requires { (i : ℕ) × (n : ℕ) × GateCells i n gates.now pins.now g }
     ensures { result ≡ is_plain (or_buf (gate_at gates.now pins.now g)) }
 {
-    if form_at(gates, g) != DFF {
-        return true;
+    if form_at(gates, g) == DFF {
+        let first = first_at(gates, g);
+        pins[first + 1] == 1 && pins[first + 2] == 0
+    } else {
+        true
     }
-    let first = first_at(gates, g);
-    if pins[first + 1] != 1 {
-        return false;
-    }
-    pins[first + 2] == 0
 }
 
 // Whether the same holds of each of n gates.
@@ -54,12 +45,10 @@ fn all_plain(gates: &[u32], pins: &[u32], n: usize) -> bool
     requires { (i : ℕ) × NetCells i n gates.now pins.now }
     ensures { result ≡ all is_plain (cell_gates gates.now pins.now 0 n) }
 {
-    let mut g = 0;
-    while g < n {
+    for g in 0..n {
         if !is_plain(gates, pins, g) {
             return false;
         }
-        g += 1;
     }
     true
 }
@@ -88,10 +77,8 @@ fn lay_tables(gates: &[u32], pins: &[u32], slots: &mut [u16], tables: &mut [u64]
     requires tables_in_bounds { length tables.old * 6 ≤ length slots.old }
     ensures { LaidOut gates.now pins.now (length tables.new) slots.new tables.new }
 {
-    let mut g = 0;
-    while g < tables.len() {
+    for g in 0..tables.len() {
         lay_table(gates, pins, g, slots, tables);
-        g += 1;
     }
 }
 
@@ -101,13 +88,11 @@ fn list_flops(gates: &[u32], n: usize, flops: &mut [u16]) -> usize
     ensures { Flops gates.now n flops.new result }
 {
     let mut k = 0;
-    let mut g = 0;
-    while g < n {
+    for g in 0..n {
         if form_at(gates, g) == DFF {
             flops[k] = g as u16;
             k += 1;
         }
-        g += 1;
     }
     k
 }
@@ -120,10 +105,8 @@ fn start_bits(gates: &[u32], n: usize, bits: &mut [bool])
     ensures { Started gates.now n bits.new }
 {
     put_bit(bits, 0, false);
-    let mut g = 0;
-    while g < n {
+    for g in 0..n {
         put_bit(bits, 2 * g + 2, start_at(gates, g) == 1);
-        g += 1;
     }
 }
 
@@ -131,10 +114,7 @@ fn start_bits(gates: &[u32], n: usize, bits: &mut [bool])
 fn is_digit(c: u8) -> bool
     ensures { result ≡ is_digit c }
 {
-    if c == b'0' {
-        return true;
-    }
-    c == b'1'
+    matches!(c, b'0' | b'1')
 }
 
 // Takes the inputs' bits from a row; answers whether it has a character 0 or 1 for each, and an LF.
@@ -144,14 +124,11 @@ fn read_row(row: &[u8], bits: &mut [bool]) -> bool
     ensures { RowRead row.now bits.old bits.new result }
 {
     let inputs = row.len() - 1;
-    let mut i = 0;
-    while i < inputs {
-        let c = row[i];
-        if !is_digit(c) {
+    for (i, c) in row[..inputs].iter().enumerate() {
+        if !is_digit(*c) {
             return false;
         }
-        put_bit(bits, 4094 - 2 * i, c == b'1');
-        i += 1;
+        put_bit(bits, 4094 - 2 * i, *c == b'1');
     }
     row[inputs] == b'\n'
 }
@@ -170,10 +147,11 @@ fn gate_bit(
         (pin_bits bits.now (run_at gates.now pins.now g)) }
 {
     if count_at(gates, g) > TABLE_INPUTS {
-        return wide_bit(kind_of(form_at(gates, g)), bits, gate_pins(gates, pins, g));
+        wide_bit(kind_of(form_at(gates, g)), bits, gate_pins(gates, pins, g))
+    } else {
+        let at = g * TABLE_INPUTS;
+        table_bit(bits, &slots[at..at + TABLE_INPUTS], tables[g])
     }
-    let at = g * TABLE_INPUTS;
-    table_bit(bits, &slots[at..at + TABLE_INPUTS], tables[g])
 }
 
 // Works out the combinational gates' bits, one after the other: the inputs of each stand before it.
@@ -182,13 +160,11 @@ fn work_out(gates: &[u32], pins: &[u32], slots: &[u16], tables: &[u64], bits: &m
     ensures { WorkedOut gates.now pins.now (length tables.now)
         bits.old bits.new }
 {
-    let mut g = 0;
-    while g < tables.len() {
+    for g in 0..tables.len() {
         if form_at(gates, g) != DFF {
             let b = gate_bit(gates, pins, g, slots, tables, bits);
             put_bit(bits, 2 * g + 2, b);
         }
-        g += 1;
     }
 }
 
@@ -206,11 +182,12 @@ fn settle_row(
     ensures { RowSettled gates.now pins.now (length tables.now) row.now
         bits.old bits.new result }
 {
-    if !read_row(row, bits) {
-        return false;
+    if read_row(row, bits) {
+        work_out(gates, pins, slots, tables, bits);
+        true
+    } else {
+        false
     }
-    work_out(gates, pins, slots, tables, bits);
-    true
 }
 
 // Writes the outputs' bits as a row.
@@ -218,12 +195,10 @@ fn write_row(outputs: &[u32], bits: &[bool], line: &mut [u8])
     requires { LineRoom outputs.now bits.now line.old }
     ensures { line.new ≡ row_text (pin_bits bits.now outputs.now) }
 {
-    let mut i = 0;
-    while i < outputs.len() {
-        line[i] = b'0' + signal_bit(bits, outputs[i]) as u8;
-        i += 1;
+    for (i, output) in outputs.iter().enumerate() {
+        line[i] = b'0' + signal_bit(bits, *output) as u8;
     }
-    line[i] = b'\n';
+    line[outputs.len()] = b'\n';
 }
 
 // The bits that the flip-flops take: those of their data.
@@ -231,10 +206,8 @@ fn take_data(flops: &[u16], slots: &[u16], bits: &[bool], next: &mut [bool])
     requires { TakeRoom flops.now slots.now bits.now next.old }
     ensures { DataTaken flops.now slots.now bits.now next.new }
 {
-    let mut i = 0;
-    while i < flops.len() {
-        next[i] = bits[slots[flops[i] as usize * TABLE_INPUTS] as usize];
-        i += 1;
+    for (i, flop) in flops.iter().enumerate() {
+        next[i] = bits[slots[*flop as usize * TABLE_INPUTS] as usize];
     }
 }
 
@@ -243,10 +216,8 @@ fn put_held(flops: &[u16], next: &[bool], bits: &mut [bool])
     requires { PutRoom flops.now next.now bits.old }
     ensures { HeldPut flops.now next.now bits.old bits.new }
 {
-    let mut i = 0;
-    while i < flops.len() {
-        put_bit(bits, 2 * flops[i] as usize + 2, next[i]);
-        i += 1;
+    for (i, flop) in flops.iter().enumerate() {
+        put_bit(bits, 2 * *flop as usize + 2, next[i]);
     }
 }
 
@@ -268,18 +239,15 @@ fn rows_fit(rows: usize, width: usize, line: usize, room: usize) -> bool
     requires line_nonzero { 0 < line }
     ensures { result ≡ (eqb (rows % width) 0 && leb (rows / width) (room / line)) }
 {
-    if rows % width != 0 {
-        return false;
-    }
-    rows / width <= room / line
+    rows % width == 0 && rows / width <= room / line
 }
 
 // Clears the output rows and refuses.
-fn refuse(out: &mut [u8], refusal: Refusal) -> RunAnswer
+fn refuse(out: &mut [u8], refusal: Refusal) -> Result<usize, Refusal>
     ensures { RunRefused refusal (length out.old) result out.new }
 {
     fill_zero_bytes(out);
-    RunAnswer::Refused(refusal)
+    Err(refusal)
 }
 
 // Runs a sorted network with plain flip-flops for whole rows, from the start values. Answers whether each row was one.
@@ -332,7 +300,7 @@ fn run_fitting(
     outputs: &[u32],
     rows: &[u8],
     out: &mut [u8],
-) -> RunAnswer
+) -> Result<usize, Refusal>
     requires outputs_in_bounds { counts.outputs ≤ length outputs.now }
     requires runnable { Runnable counts.inputs counts.gates gates.now pins.now (take counts.outputs outputs.now) }
     ensures { run_outcome result out.new
@@ -349,7 +317,7 @@ fn run_fitting(
         return refuse(out, Refusal::WrongRows);
     }
     fill_zero_bytes(&mut out[end..]);
-    RunAnswer::Ran(end)
+    Ok(end)
 }
 
 // Runs the lent network for the rows from the start values, and writes a row of outputs for each.
@@ -360,7 +328,7 @@ pub fn run_rows(
     outputs: &[u32],
     rows: &[u8],
     out: &mut [u8],
-) -> RunAnswer
+) -> Result<usize, Refusal>
     ensures { run_outcome result out.new
         ≡ run_into (lent counts gates.now pins.now outputs.now) rows.now (length out.old) }
 {

@@ -1,15 +1,12 @@
 -- Cells and signals, there and back: every 32-bit number is the cell of exactly one signal. Assumes nothing.
-use Rattle.std.proofs.Common.{◌≡◌, ℕ, ◌+◌, ◌-◌, ◌*◌, ◌/◌, ◌%◌, ◌^◌, ◌<◌, ◌≤◌, Bool, true, false, not, eqb, ltb, List, [], ◌∷◌, map, sym, refl, ap, ◌∙◌, subst, ap₂, arith, le-ltb, lt-ltb, eq-eqb, ne_eqb}
+use Rattle.std.proofs.Common.{◌≡◌, ℕ, ◌+◌, ◌-◌, ◌*◌, ◌/◌, ◌%◌, ◌^◌, ◌<◌, ◌≤◌, Bool, true, false, not, eqb, List, [], ◌∷◌, map, sym, refl, ap, ◌∙◌, subst, ap₂, arith, le-ltb, lt-ltb, eq-eqb, ne_eqb}
 use mathlib.Core.Bool.{false≢true}
 use mathlib.Core.List.{Memᴰ}
-use lib.Bits.{bit_xor, xor_zero_r}
-use mir.Val.{bool_byte}
 use Rattle.lists.proofs.Tests.{by_order}
-use Rattle.signal.specs.Signal.{Node, Const, Input, Var, Signal, plain, xor_s, invert, const_node}
+use Rattle.signal.specs.Signal.{Node, Const, Input, Var, Signal, plain, const_node}
 use Rattle.signal.specs.Between.Signal.{input_node, gate_node}
 use Rattle.signal.specs.Cell.{bit_of, node_cell, sig_cell, node_of, sig_of}
 use Rattle.signal.specs.Between.Cell.{gate_cell, input_cell, gate_number, input_number}
-use Rattle.signal.proofs.Bits.{xor-one}
 
 -- the numbers that a cell has room for: 2^30 − 1 gates and 2^30 inputs
 abbrev pub Small : Node → Type 0
@@ -50,10 +47,6 @@ inv-bit c =
 -- every 32-bit number is the cell of its signal
 pub cell-again : (c : ℕ) → c < 2 ^ 32 → sig_cell (sig_of c) ≡ c
 cell-again c l = omega (arith, node-cell c l, inv-bit c)
-
--- without inversion it is the even number below
-pub plain_cell : (c : ℕ) → c < 2 ^ 32 → c / 2 * 2 ≡ sig_cell (plain (node_of c))
-plain_cell c l = omega (arith, node-cell c l)
 
 -- the numbers of a 32-bit number's signal have room in a cell
 pub small-node : (c : ℕ) → c < 2 ^ 32 → Small (node_of c)
@@ -152,31 +145,6 @@ const-test c = go (kind c)
     go (gate h k e) = ne_eqb (c / 2) 0 (λ z. omega arith) ∙ sym (ap const_node e)
     go (input h e) = ne_eqb (c / 2) 0 (λ z. omega arith) ∙ sym (ap const_node e)
 
-pub input-test : (c : ℕ) → not (ltb c (2 ^ 31)) ≡ input_node (node_of c)
-input-test c = go (kind c)
-  where
-    go : Kind c → not (ltb c (2 ^ 31)) ≡ input_node (node_of c)
-    go (const h e) = ap not (lt-ltb c (2 ^ 31) (omega arith)) ∙ sym (ap input_node e)
-    go (gate h k e) = ap not (lt-ltb c (2 ^ 31) k) ∙ sym (ap input_node e)
-    go (input h e) = ap not (le-ltb c (2 ^ 31) h) ∙ sym (ap input_node e)
-
--- a gate is neither an input nor a constant
-pub gate-not-input : {r : Bool} (c : ℕ) → r ≡ input_node (node_of c) → r ≡ true → false ≡ gate_node (node_of c)
-gate-not-input c p q = go (node_of c) (sym p ∙ q)
-  where
-    go : (n : Node) → input_node n ≡ true → false ≡ gate_node n
-    go Const e = refl
-    go (Input i) e = refl
-    go (Var g) e = e
-
-pub gate-test : {r s : Bool} (c : ℕ) → r ≡ input_node (node_of c) → r ≡ false → s ≡ const_node (node_of c) → not s ≡ gate_node (node_of c)
-gate-test c p q t = ap not t ∙ go (node_of c) (sym p ∙ q)
-  where
-    go : (n : Node) → input_node n ≡ false → not (const_node n) ≡ gate_node n
-    go Const e = refl
-    go (Input i) e = e
-    go (Var g) e = refl
-
 -- ---- numbers
 
 -- the number of a gate's cell is its gate's
@@ -210,10 +178,3 @@ turn-bit c =
     by_order (c % 2) 0
     (λ h. ap (λ (b : Bool). bit_of (not b)) (ne_eqb (c % 2) 1 (λ e. omega arith)) ∙ omega arith)
     (λ h. ap (λ (b : Bool). bit_of (not b)) (eq-eqb (c % 2) 1 (omega arith)) ∙ omega arith)
-
-pub turn-cell : (c : ℕ) → c < 2 ^ 32 → bit_xor c 1 ≡ sig_cell (invert (sig_of c))
-turn-cell c l = omega (arith, xor-one c, node-cell c l, turn-bit c)
-
-pub xor-cell : (b : Bool) (c : ℕ) → c < 2 ^ 32 → bit_xor c (bool_byte b) ≡ sig_cell (xor_s (sig_of c) b)
-xor-cell true c l = turn-cell c l
-xor-cell false c l = xor_zero_r c ∙ sym (cell-again c l)

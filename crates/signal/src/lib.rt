@@ -88,10 +88,7 @@ impl Signal {
     pub fn is_var(self) -> bool
         ensures { result ≡ gate_node (node_of self.a) }
     {
-        if self.is_input() {
-            return false;
-        }
-        !self.is_constant()
+        !self.is_input() && !self.is_constant()
     }
 
     // The signal with its inversion cleared.
@@ -122,12 +119,10 @@ impl Signal {
         if !self.is_var() {
             return self;
         }
-        let v = self.var() as usize;
-        if v >= t.len() {
-            return self;
+        match t.get(self.var() as usize) {
+            Some(v) => Self::from_var(u32::from(*v)).xor(self.is_inverted()),
+            None => self,
         }
-        let to = Self::from_var(t[v] as u32);
-        to.xor(self.is_inverted())
     }
 
     // The signal inverted.

@@ -1,4 +1,5 @@
 -- What the moved cells hold is the sorted network. Assumes nothing.
+use Rattle.std.specs.Prelude.{Some, None}
 use mathlib.Core.Path.{◌≡◌, refl, sym, ap, ap₂, ◌∙◌, subst}
 use mathlib.Core.Bool.{Bool, true, false}
 use mathlib.Core.List.{List, [], ◌∷◌, ◌++◌, map, Memᴰ}
@@ -15,8 +16,7 @@ use Rattle.signal.specs.Signal.{Node, Const, Input, Var, Signal, remap}
 use Rattle.signal.specs.Cell.{sig_cell, node_of, sig_of}
 use Rattle.signal.specs.Between.Cell.{remap_cell}
 use Rattle.signal.proofs.Remap.{Renames, remap-cell}
-use Rattle.gates.specs.Gate.{Buf, Gate, Comb, Dff, pins}
-use Rattle.gates.specs.Forms.{form_cell}
+use Rattle.gates.specs.Gate.{Buf, Gate, Comb, pins}
 use Rattle.network.specs.declared.Counts.{Counts}
 use Rattle.network.specs.Net.{Net, GateIs, ValidNode}
 use Rattle.network.specs.Cells.{lent, net_of}
@@ -27,7 +27,6 @@ use Rattle.network.specs.Renumber.{remap_gate, place_of, gate_or, permuted}
 use Rattle.network.proofs.PinCells.{pins-next}
 use Rattle.network.proofs.Permuting.{place-of}
 use Rattle.network.proofs.Renumbering.{pins-remap}
-use Rattle.sort.specs.declared.Sorted.TheVariants.{Order, Loop}
 use Rattle.sort_order.specs.Order.{sort_order}
 use Rattle.sort_order.specs.Sorted.{graph, sorted}
 use Rattle.sort.specs.Between.Into.{sort_outcome, sort_into}
@@ -46,10 +45,6 @@ WordCells l = (i : ℕ) → get_or l i 0 < 2 ^ 32
 -- a run of 32-bit cells has such cells
 word-run : (j k : ℕ) (l : List ℕ) → WordCells l → (c : ℕ) → Memᴰ c (take k (drop j l)) → c < 2 ^ 32
 word-run j k l w = run-get_or 0 (λ x. x < 2 ^ 32) j k l w
-
-form-remap : (π : ℕ → ℕ) (x : Gate) → form_cell (remap_gate π x) ≡ form_cell x
-form-remap π (Comb f ps) = refl
-form-remap π (Dff s) = refl
 
 -- ---- what `find_order` asks and answers, lent the first n of the cells z
 
@@ -70,7 +65,7 @@ module _ (gs ps z : List ℕ) (n : ℕ) (few : n ≤ length z) where
 -- ---- where there is no order, nothing is written
 
 pub ends-loop : (n : Counts) (gs ps os ng np : List ℕ) → none ≡ sort_order (cell_graph gs ps n.gates) → {a b : ℕ} → Sortable (lent n gs ps os) a b
-    → sort_outcome Loop ng np os ≡ sort_into (sorted (net_of (lent n gs ps os))) ng np os
+    → sort_outcome None ng np os ≡ sort_into (sorted (net_of (lent n gs ps os))) ng np os
 unfolding sort_into
 ends-loop n gs ps os ng np e s =
     let net = net_of (lent n gs ps os) in
@@ -214,7 +209,7 @@ module _ (n : Counts) (gs ps os : List ℕ) {a b : ℕ} (s : Sortable (lent n gs
   -- ---- all cells
 
   pub ends-sorted : {ng np os' ng' np' : List ℕ} {r : ℕ} → WordCells ps → WordCells os → RenumberedCells gs ps l n.outputs os ng np os' ng' np' r
-      → sort_outcome (Order r) ng' np' os' ≡ sort_into (sorted net) ng np os
+      → sort_outcome (Some r) ng' np' os' ≡ sort_into (sorted net) ng np os
   unfolding sort_into
   ends-sorted {ng} {np} {os'} {ng'} {np'} {r} wp wo d =
       let t = d.table in
@@ -223,4 +218,4 @@ module _ (n : Counts) (gs ps os : List ℕ) {a b : ℕ} (s : Sortable (lent n gs
       let p2 : ng' ≡ overwrite (gate_cells 0 (permuted l net).gates) ng = d.moved.records ∙ ap (λ (y : List ℕ). overwrite y ng) (records-are t d.tabled 0 l mem_below) in
       let p3 : np' ≡ overwrite (pin_cells (permuted l net).gates) np = d.moved.runs ∙ ap (λ (y : List ℕ). overwrite y np) (runs-are t d.tabled wp l mem_below) in
       let p4 : os' ≡ overwrite (map sig_cell (permuted l net).outputs) os = d.outputs ∙ ap (λ (y : List ℕ). overwrite y os) (outs-renamed t d.tabled wo) in
-      (λ i. sort_outcome (Order (p1 i)) (p2 i) (p3 i) (p4 i)) ∙ ap (λ (y : Option Net). sort_into y ng np os) (sym q)
+      (λ i. sort_outcome (Some (p1 i)) (p2 i) (p3 i) (p4 i)) ∙ ap (λ (y : Option Net). sort_into y ng np os) (sym q)

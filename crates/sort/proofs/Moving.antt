@@ -1,21 +1,19 @@
 -- The translation table, and gates, pins and outputs moved by it. Assumes nothing.
 use mathlib.Core.Path.{◌≡◌, refl, sym, ap, ◌∙◌}
-use mathlib.Core.List.{List, [], ◌∷◌, map}
+use mathlib.Core.List.{List, [], ◌∷◌, ◌++◌, map}
 use Prim.Native.Nat.{ℕ, suc, ◌+◌, ◌*◌, ◌≤◌, ◌<◌}
 use native.Mathlib.Omega.{arith}
 use native.Mathlib.Nat.{zero-add}
-use lib.ListN.{length, get_or, take, drop, set, length-set, length-map, drop_of_length-le}
-use lib.Seq.{get_or-set_same, get_or-set_other, get_or-take, length-take-le}
+use lib.ListN.{length, get_or, take, drop, set, length-set, length-map, take-append-drop, drop_of_length-le}
+use lib.Seq.{get_or-set_other}
 use Rattle.lists.specs.Lists.{overwrite}
 use Rattle.lists.specs.Between.Lists.{overwrite_at}
 use Rattle.lists.proofs.Places.{drop-next}
-use Rattle.lists.proofs.Tests.{below_next}
 use Rattle.signal.specs.Between.Cell.{remap_cell}
-use Rattle.network.specs.Sizes.{max_gates}
 use Rattle.network.specs.Record.{gate_width, run_at}
 use Rattle.network.specs.Between.Record.{record_at, with_first}
 use Rattle.network.proofs.RecordCells.{record-in, length-record_at}
-use Rattle.sort.specs.Between.Steps.{Numbers, PlacesTable, moved_gates, moved_pins, pins_in, RoomFor, GateMoved, Movable, Moved}
+use Rattle.sort.specs.Between.Steps.{PlacesTable, moved_gates, moved_pins, pins_in, RoomFor, GateMoved, Movable, Moved}
 use Rattle.lists.proofs.OverAt.{length-overwrite_at, overwrite_at-nil, overwrite-first, overwrite-append}
 
 -- ---- the translation table
@@ -24,29 +22,6 @@ use Rattle.lists.proofs.OverAt.{length-overwrite_at, overwrite_at-nil, overwrite
 pub record Tabling (o t : List ℕ) (i : ℕ) : Type 0 where
   pub within : i ≤ length o
   pub tabled : PlacesTable o i t
-
-pub tabling-start : {o t : List ℕ} → length t ≡ max_gates → Tabling o t 0
-tabling-start e = record { within = omega arith; tabled = record { long = e; each = λ i h. absurd (omega arith) } }
-
-pub tabling-next : {o t : List ℕ} {i g x : ℕ} → Numbers o → i < length o → g ≡ get_or o i 0 → x ≡ i → Tabling o t i → Tabling o (set t g x) (i + 1)
-tabling-next {o} {t} {i} {g} {x} n l e q h =
-    let b : g < length t = omega (arith, n.below i l, h.tabled.long) in
-    record {
-      within = omega arith;
-      tabled =
-          record {
-            long = length-set t g x ∙ h.tabled.long;
-            each =
-                below_next (λ k. get_or (set t g x) (get_or o k 0) 0 ≡ k) i
-                (λ j w.
-                let ne : get_or o j 0 ≡ g → ⊥ = λ z. let s : j ≡ i = n.distinct j i (omega arith) l (z ∙ e) in omega arith in
-                get_or-set_other t g (get_or o j 0) x 0 ne ∙ h.tabled.each j w)
-                (ap (λ (k : ℕ). get_or (set t g x) k 0) (sym e) ∙ get_or-set_same t g x 0 b ∙ q);
-          };
-    }
-
-pub tabling-done : {o t : List ℕ} {i : ℕ} → length o ≤ i → Tabling o t i → PlacesTable o (length o) t
-tabling-done {o} {t} {i} l h = let e : i ≡ length o = omega (arith, h.within) in rw e at h.tabled
 
 -- ---- a run of pins
 
@@ -148,27 +123,27 @@ moving-done {gates} {pins} {t} {o} {ng₀} {np₀} {ng} {np} {at} {i} l h =
 
 -- ---- outputs
 
--- the first n are copied onto themselves, renamed; the cells from here on are as they were
-pub record Renaming (f : ℕ → ℕ) (n : ℕ) (s₀ s : List ℕ) (i : ℕ) : Type 0 where
-  pub within : i ≤ n
-  pub same : length s ≡ length s₀
-  pub copied : Copying f (take n s₀) s₀ s 0 i
+-- they are copied onto themselves, renamed; the cells from here on are as they were
+pub record Renaming (f : ℕ → ℕ) (s₀ s : List ℕ) (i : ℕ) : Type 0 where
+  pub copied : Copying f s₀ s₀ s 0 i
   pub behind : (k : ℕ) → i ≤ k → get_or s k 0 ≡ get_or s₀ k 0
 
-pub renaming-start : {f : ℕ → ℕ} {n : ℕ} {s : List ℕ} → Renaming f n s s 0
-renaming-start = record { within = omega arith; same = refl; copied = copying-start; behind = λ k h. refl }
+pub renaming-start : {f : ℕ → ℕ} {s : List ℕ} → Renaming f s s 0
+renaming-start = record { copied = copying-start; behind = λ k h. refl }
 
-pub renaming-next : {f : ℕ → ℕ} {n : ℕ} {s₀ s : List ℕ} {i x : ℕ} → n ≤ length s₀ → i < n → x ≡ f (get_or s i 0) → Renaming f n s₀ s i → Renaming f n s₀ (set s i x) (i + 1)
-renaming-next {f} {n} {s₀} {s} {i} {x} ln l q h =
-    let b : i < length (take n s₀) = rw (length-take-le n s₀ ln) l in
-    let c : get_or (take n s₀) i 0 ≡ get_or s i 0 = get_or-take n s₀ i 0 l ∙ sym (h.behind i (omega arith)) in
-    let d : Copying f (take n s₀) s₀ (set s i x) 0 (i + 1) = rw (zero-add i) at (copying-next b (q ∙ ap f (sym c)) h.copied) in
-    record {
-      within = omega arith;
-      same = d.same;
-      copied = d;
-      behind = λ k u. get_or-set_other s i k x 0 (λ z. omega arith) ∙ h.behind k (omega arith);
-    }
+pub renaming-next : {f : ℕ → ℕ} {s₀ s : List ℕ} {i x : ℕ} → i < length s₀ → x ≡ f (get_or s i 0) → Renaming f s₀ s i → Renaming f s₀ (set s i x) (i + 1)
+renaming-next {f} {s₀} {s} {i} {x} l q h = record {
+  copied = rw (zero-add i) at (copying-next l (q ∙ ap f (h.behind i (omega arith))) h.copied);
+  behind = λ k u. get_or-set_other s i k x 0 (λ z. omega arith) ∙ h.behind k (omega arith);
+}
 
-pub renaming-done : {f : ℕ → ℕ} {n : ℕ} {s₀ s : List ℕ} {i : ℕ} → n ≤ length s₀ → n ≤ i → Renaming f n s₀ s i → s ≡ overwrite (map f (take n s₀)) s₀
-renaming-done {n = n} {s₀} ln l h = copying-done (rw (length-take-le n s₀ ln) l) h.copied
+-- a list renamed in place is laid over its own front of what goes on behind it
+renamed-front : (f : ℕ → ℕ) (s r : List ℕ) → overwrite (map f s) s ++ r ≡ overwrite (map f s) (s ++ r)
+renamed-front f [] r = refl
+renamed-front f (x ∷ s) r = ap (λ (l : List ℕ). f x ∷ l) (renamed-front f s r)
+
+pub renaming-done : {f : ℕ → ℕ} (n : ℕ) (o : List ℕ) {s : List ℕ} {i : ℕ} → length (take n o) ≤ i → Renaming f (take n o) s i → s ++ drop n o ≡ overwrite (map f (take n o)) o
+renaming-done {f} n o {s} l h =
+    ap (λ (t : List ℕ). t ++ drop n o) (copying-done l h.copied)
+    ∙ renamed-front f (take n o) (drop n o)
+    ∙ ap (overwrite (map f (take n o))) (take-append-drop n o)

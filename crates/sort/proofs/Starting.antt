@@ -9,14 +9,14 @@ use native.Mathlib.Numerals.{add-one}
 use lib.Dec.{eqb}
 use lib.ListN.{length, get_or, drop, set, replicate, length-append, length-drop}
 use lib.Seq.{set_at, get_or-set_same, get_or-set_other}
-use borrow.Author.Tests.{eq-eqb, ne_eqb, lt-ltb, le-ltb}
+use borrow.Author.Tests.{eq-eqb, lt-ltb, le-ltb}
 use Rattle.lists.proofs.Counting.{hit-or}
 use Rattle.lists.proofs.Places.{drop-next}
 use Rattle.lists.proofs.Tests.{by_order}
 use Rattle.network.specs.Sizes.{max_gates}
 use Rattle.sort_order.specs.Order.{Graph, pushed, flops_to, start_to}
 use Rattle.sort.specs.Between.Steps.{flop_mark, FlopsPlaced, unmarked, Started, GatesMarked}
-use Rattle.sort.proofs.Stack.{from_top-push, pushed_more}
+use Rattle.sort.proofs.Stack.{from_top-push}
 use Rattle.sort.proofs.Uses.{get_or-zeros}
 
 module _ (comb : ℕ → Bool) where
@@ -113,19 +113,6 @@ flopped-marked G o₀ m o k' h = record { each = λ v l. h.marks v ∙ mark-belo
 
 start-next : (comb : ℕ → Bool) (f : ℕ → ℕ) (k : ℕ) → start_to comb f (k + 1) ≡ cond (comb k) (pushed (f k) k (start_to comb f k)) (start_to comb f k)
 start-next comb f k = rw add-one
-
-pub started-marked : {m c : List ℕ} {k : ℕ} {st : List ℕ} {top : ℕ} → (get_or m k 0 ≡ 0 → ⊥) → Started m c k st top → Started m c (k + 1) st top
-started-marked {m} {c} {k} {st} {top} e h =
-    record { stack = h.stack ∙ sym (start-next (unmarked m) (λ v. get_or c v 0) k ∙ (rw (ne_eqb (get_or m k 0) 0 e))); low = omega (arith, h.low) }
-
-pub started-used : {m c : List ℕ} {k : ℕ} {st : List ℕ} {top : ℕ} → get_or m k 0 ≡ 0 → (get_or c k 0 ≡ 0 → ⊥) → Started m c k st top → Started m c (k + 1) st top
-started-used {m} {c} {k} {st} {top} e z h =
-    record {
-      stack =
-          h.stack
-          ∙ sym (start-next (unmarked m) (λ v. get_or c v 0) k ∙ (rw (eq-eqb (get_or m k 0) 0 e) (pushed_more (get_or c k 0) k (start_to (unmarked m) (λ v. get_or c v 0) k) z)));
-      low = omega (arith, h.low);
-    }
 
 pub started-push : {m c : List ℕ} {k : ℕ} {st : List ℕ} {top : ℕ} → get_or m k 0 ≡ 0 → get_or c k 0 ≡ 0 → top < length st → Started m c k st top → Started m c (k + 1) (set st top k) (top + 1)
 started-push {m} {c} {k} {st} {top} e z l h =

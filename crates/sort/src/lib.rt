@@ -20,18 +20,13 @@ ghost use Rattle.sort.specs.Between.Steps.{Numbers, PlacesTable, RoomFor, GateMo
 use network::{Counts, GATE_CELLS, check_layout, gate_pins};
 use signal::Signal;
 
-// Sorted, with the pins in use; or a combinational loop.
+// Why cells are not sorted.
 #[derive(Clone, Copy)]
-pub enum Sorted {
-    Order(usize),
-    Loop,
-}
-
-// What `sort_network` answers: the cells cannot be sorted, or what the sort answers.
-#[derive(Clone, Copy)]
-pub enum Attempt {
+pub enum Unsorted {
+    // they are no network, or the new cells have no room for it
     Refused,
-    Done(Sorted),
+    // there is a combinational loop
+    Loop,
 }
 
 // The top of the stack, and the first cell of the order that is written.
@@ -76,10 +71,8 @@ fn add_uses(pins: &[u32], counts: &mut [u16])
     ensures raised { Raised (gate_ins pins.now) counts.old counts.new }
     ensures rises { Rises (length pins.now) counts.old counts.new }
 {
-    let mut i = 0;
-    while i < pins.len() {
-        add_use(pins[i], counts);
-        i += 1;
+    for pin in pins {
+        add_use(*pin, counts);
     }
 }
 
@@ -90,11 +83,9 @@ fn count_gate(gates: &[u32], pins: &[u32], g: usize, counts: &mut [u16])
     ensures raised { Raised (uses_at gates.now pins.now g) counts.old counts.new }
     ensures rises { Rises (count_at gates.now g) counts.old counts.new }
 {
-    if !is_comb(gates, g) {
-        return;
+    if is_comb(gates, g) {
+        add_uses(gate_pins(gates, pins, g), counts);
     }
-    let run = gate_pins(gates, pins, g);
-    add_uses(run, counts);
 }
 
 // Counts how often combinational gates use each gate.
@@ -104,10 +95,8 @@ fn count_uses(gates: &[u32], pins: &[u32], n: usize, counts: &mut [u16])
     ensures counted { Counted (cell_graph gates.now pins.now n) counts.new }
     ensures within { Within (pins_below gates.now n) counts.new }
 {
-    let mut g = 0;
-    while g < n {
+    for g in 0..n {
         count_gate(gates, pins, g, counts);
-        g += 1;
     }
 }
 
@@ -141,10 +130,8 @@ fn lower_uses(pins: &[u32], counts: &mut [u16], stack: &mut [u16], top: usize) -
     ensures rises { Rises 0 counts.old counts.new }
 {
     let mut new_top = top;
-    let mut i = 0;
-    while i < pins.len() {
-        new_top = lower_use(pins[i], counts, stack, new_top);
-        i += 1;
+    for pin in pins {
+        new_top = lower_use(*pin, counts, stack, new_top);
     }
     new_top
 }
@@ -155,12 +142,13 @@ fn mark_flop(gates: &[u32], g: usize, marks: &mut [u8], order: &mut [u16], k: us
     ensures { (o₀ : List ℕ) → FlopsPlaced (form_comb gates.now) g o₀ marks.old order.old k → FlopsPlaced
         (form_comb gates.now) (g + 1) o₀ marks.new order.new result }
 {
-    if is_comb(gates, g) {
-        return k;
+    if !is_comb(gates, g) {
+        marks[g] = 1;
+        order[k] = narrow(g);
+        k + 1
+    } else {
+        k
     }
-    marks[g] = 1;
-    order[k] = narrow(g);
-    k + 1
 }
 
 // Marks the flip-flops, and puts them first into the order.
@@ -169,10 +157,8 @@ fn mark_flops(gates: &[u32], n: usize, marks: &mut [u8], order: &mut [u16]) -> u
     ensures { FlopsPlaced (form_comb gates.now) n order.old marks.new order.new result }
 {
     let mut k = 0;
-    let mut g = 0;
-    while g < n {
+    for g in 0..n {
         k = mark_flop(gates, g, marks, order, k);
-        g += 1;
     }
     k
 }
@@ -183,14 +169,12 @@ fn start_gate(marks: &[u8], counts: &[u16], g: usize, stack: &mut [u16], top: us
     requires started { Started marks.now counts.now g stack.old top }
     ensures { Started marks.now counts.now (g + 1) stack.new result }
 {
-    if marks[g] != 0 {
-        return top;
+    if marks[g] == 0 && counts[g] == 0 {
+        stack[top] = narrow(g);
+        top + 1
+    } else {
+        top
     }
-    if counts[g] != 0 {
-        return top;
-    }
-    stack[top] = narrow(g);
-    top + 1
 }
 
 // The first stack: the gates that are neither marked nor used.
@@ -199,10 +183,8 @@ fn start_stack(marks: &[u8], counts: &[u16], n: usize, stack: &mut [u16]) -> usi
     ensures { Started marks.now counts.now n stack.new result }
 {
     let mut top = 0;
-    let mut g = 0;
-    while g < n {
+    for g in 0..n {
         top = start_gate(marks, counts, g, stack, top);
-        g += 1;
     }
     top
 }
@@ -290,11 +272,8 @@ fn number_gates(order: &[u16], table: &mut [u16])
     requires numbers { Numbers order.now }
     ensures { PlacesTable order.now (length order.now) table.new }
 {
-    let mut i = 0;
-    while i < order.len() {
-        let g = order[i] as usize;
-        table[g] = narrow(i);
-        i += 1;
+    for (i, g) in order.iter().enumerate() {
+        table[*g as usize] = narrow(i);
     }
 }
 
@@ -303,10 +282,8 @@ fn move_pins(run: &[u32], table: &[u16], to: &mut [u32], at: usize)
     requires { at + length run.now ≤ length to.old }
     ensures { to.new ≡ overwrite_at at (map (remap_cell table.now) run.now) to.old }
 {
-    let mut i = 0;
-    while i < run.len() {
-        to[at + i] = Signal { a: run[i] }.remap_order(table).raw();
-        i += 1;
+    for (i, pin) in run.iter().enumerate() {
+        to[at + i] = Signal { a: *pin }.remap_order(table).raw();
     }
 }
 
@@ -348,11 +325,8 @@ fn move_gates(
         new_gates.new new_pins.new result }
 {
     let mut at = 0;
-    let mut i = 0;
-    while i < order.len() {
-        let g = order[i] as usize;
-        at = move_gate(gates, pins, table, g, i, new_gates, new_pins, at);
-        i += 1;
+    for (i, g) in order.iter().enumerate() {
+        at = move_gate(gates, pins, table, *g as usize, i, new_gates, new_pins, at);
     }
     at
 }
@@ -363,10 +337,8 @@ fn move_outputs(table: &[u16], outputs: &mut [u32], outs: usize)
     ensures { outputs.new ≡ overwrite (map (remap_cell table.now) (take outs outputs.old))
         outputs.old }
 {
-    let mut i = 0;
-    while i < outs {
-        outputs[i] = Signal { a: outputs[i] }.remap_order(table).raw();
-        i += 1;
+    for output in outputs[..outs].iter_mut() {
+        *output = Signal { a: *output }.remap_order(table).raw();
     }
 }
 
@@ -393,7 +365,8 @@ fn renumber(
     move_gates(gates, pins, &table, order, new_gates, new_pins)
 }
 
-// Sorts the network in gates, pins and outputs into the new cells, and renumbers the outputs. At a loop nothing is written.
+// Sorts the network in gates, pins and outputs into the new cells, and renumbers the outputs. Answers how many pins there are; at a loop
+// nothing, and nothing is written.
 pub fn topo_sort(
     counts: Counts,
     gates: &[u32],
@@ -401,7 +374,7 @@ pub fn topo_sort(
     outputs: &mut [u32],
     new_gates: &mut [u32],
     new_pins: &mut [u32],
-) -> Sorted
+) -> Option<usize>
     requires { Sortable (lent counts gates.now pins.now outputs.old) (length new_gates.old) (length new_pins.old) }
     ensures { sort_outcome result new_gates.new new_pins.new outputs.new
         ≡ sort_into (sorted (net_of (lent counts gates.now pins.now outputs.old)))
@@ -410,11 +383,11 @@ pub fn topo_sort(
     let n = counts.gates;
     let mut order = [0u16; 1024];
     if !find_order(gates, pins, &mut order[..n]) {
-        return Sorted::Loop;
+        return None;
     }
     let outs = counts.outputs;
     let used = renumber(gates, pins, &order[..n], outs, outputs, new_gates, new_pins);
-    Sorted::Order(used)
+    Some(used)
 }
 
 // The same for any cells: refused, with nothing written, unless they are a network and the new cells have room for it.
@@ -425,19 +398,17 @@ pub fn sort_network(
     outputs: &mut [u32],
     new_gates: &mut [u32],
     new_pins: &mut [u32],
-) -> Attempt
+) -> Result<usize, Unsorted>
     ensures { sort_outcome result new_gates.new new_pins.new outputs.new
         ≡ sort_lent (lent counts gates.now pins.now outputs.old) new_gates.old
         new_pins.old }
 {
-    if !check_layout(counts, gates, pins, outputs) {
-        return Attempt::Refused;
+    if check_layout(counts, gates, pins, outputs)
+        && counts.gates * GATE_CELLS <= new_gates.len()
+        && counts.pins <= new_pins.len()
+    {
+        topo_sort(counts, gates, pins, outputs, new_gates, new_pins).ok_or(Unsorted::Loop)
+    } else {
+        Err(Unsorted::Refused)
     }
-    if new_gates.len() < counts.gates * GATE_CELLS {
-        return Attempt::Refused;
-    }
-    if new_pins.len() < counts.pins {
-        return Attempt::Refused;
-    }
-    Attempt::Done(topo_sort(counts, gates, pins, outputs, new_gates, new_pins))
 }

@@ -5,7 +5,7 @@
 
 use network::{Counts, GATE_CELLS};
 use replay::{expect_each, print_cells, put_word, read_word};
-use sort::{Attempt, Sorted, sort_network};
+use sort::{Unsorted, sort_network};
 use std::io;
 use std::io::Read;
 
@@ -13,11 +13,8 @@ const ONES: u32 = 0xffff_ffff;
 
 // The next n numbers, as far as the cells have room.
 fn read_words(input: &mut impl Read, cells: &mut [u32], n: usize) -> io::Result<()> {
-    for i in 0..cells.len() {
-        if i >= n {
-            return Ok(());
-        }
-        cells[i] = read_word(input)?;
+    for cell in cells.iter_mut().take(n) {
+        *cell = read_word(input)?;
     }
     Ok(())
 }
@@ -60,28 +57,26 @@ fn print_network(
 // The answer and the cells. Where there is no order, no new cell is in use, and the outputs are those lent.
 fn print_answer(
     rt: &impl Print,
-    attempt: Attempt,
+    answer: Result<usize, Unsorted>,
     records: usize,
     new_gates: &[u32],
     new_pins: &[u32],
     outputs: &[u32],
     o: usize,
 ) -> io::Result<()> {
-    match attempt {
-        Attempt::Refused => {
+    match answer {
+        Ok(n) => {
+            println!(rt; "sorted")?;
+            print_network(rt, new_gates, records, new_pins, n, outputs, o)
+        }
+        Err(Unsorted::Loop) => {
+            println!(rt; "loop")?;
+            print_network(rt, new_gates, 0, new_pins, 0, outputs, o)
+        }
+        Err(Unsorted::Refused) => {
             println!(rt; "refused")?;
             print_network(rt, new_gates, 0, new_pins, 0, outputs, o)
         }
-        Attempt::Done(answer) => match answer {
-            Sorted::Order(n) => {
-                println!(rt; "sorted")?;
-                print_network(rt, new_gates, records, new_pins, n, outputs, o)
-            }
-            Sorted::Loop => {
-                println!(rt; "loop")?;
-                print_network(rt, new_gates, 0, new_pins, 0, outputs, o)
-            }
-        },
     }
 }
 
@@ -98,7 +93,7 @@ fn replay_network(rt: &impl Print, input: &mut impl Read, number: u32) -> io::Re
     read_words(input, &mut gates, records)?;
     read_words(input, &mut pins, counts.pins)?;
     read_words(input, &mut outputs, counts.outputs)?;
-    let attempt = sort_network(
+    let answer = sort_network(
         counts,
         &gates,
         &pins,
@@ -108,7 +103,7 @@ fn replay_network(rt: &impl Print, input: &mut impl Read, number: u32) -> io::Re
     );
     print_answer(
         rt,
-        attempt,
+        answer,
         records,
         &new_gates,
         &new_pins,
@@ -126,10 +121,7 @@ fn show_kind(rt: &impl Print, kind: u32) -> io::Result<()> {
     put_word(&mut gates, 4099, ONES ^ (kind == 0) as u32);
     put_word(&mut pins, 16384, ONES ^ (kind == 1) as u32);
     put_word(&mut outputs, 257, ONES ^ (kind == 2) as u32);
-    let mut o = 0;
-    if kind == 3 {
-        o = 259;
-    }
+    let o = if kind == 3 { 259 } else { 0 };
     print_network(rt, &gates, 0, &pins, 0, &outputs, o)
 }
 

@@ -9,7 +9,7 @@ ghost use Rattle.blif_text.specs.Lines.{max_text};
 use blif_text::{
     Run, Statement, first_bad, mark_tokens, row_end, statement_at, token, token_length, token_start,
 };
-use refusals::Checked;
+use refusals::Refusal;
 use replay::{read_full, read_word};
 use std::io;
 use std::io::Read;
@@ -25,8 +25,8 @@ fn print_token(rt: &impl Print, text: &[u8], cell: u32) -> io::Result<()> {
 
 // The tokens of cells.
 fn print_tokens(rt: &impl Print, text: &[u8], cells: &[u32]) -> io::Result<()> {
-    for i in 0..cells.len() {
-        print_token(rt, text, cells[i])?;
+    for &cell in cells {
+        print_token(rt, text, cell)?;
     }
     Ok(())
 }
@@ -41,14 +41,11 @@ fn print_names(
 ) -> io::Result<()> {
     rt.write_all(keyword)?;
     let first = run.first;
-    if first > cells.len() {
-        return Ok(());
+    if first <= cells.len() && run.count <= cells.len() - first {
+        let end = first + run.count;
+        print_tokens(rt, text, &cells[first..end])?;
     }
-    if run.count > cells.len() - first {
-        return Ok(());
-    }
-    let end = first + run.count;
-    print_tokens(rt, text, &cells[first..end])
+    Ok(())
 }
 
 // A refusal's number.
@@ -56,18 +53,23 @@ fn print_refusal(rt: &impl Print, n: u32) -> io::Result<()> {
     print!(rt; "refused {n}")
 }
 
-// A statement, and the end of its line.
-fn print_statement(rt: &impl Print, text: &[u8], cells: &[u32], s: Statement) -> io::Result<()> {
+// A statement or its refusal, and the end of its line.
+fn print_statement(
+    rt: &impl Print,
+    text: &[u8],
+    cells: &[u32],
+    s: Result<Statement, Refusal>,
+) -> io::Result<()> {
     match s {
-        Statement::Model => print!(rt; "model")?,
-        Statement::End => print!(rt; "end")?,
-        Statement::Exdc => print!(rt; "exdc")?,
-        Statement::Inputs(run) => print_names(rt, b"inputs", text, cells, run)?,
-        Statement::Outputs(run) => print_names(rt, b"outputs", text, cells, run)?,
-        Statement::Names(run) => print_names(rt, b"names", text, cells, run)?,
-        Statement::Latch(run) => print_names(rt, b"latch", text, cells, run)?,
-        Statement::Cube(run) => print_names(rt, b"cube", text, cells, run)?,
-        Statement::Refused(r) => print_refusal(rt, r.number())?,
+        Ok(Statement::Model) => print!(rt; "model")?,
+        Ok(Statement::End) => print!(rt; "end")?,
+        Ok(Statement::Exdc) => print!(rt; "exdc")?,
+        Ok(Statement::Inputs(run)) => print_names(rt, b"inputs", text, cells, run)?,
+        Ok(Statement::Outputs(run)) => print_names(rt, b"outputs", text, cells, run)?,
+        Ok(Statement::Names(run)) => print_names(rt, b"names", text, cells, run)?,
+        Ok(Statement::Latch(run)) => print_names(rt, b"latch", text, cells, run)?,
+        Ok(Statement::Cube(run)) => print_names(rt, b"cube", text, cells, run)?,
+        Err(r) => print_refusal(rt, r.number())?,
     }
     println!(rt)
 }
@@ -90,12 +92,12 @@ fn print_text(rt: &impl Print, text: &[u8], cells: &mut [u32]) -> io::Result<()>
     requires { (length text.now ≤ max_text) × (max_tokens ≤ length cells.old) }
 {
     let n = mark_tokens(text, cells);
-    let bad = first_bad(text, &cells[..n]);
-    if let Checked::Refused(r) = bad {
+    if let Err(r) = first_bad(text, &cells[..n]) {
         print_refusal(rt, r.number())?;
-        return println!(rt);
+        println!(rt)
+    } else {
+        print_rows(rt, text, &cells[..n])
     }
-    print_rows(rt, text, &cells[..n])
 }
 
 // The next text, as long as the slice: its number, then what is found in it.

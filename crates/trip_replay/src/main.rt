@@ -10,8 +10,8 @@ use replay::{
     WORD, expect_each, expect_zero_bytes, print_bytes, print_line, print_refused, put_word,
     read_counts, read_full, read_word, read_words,
 };
-use round_trip::{TripAnswer, write_then_read};
-use run_rows::{RunAnswer, run_rows};
+use round_trip::{Returned, TripRefusal, write_then_read};
+use run_rows::run_rows;
 use sort::sort_network;
 use std::io;
 use std::io::Read;
@@ -68,18 +68,22 @@ fn print_back(rt: &impl Print, length: usize, counts: Counts) -> io::Result<Used
 }
 
 // An answer's line; what is in use after it. Where the text was written and not read, all of it may be.
-fn print_head(rt: &impl Print, answer: TripAnswer, room: usize) -> io::Result<Used> {
+fn print_head(
+    rt: &impl Print,
+    answer: Result<Returned, TripRefusal>,
+    room: usize,
+) -> io::Result<Used> {
     match answer {
-        TripAnswer::NotWritten(r) => print_failed(rt, b"not written=", r.number(), 0),
-        TripAnswer::NotRead(r) => print_failed(rt, b"not read=", r.number(), room),
-        TripAnswer::ReadBack(n, back) => print_back(rt, n, back),
+        Err(TripRefusal::NotWritten(r)) => print_failed(rt, b"not written=", r.number(), 0),
+        Err(TripRefusal::NotRead(r)) => print_failed(rt, b"not read=", r.number(), room),
+        Ok(back) => print_back(rt, back.length, back.counts),
     }
 }
 
 // An answer; all bytes and cells that are not in use, and all working cells, must be zero.
 fn print_answer(
     rt: &impl Print,
-    answer: TripAnswer,
+    answer: Result<Returned, TripRefusal>,
     text: &[u8],
     gates: &[u32],
     pins: &[u32],
@@ -109,8 +113,8 @@ fn print_run(
 ) -> io::Result<()> {
     let mut out = [165u8; 4096];
     match run_rows(counts, gates, pins, outputs, rows, &mut out) {
-        RunAnswer::Ran(n) => print_bytes(rt, &out, n),
-        RunAnswer::Refused(refusal) => print_refused(rt, &out, refusal.number()),
+        Ok(n) => print_bytes(rt, &out, n),
+        Err(refusal) => print_refused(rt, &out, refusal.number()),
     }
 }
 
@@ -125,7 +129,7 @@ fn print_sorted_run(
 ) -> io::Result<()> {
     let mut new_gates = [0u32; 4096];
     let mut new_pins = [0u32; 16384];
-    sort_network(counts, gates, pins, outputs, &mut new_gates, &mut new_pins);
+    let _ = sort_network(counts, gates, pins, outputs, &mut new_gates, &mut new_pins);
     print_run(rt, counts, &new_gates, &new_pins, outputs, rows)
 }
 
@@ -166,9 +170,9 @@ fn trip(
         &work_gates,
         &work_pins,
     )?;
-    if let TripAnswer::ReadBack(_, back) = answer {
+    if let Ok(back) = answer {
         print_sorted_run(rt, counts, gates, pins, outputs, rows)?;
-        print_run(rt, back, &new_gates, &new_pins, &new_outputs, rows)?;
+        print_run(rt, back.counts, &new_gates, &new_pins, &new_outputs, rows)?;
     }
     Ok(())
 }
@@ -258,7 +262,7 @@ fn show_kind(rt: &impl Print, kind: u32) -> io::Result<()> {
         pins: 0,
         outputs: 0,
     };
-    let answer = TripAnswer::ReadBack(0, counts);
+    let answer = Ok(Returned { length: 0, counts });
     print_answer(
         rt,
         answer,

@@ -13,6 +13,7 @@
 --   handed-back     demand 3: written by one call, read back by the other
 --   never-shared    two networks that share a text agree in every output
 --   texts-differ    so two that differ never share a text
+use Rattle.std.specs.Prelude.{Ok, Err}
 use mathlib.Core.Path.{◌≡◌, sym, ap, ◌∙◌, subst}
 use mathlib.Core.Bool.{Bool, true}
 use mathlib.Core.List.{List, ◌++◌, Memᴰ}
@@ -35,14 +36,12 @@ use Rattle.blif_meaning.specs.Model.{I0, I1, LatchDef, Latch, MayRun, BlifRuns}
 use Rattle.blif_reading.specs.TextModel.{model_of_text}
 use Rattle.blif_writing.specs.Text.{text_of}
 use Rattle.blif_text.specs.Ended.{Ended, MayFollow}
-use Rattle.blif_reading.specs.Read.{read, refused, read_text}
+use Rattle.blif_reading.specs.Read.{read_text}
 use Rattle.round_trip.specs.Conditions.{PlainNet, WrittenFrom}
 use Rattle.blif_read.specs.Into.{Lengths, enough, ReadOutcome, answered, read_into}
-use Rattle.blif_read.specs.declared.ReadAnswer.TheVariants as answer-read
 use Rattle.blif_read.proofs.Summary.{read-counts, behind-end}
 use Rattle.blif_read.proofs.CellsRead.{read-layout, read-decodes}
 use Rattle.blif_write.specs.Into.{write_into, WriteOutcome}
-use Rattle.blif_write.specs.declared.WriteAnswer.TheVariants as written
 use Rattle.round_trip.specs.Trip.{RoundTripConditions}
 use Rattle.round_trip.proofs.Demand as demand
 use Rattle.round_trip.proofs.Summary as trip
@@ -67,8 +66,8 @@ module _ (text : Bytes) (n : Lengths) {r : VumneathNetwork} {gs ps os wgs wps : 
 
   -- every text gets a result or a numbered refusal: 0 is told exactly of a network read into enough cells, and any other number is that
   -- of the refusal, one of 1 to 14 and 34
-  pub refused-reading : ((r.refused ≡ 0) ↔ ((net : Net) × (enough n ≡ true) × (read_text text ≡ read net)))
-      × ((r.refused ≡ 0 → ⊥) → (k : Refusal) × InReading k × (answered text n ≡ refused k) × (r.refused ≡ number_of k))
+  pub refused-reading : ((r.refused ≡ 0) ↔ ((net : Net) × (enough n ≡ true) × (read_text text ≡ Ok net)))
+      × ((r.refused ≡ 0 → ⊥) → (k : Refusal) × InReading k × (answered text n ≡ Err k) × (r.refused ≡ number_of k))
   refused-reading = (
     ((λ z. read-zero text n (sym told ∙ z)), (λ q. told ∙ read-success text n q.0 q.1 q.2)),
     (λ f. let k = read-refused text n (λ z. f (told ∙ z)) in (k.0, k.1, k.2, told ∙ k.3)),
@@ -90,7 +89,7 @@ module _ (text : Bytes) (n : Lengths) {r : VumneathNetwork} {gs ps os wgs wps : 
 
   module _ (z : r.refused ≡ 0) where
     -- what is read
-    was : (net : Net) × (enough n ≡ true) × (read_text text ≡ read net)
+    was : (net : Net) × (enough n ≡ true) × (read_text text ≡ Ok net)
     was = refused-reading.0.0 z
 
     counts-are : counts_handed r ≡ counts_of was.0
@@ -135,7 +134,7 @@ module _ (l : Lent) (n : ℕ) {w : VumneathText} {out : Bytes} (h : WriteHanded 
   -- every lent network gets a result or a numbered refusal: 0 is told exactly of a text written, and any other number is that of the
   -- refusal, one of 20 to 22
   pub refused-writing : ((w.refused ≡ 0) ↔ WrittenFrom l n)
-      × ((w.refused ≡ 0 → ⊥) → (k : Refusal) × InWriting k × ((write_into l n).answer ≡ written.Refused k) × (w.refused ≡ number_of k))
+      × ((w.refused ≡ 0 → ⊥) → (k : Refusal) × InWriting k × ((write_into l n).answer ≡ Err k) × (w.refused ≡ number_of k))
   refused-writing = (
     ((λ z. write-zero l n (sym told-writing ∙ z)), (λ f. told-writing ∙ write-success l n f)),
     (λ f. let k = write-refused l n (λ z. f (told-writing ∙ z)) in (k.0, k.1, k.2, told-writing ∙ k.3)),
@@ -234,7 +233,7 @@ handed-back l n m {w} {out} {r} {gs} {ps} {os} {wgs} {wps} words meets write Rea
     let bytes : take w.length out ≡ t = text-written l n write zero-written in
     let same : ReadHanded (read_into t m) r gs ps os wgs wps = subst (λ (s : Bytes). ReadHanded (read_into s m) r gs ps os wgs wps) bytes Read-of in
     let answer : r ≡ network_of (read_into t m).answer = same.answer in
-    let counts : r ≡ network_of (answer-read.Read (counts_of back.0)) = answer ∙ ap network_of (read-counts t back.0 m meets.cells back.1) in
+    let counts : r ≡ network_of (Ok (counts_of back.0)) = answer ∙ ap network_of (read-counts t back.0 m meets.cells back.1) in
     let is : net_handed r gs ps os ≡ back.0 =
     (λ i. net_of (lent (counts_handed (counts i)) (same.gates i) (same.pins i) (same.outputs i))) ∙ read-decodes t back.0 m meets.cells back.1 in
     record {

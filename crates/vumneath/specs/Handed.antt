@@ -1,6 +1,6 @@
 -- What the exported functions hand to their callers: the answers of `read_blif`, `write_blif` and `run_rows` as structs in C's layout.
 -- Assumes nothing: these are definitions.
-use Rattle.std.specs.Prelude.{◌≡◌, Bool, List, ◌↔◌, ℕ, ◌-◌, length, take, drop}
+use Rattle.std.specs.Prelude.{◌≡◌, Bool, List, ◌↔◌, ℕ, ◌-◌, length, take, drop, Result, Ok, Err}
 use Rattle.std.proofs.Math.Option.{some}
 use Rattle.lists.specs.Lists.{Bytes, zeros}
 use Rattle.refusals.specs.Numbers.{number_of, InRunning}
@@ -13,15 +13,9 @@ use Rattle.blif_meaning.specs.Model.{BlifRuns}
 use Rattle.blif_reading.specs.TextModel.{model_of_text}
 use Rattle.blif_writing.specs.Text.{text_of}
 use Rattle.blif_read.specs.Into.{ReadOutcome}
-use Rattle.blif_read.specs.declared.ReadAnswer.{ReadAnswer}
-use Rattle.blif_read.specs.declared.ReadAnswer.TheVariants as read
 use Rattle.blif_write.specs.Into.{WriteOutcome}
-use Rattle.blif_write.specs.declared.WriteAnswer.{WriteAnswer}
-use Rattle.blif_write.specs.declared.WriteAnswer.TheVariants as write
 use Rattle.run_rows.specs.Rows.{rows_text, rows_of}
 use Rattle.run_rows.specs.Into.{RunOutcome, run_into}
-use Rattle.run_rows.specs.declared.RunAnswer.{RunAnswer}
-use Rattle.run_rows.specs.declared.RunAnswer.TheVariants as rows
 use Rattle.vumneath.specs.declared.VumneathNetwork.{VumneathNetwork}
 use Rattle.vumneath.specs.declared.VumneathText.{VumneathText}
 use Rattle.vumneath.specs.declared.VumneathRows.{VumneathRows}
@@ -35,19 +29,19 @@ abbrev pub counts_from : ℕ → ℕ → ℕ → ℕ → Counts
 counts_from inputs gates pins outputs = record { inputs = inputs; gates = gates; pins = pins; outputs = outputs }
 
 -- "refused is 0 on success, else the refusal's number; the counts are then 0"
-abbrev pub network_of : ReadAnswer → VumneathNetwork
-network_of (read.Read c) = record { refused = 0; inputs = c.inputs; gates = c.gates; pins = c.pins; outputs = c.outputs }
-network_of (read.Refused r) = record { refused = number_of r; inputs = 0; gates = 0; pins = 0; outputs = 0 }
+abbrev pub network_of : Result Counts Refusal → VumneathNetwork
+network_of (Ok c) = record { refused = 0; inputs = c.inputs; gates = c.gates; pins = c.pins; outputs = c.outputs }
+network_of (Err r) = record { refused = number_of r; inputs = 0; gates = 0; pins = 0; outputs = 0 }
 
 -- the same of writing: the text's length, or the refusal's number
-abbrev pub text_for : WriteAnswer → VumneathText
-text_for (write.Written n) = record { refused = 0; length = n }
-text_for (write.Refused r) = record { refused = number_of r; length = 0 }
+abbrev pub text_for : Result ℕ Refusal → VumneathText
+text_for (Ok n) = record { refused = 0; length = n }
+text_for (Err r) = record { refused = number_of r; length = 0 }
 
 -- the same of a run: the length of the rows written, or the refusal's number
-abbrev pub rows_for : RunAnswer → VumneathRows
-rows_for (rows.Ran n) = record { refused = 0; length = n }
-rows_for (rows.Refused r) = record { refused = number_of r; length = 0 }
+abbrev pub rows_for : Result ℕ Refusal → VumneathRows
+rows_for (Ok n) = record { refused = 0; length = n }
+rows_for (Err r) = record { refused = number_of r; length = 0 }
 
 -- what was handed over is an outcome of reading: the answer in C's struct, and every cell of the five slices
 pub record ReadHanded (o : ReadOutcome) (r : VumneathNetwork) (gs ps os wgs wps : List ℕ) : Type 0 where
@@ -85,7 +79,7 @@ pub record RefusedRun (l : Lent) (t : Bytes) (n : ℕ) (r : VumneathRows) (out :
   -- one of 20, 29, 30 and 31
   pub among : InRunning refusal
   -- which is answered
-  pub told : (run_into l t n).answer ≡ rows.Refused refusal
+  pub told : (run_into l t n).answer ≡ Err refusal
   -- its number
   pub number : r.refused ≡ number_of refusal
   -- no length

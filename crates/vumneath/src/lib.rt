@@ -9,10 +9,11 @@ ghost use Rattle.run_rows.specs.Into.{run_into};
 ghost use Rattle.vumneath.specs.Handed.{interface_number, network_of, text_for, rows_for, counts_from, ReadHanded, WriteHanded, RunHanded};
 ghost use Rattle.vumneath.specs.Between.Handed.{CountsFit, LengthFits};
 
-use blif_read::{ReadAnswer, read_blif};
-use blif_write::{WriteAnswer, write_blif};
+use blif_read::read_blif;
+use blif_write::write_blif;
 use network::Counts;
-use run_rows::{RunAnswer, run_rows};
+use refusals::Refusal;
+use run_rows::run_rows;
 
 // What reading answers: refused is zero and the counts are those of the network, or refused is the refusal's number and the counts are
 // zero.
@@ -64,19 +65,19 @@ fn counts_of(inputs: u32, gate_count: u32, pin_count: u32, output_count: u32) ->
 }
 
 // The reader's answer in C's layout.
-fn network_of(answer: ReadAnswer) -> VumneathNetwork
+fn network_of(answer: Result<Counts, Refusal>) -> VumneathNetwork
     requires { CountsFit answer }
     ensures { result ≡ network_of answer }
 {
     match answer {
-        ReadAnswer::Read(counts) => VumneathNetwork {
+        Ok(counts) => VumneathNetwork {
             refused: 0,
             inputs: counts.inputs as u32,
             gates: counts.gates as u32,
             pins: counts.pins as u32,
             outputs: counts.outputs as u32,
         },
-        ReadAnswer::Refused(refusal) => VumneathNetwork {
+        Err(refusal) => VumneathNetwork {
             refused: refusal.number(),
             inputs: 0,
             gates: 0,
@@ -87,16 +88,16 @@ fn network_of(answer: ReadAnswer) -> VumneathNetwork
 }
 
 // The writer's answer in C's layout.
-fn text_of(answer: WriteAnswer) -> VumneathText
+fn text_of(answer: Result<usize, Refusal>) -> VumneathText
     requires { LengthFits answer }
     ensures { result ≡ text_for answer }
 {
     match answer {
-        WriteAnswer::Written(n) => VumneathText {
+        Ok(n) => VumneathText {
             refused: 0,
             length: n as u32,
         },
-        WriteAnswer::Refused(refusal) => VumneathText {
+        Err(refusal) => VumneathText {
             refused: refusal.number(),
             length: 0,
         },
@@ -104,15 +105,15 @@ fn text_of(answer: WriteAnswer) -> VumneathText
 }
 
 // The run's answer in C's layout.
-fn rows_of(answer: RunAnswer) -> VumneathRows
+fn rows_of(answer: Result<usize, Refusal>) -> VumneathRows
     ensures { result ≡ rows_for answer }
 {
     match answer {
-        RunAnswer::Ran(n) => VumneathRows {
+        Ok(n) => VumneathRows {
             refused: 0,
             length: n,
         },
-        RunAnswer::Refused(refusal) => VumneathRows {
+        Err(refusal) => VumneathRows {
             refused: refusal.number(),
             length: 0,
         },

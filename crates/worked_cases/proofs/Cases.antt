@@ -2,6 +2,7 @@
 --   holds-means  a check that holds says that the definitions give what it names
 --   table-holds  each of K1 to K13 does
 --   k10-ended    K10's `.inputs` stands behind a text that is ended
+use Rattle.std.specs.Prelude.{Result, Ok, Err}
 use mathlib.Core.Path.{◌≡◌, refl, sym, ap, ap₂, ◌∙◌}
 use mathlib.Core.Bool.{Bool, true, false, ◌&&◌, beq, false≢true}
 use mathlib.Core.List.{List, [], ◌∷◌, flat_map, head_d}
@@ -30,7 +31,7 @@ use Rattle.blif_text.specs.Ended.{stops, Ended, MayFollow}
 use Rattle.blif_text.specs.Decls.{used_names, cubes, decls, ins_of, outs_of, defs_of, ins, outs, defs, cover_out, cover_ins, defines, columns, output, is_one, decls_of}
 use Rattle.blif_writing.specs.WrittenModel.{same_node}
 use Rattle.blif_writing.specs.Text.{spaced, line, text_of}
-use Rattle.blif_reading.specs.Read.{added, gate_count, pin_count, too_large, defined_twice, naming, undefined, good_line, cover_fault, cover_faults, decl_fault, read_fault, Result, read, refused, answer, built_from, read_text}
+use Rattle.blif_reading.specs.Read.{added, gate_count, pin_count, too_large, defined_twice, naming, undefined, good_line, cover_fault, cover_faults, decl_fault, read_fault, answer, built_from, read_text}
 use Rattle.worked_cases.specs.Checks.{same_list, same_signal, same_gate, same_net, Answer, network, number, agrees, Check, reads, writes, reads_back, runs, net_in, is_read, holds}
 use Rattle.worked_cases.specs.Cases.{table}
 use Rattle.worked_cases.specs.Starts.{starts}
@@ -142,24 +143,24 @@ same_net-is a b e =
     λ j. net_from (p j) (q j) (r j)
 
 -- what an answer says of a result
-abbrev pub Says : Result → Answer → Type 0
-Says r (network net) = r ≡ read net
-Says r (number n) = (k : Refusal) × (r ≡ refused k) × (number_of k ≡ n)
+abbrev pub Says : Result Net Refusal → Answer → Type 0
+Says r (network net) = r ≡ Ok net
+Says r (number n) = (k : Refusal) × (r ≡ Err k) × (number_of k ≡ n)
 
 -- a result that agrees with an answer is as it says
-agrees-says : (r : Result) (a : Answer) → agrees r a ≡ true → Says r a
+agrees-says : (r : Result Net Refusal) (a : Answer) → agrees r a ≡ true → Says r a
 unfolding agrees
-agrees-says (read a) (network b) e = ap read (same_net-is a b e)
-agrees-says (read a) (number n) e = absurd (false≢true e)
-agrees-says (refused k) (network b) e = absurd (false≢true e)
-agrees-says (refused k) (number n) e = (k, refl, eqb-true (number_of k) n e)
+agrees-says (Ok a) (network b) e = ap Ok (same_net-is a b e)
+agrees-says (Ok a) (number n) e = absurd (false≢true e)
+agrees-says (Err k) (network b) e = absurd (false≢true e)
+agrees-says (Err k) (number n) e = (k, refl, eqb-true (number_of k) n e)
 
 -- what a check says
 abbrev pub Means : Check → Type 0
 Means (reads t a) = Says (read_text t) a
 Means (writes net t) = text_of net ≡ t
 Means (reads_back net a) = Says (read_text (text_of net)) a
-Means (runs t rows outs) = (net : Net) × (read_text t ≡ read net) × (run net rows ≡ outs)
+Means (runs t rows outs) = (net : Net) × (read_text t ≡ Ok net) × (run net rows ≡ outs)
 
 -- a check that holds says that the definitions give what it names
 pub holds-means : (c : Check) → holds c ≡ true → Means c
@@ -169,10 +170,10 @@ holds-means (writes net t) e = same-is (text_of net) t e
 holds-means (reads_back net a) e = agrees-says (read_text (text_of net)) a e
 holds-means (runs t rows outs) e = ran (read_text t) refl (and_left _ _ e) (and_right (is_read (read_text t)) _ e)
   where
-    ran : (r : Result) → read_text t ≡ r → is_read r ≡ true → same_list (same_list beq) (run (net_in r) rows) outs ≡ true
-        → (net : Net) × (read_text t ≡ read net) × (run net rows ≡ outs)
-    ran (read net) q t' p = (net, q, same_list-is (same_list beq) (same_list-is beq same_bit-is) (run net rows) outs p)
-    ran (refused r) q t' p = absurd (false≢true t')
+    ran : (r : Result Net Refusal) → read_text t ≡ r → is_read r ≡ true → same_list (same_list beq) (run (net_in r) rows) outs ≡ true
+        → (net : Net) × (read_text t ≡ Ok net) × (run net rows ≡ outs)
+    ran (Ok net) q t' p = (net, q, same_list-is (same_list beq) (same_list-is beq same_bit-is) (run net rows) outs p)
+    ran (Err r) q t' p = absurd (false≢true t')
 
 -- ---- the table
 

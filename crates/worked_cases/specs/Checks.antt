@@ -1,5 +1,5 @@
 -- Checks of `read_text` and `text_of`: document 01's cases and Quaigh's answers are such checks. Assumes nothing: these are definitions.
-use Rattle.std.specs.Prelude.{Bool, true, false, ◌&&◌, List, [], ◌∷◌, ℕ, eqb}
+use Rattle.std.specs.Prelude.{Bool, true, false, ◌&&◌, List, [], ◌∷◌, ℕ, eqb, Result, Ok, Err}
 use Rattle.std.specs.Bool.{beq}
 use Rattle.lists.specs.Lists.{Bytes, same}
 use Rattle.refusals.specs.Numbers.{number_of}
@@ -8,9 +8,10 @@ use Rattle.gates.specs.Gate.{Gate, pins, start_bit}
 use Rattle.gates.specs.Forms.{form_cell}
 use Rattle.network.specs.Net.{Net, net_from}
 use Rattle.network.specs.Settle.{run}
-use Rattle.blif_reading.specs.Read.{Result, read, refused, read_text}
+use Rattle.blif_reading.specs.Read.{read_text}
 use Rattle.blif_writing.specs.WrittenModel.{same_node}
 use Rattle.blif_writing.specs.Text.{text_of}
+use Rattle.refusals.specs.declared.Refusal.{Refusal}
 
 -- ---- equal networks
 
@@ -42,11 +43,11 @@ pub data Answer : Type 0 where
   number : ℕ → Answer
 
 -- reading gives this answer: the same network, or a refusal of the same number
-unfoldable pub agrees : Result → Answer → Bool
-agrees (read a) (network b) = same_net a b
-agrees (read a) (number n) = false
-agrees (refused r) (network b) = false
-agrees (refused r) (number n) = eqb (number_of r) n
+unfoldable pub agrees : Result Net Refusal → Answer → Bool
+agrees (Ok a) (network b) = same_net a b
+agrees (Ok a) (number n) = false
+agrees (Err r) (network b) = false
+agrees (Err r) (number n) = eqb (number_of r) n
 
 -- a text and what reading it gives; a network and the text that is written; a network, and what reading the text written for it gives; a
 -- text, rows of inputs and the rows of outputs that the network read gives
@@ -57,14 +58,14 @@ pub data Check : Type 0 where
   runs : Bytes → List (List Bool) → List (List Bool) → Check
 
 -- the network of a result; the empty one where it is a refusal
-abbrev pub net_in : Result → Net
-net_in (read net) = net
-net_in (refused r) = net_from 0 [] []
+abbrev pub net_in : Result Net Refusal → Net
+net_in (Ok net) = net
+net_in (Err r) = net_from 0 [] []
 
 -- whether it is a network
-abbrev pub is_read : Result → Bool
-is_read (read net) = true
-is_read (refused r) = false
+abbrev pub is_read : Result Net Refusal → Bool
+is_read (Ok net) = true
+is_read (Err r) = false
 
 -- the definitions give what the check says
 unfoldable pub holds : Check → Bool

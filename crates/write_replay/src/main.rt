@@ -4,28 +4,27 @@
 // told, and so is a cell that has changed. What is told is shown first.
 #![tactic(auto)]
 
-use blif_write::{WriteAnswer, write_blif};
+use blif_write::write_blif;
 use lists::cell_at;
 use network::Counts;
+use refusals::Refusal;
 use replay::{print_bytes, print_line, print_refused, put_word, read_counts, read_word};
 use std::io;
 use std::io::Read;
 
 // The next words, as cells and once more to compare them with.
 fn read_words(input: &mut impl Read, cells: &mut [u32], kept: &mut [u32]) -> io::Result<()> {
-    let n = cells.len();
-    for i in 0..n {
-        let word = read_word(input)?;
-        put_word(cells, i, word);
-        put_word(kept, i, word);
+    for (i, cell) in cells.iter_mut().enumerate() {
+        *cell = read_word(input)?;
+        put_word(kept, i, *cell);
     }
     Ok(())
 }
 
 // A line that no stored answer has, unless the cells are those kept.
 fn expect_same(rt: &impl Print, cells: &[u32], kept: &[u32]) -> io::Result<()> {
-    for i in 0..cells.len() {
-        if cell_at(cells, i) != cell_at(kept, i) {
+    for (i, &cell) in cells.iter().enumerate() {
+        if cell != cell_at(kept, i) {
             return println!(rt; "changed");
         }
     }
@@ -35,7 +34,7 @@ fn expect_same(rt: &impl Print, cells: &[u32], kept: &[u32]) -> io::Result<()> {
 // An answer; every lent cell must be as it was.
 fn print_answer(
     rt: &impl Print,
-    answer: WriteAnswer,
+    answer: Result<usize, Refusal>,
     out: &[u8],
     gates: &[u32],
     kept_gates: &[u32],
@@ -45,8 +44,8 @@ fn print_answer(
     kept_outputs: &[u32],
 ) -> io::Result<()> {
     match answer {
-        WriteAnswer::Written(n) => print_bytes(rt, out, n)?,
-        WriteAnswer::Refused(refusal) => print_refused(rt, out, refusal.number())?,
+        Ok(n) => print_bytes(rt, out, n)?,
+        Err(refusal) => print_refused(rt, out, refusal.number())?,
     }
     expect_same(rt, gates, kept_gates)?;
     expect_same(rt, pins, kept_pins)?;
@@ -122,13 +121,10 @@ fn show_kind(rt: &impl Print, kind: u32) -> io::Result<()> {
     put_word(&mut gates, 4100, (kind == 1) as u32);
     put_word(&mut pins, 16385, (kind == 2) as u32);
     put_word(&mut outputs, 257, (kind == 3) as u32);
-    let mut length = 0;
-    if kind == 4 {
-        length = 32801;
-    }
+    let length = if kind == 4 { 32801 } else { 0 };
     print_answer(
         rt,
-        WriteAnswer::Written(length),
+        Ok(length),
         &out,
         &gates,
         &kept_gates,

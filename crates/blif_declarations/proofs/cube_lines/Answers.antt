@@ -1,27 +1,14 @@
 -- `cube_lines` passes one cube line after the other. Assumes nothing.
 use mathlib.Core.Path.{sym, ap, ◌∙◌}
-use native.Mathlib.Omega.{arith}
 use Rattle.blif_text.specs.Keywords.{leading_dot}
 use Rattle.blif_text.proofs.KeywordLaws.{no-dot-first}
 use Rattle.blif_declarations.proofs.RowStarts.{row_is}
-use Rattle.blif_declarations.proofs.LineWalk.{passed_start, passed-next, passed-stop, passed-end}
+use Rattle.blif_declarations.proofs.LineWalk.{passed-next, passed-stop, passed-end}
 use Rattle.blif_declarations.proofs.cube_lines.Goals as goal
-
-pub loop-i-init : goal.loop-i-init
-loop-i-init c = passed_start c.requires
-
-pub token-requires : goal.token-requires
-token-requires c = c.loop-i.invariant.rest.rows.places.inside _ c.loop-i-test.true
 
 pub returns-then-has_leading_dot : goal.returns-then-has_leading_dot
 returns-then-has_leading_dot c = let dot = sym (c.has_leading_dot.ensures ∙ ap leading_dot c.token.ensures) ∙ c.if-has_leading_dot.true in
     passed-stop c.loop-i.invariant c.loop-i-test.true dot
-
-pub overflow_add-count : goal.overflow_add-count
-overflow_add-count c = omega (arith, c.loop-i.invariant.low, c.loop-i-test.true)
-
-pub loop-i-smaller : goal.loop-i-smaller
-loop-i-smaller c = omega (arith, c.row_end-i.ensures.low, c.loop-i-test.true)
 
 pub loop-i-preserved : goal.loop-i-preserved
 loop-i-preserved c = let inv = c.loop-i.invariant in

@@ -6,9 +6,6 @@ use Rattle.blif_declarations.proofs.RowStarts.{row_is}
 use Rattle.blif_declarations.proofs.NextLaws.{row-declares}
 use Rattle.blif_declarations.proofs.next_declaration.Goals as goal
 
-pub token-requires : goal.token-requires
-token-requires c = c.requires.0.rows.places.inside c.args.at c.requires.1
-
 pub cube_lines-lines-requires : goal.cube_lines-lines-requires
 cube_lines-lines-requires c = stmts-next c.requires.0 c.requires.1 c.row_end-end.ensures
 

@@ -11,5 +11,5 @@ returns-then-text-gt-MAX_TEXT c = holds-refused _ _ _ _ _ (too_long_lem _ (lt-lt
 pub returns-then-has_high_byte : goal.returns-then-has_high_byte
 returns-then-has_high_byte c = holds-refused _ _ _ _ _ (high_byte _ (le-ltb max_text _ c.if-text-gt-MAX_TEXT.false) (sym c.has_high_byte.ensures ∙ c.if-has_high_byte.true))
 
-pub read_tokens-requires : goal.read_tokens-requires
-read_tokens-requires c = record { enough = c.requires; plain_text = readable _ (le-ltb max_text _ c.if-text-gt-MAX_TEXT.false) c.if-text-gt-MAX_TEXT.false (sym c.has_high_byte.ensures ∙ c.if-has_high_byte.false) }
+pub read_tokens-requires-clause-plain_text : goal.read_tokens-requires-clause-plain_text
+read_tokens-requires-clause-plain_text c = readable _ (le-ltb max_text _ c.if-text-gt-MAX_TEXT.false) c.if-text-gt-MAX_TEXT.false (sym c.has_high_byte.ensures ∙ c.if-has_high_byte.false)

@@ -1,10 +1,9 @@
 -- What the stages of the reader ask of each other: each goes on where no refusal before it took the text. Assumes nothing: these are
 -- definitions.
-use Rattle.std.specs.Prelude.{◌≡◌, true, false, List, [], ◌++◌, map, ℕ, ◌*◌, ◌≤◌, length, take}
+use Rattle.std.specs.Prelude.{◌≡◌, true, false, List, [], ◌++◌, map, ℕ, ◌*◌, ◌≤◌, length, take, Result, Ok, Err}
 use Rattle.lists.specs.Lists.{Bytes, all, known, sum_of}
-use Rattle.refusals.specs.Order.{◌or_else◌, refuse_if}
+use Rattle.refusals.specs.Order.{◌or_else◌, refuse_if, fine}
 use Rattle.refusals.specs.declared.Refusal.TheVariants as refusal
-use Rattle.refusals.specs.declared.Checked.TheVariants.{Fine}
 use Rattle.signal.specs.Cell.{sig_cell}
 use Rattle.network.specs.declared.Counts.{Counts}
 use Rattle.network.specs.Cells.{lent, counts_of}
@@ -18,21 +17,21 @@ use Rattle.blif_text.specs.Between.Places.{max_tokens}
 use Rattle.blif_text.specs.Lines.{max_text}
 use Rattle.blif_text.specs.Between.Walk.{stmts_from, StmtsAt}
 use Rattle.blif_text.specs.Between.Blocks.{Blocks, defs_at}
-use Rattle.blif_reading.specs.Read.{too_large, naming, undefined, cover_faults, decl_fault, read_fault, Result, read, refused, signal_of}
+use Rattle.blif_reading.specs.Read.{too_large, naming, undefined, cover_faults, decl_fault, read_fault, signal_of}
 use Rattle.blif_reading.specs.Between.Working.{GatesIn, placed, placed_count}
 use Rattle.blif_read_names.specs.Between.Tables.{Named, Tables}
-use Rattle.blif_read.specs.declared.ReadAnswer.{ReadAnswer}
-use Rattle.blif_read.specs.declared.ReadAnswer.TheVariants.{Read, Refused}
+use Rattle.network.specs.Net.{Net}
+use Rattle.refusals.specs.declared.Refusal.{Refusal}
 
 -- the counts in an answer, none in a refusal
-abbrev pub counts_in : ReadAnswer → Counts
-counts_in (Read counts) = counts
-counts_in (Refused r) = record { inputs = 0; gates = 0; pins = 0; outputs = 0 }
+abbrev pub counts_in : Result Counts Refusal → Counts
+counts_in (Ok counts) = counts
+counts_in (Err r) = record { inputs = 0; gates = 0; pins = 0; outputs = 0 }
 
 -- a result as an answer and cells: a network's cells in use are laid, a refusal says nothing of them
-abbrev pub Holds : Result → ReadAnswer → List ℕ → List ℕ → List ℕ → Type 0
-Holds (refused r) a gs ps os = a ≡ Refused r
-Holds (read net) a gs ps os = (a ≡ Read (counts_of net)) × Laid net (lent (counts_of net) gs ps os)
+abbrev pub Holds : Result Net Refusal → Result Counts Refusal → List ℕ → List ℕ → List ℕ → Type 0
+Holds (Err r) a gs ps os = a ≡ Err r
+Holds (Ok net) a gs ps os = (a ≡ Ok (counts_of net)) × Laid net (lent (counts_of net) gs ps os)
 
 -- as many cells are lent as refusal 1 asks for
 pub record Enough (gs ps os wgs wps : List ℕ) : Type 0 where
@@ -76,7 +75,7 @@ pub record Defining (text tokens index out_names blocks : List ℕ) (i g o : ℕ
   -- within the sizes
   pub sized : too_large (decls_of text) ≡ false
   -- no name is defined twice
-  pub once : naming false [] (decls_of text) ≡ Fine
+  pub once : naming false [] (decls_of text) ≡ fine
   -- what is left of the refusals
   pub left : read_fault text ≡ (refuse_if (undefined (decls_of text)) refusal.Undefined or_else cover_faults (defs (decls_of text)))
 
@@ -87,7 +86,7 @@ pub record Resolving (text tokens index outs blocks : List ℕ) (i g o : ℕ) : 
   -- within the sizes
   pub sized : too_large (decls_of text) ≡ false
   -- no name is defined twice
-  pub once : naming false [] (decls_of text) ≡ Fine
+  pub once : naming false [] (decls_of text) ≡ fine
   -- every output is defined
   pub outs-known : all (λ (x : Bytes). known x (ins (decls_of text) ++ map defines (defs (decls_of text)))) (names.outs (decls_of text)) ≡ true
   -- the outputs' signals

@@ -1,4 +1,3 @@
-use Prim.Native.Nat.{◌-◌}
 use lib.ListN.{length}
 use Rattle.blif_text.specs.Between.Blocks.{defs_at}
 use Rattle.blif_read_gates.proofs.Building.{Building}
@@ -6,6 +5,3 @@ use Rattle.blif_read_gates.proofs.build_covers.Given as goal
 
 abbrev pub invariant-loop-j : goal.invariant-loop-j
 invariant-loop-j l = Building (defs_at l.text l.tokens (length l.tokens) l.blocks l.g) l.initial.gates l.initial.pins l.used l.g l.j l.built.gates l.built.pins l.gates l.pins
-
-abbrev pub decreases-loop-j : goal.decreases-loop-j
-decreases-loop-j l = l.g - l.j

@@ -1,15 +1,9 @@
 -- `is_one` compares the last token with 1. Assumes nothing.
 use mathlib.Core.Path.{ap, ◌∙◌}
 use mathlib.Core.List.{[], ◌∷◌}
-use Prim.Native.Nat.{◌-◌}
-use native.Mathlib.Omega.{arith}
-use lib.ListN.{length}
 use Rattle.lists.specs.Lists.{Bytes, same}
 use Rattle.blif_read_gates.proofs.RowLaws.{last_one}
 use Rattle.blif_read_gates.proofs.is_one.Goals as goal
-
-pub token-requires : goal.token-requires
-token-requires c = c.requires.2.inside (length c.args.row.now - 1) (omega (arith, c.requires.0))
 
 pub returns : goal.returns
 returns c = c.equal.ensures

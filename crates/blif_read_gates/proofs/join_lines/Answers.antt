@@ -1,9 +1,8 @@
 -- `join_lines` puts the gate that joins lines, then the lines' gates. Assumes nothing.
-use mathlib.Core.Path.{sym}
 use Prim.Native.Nat.{◌*◌}
 use native.Mathlib.Omega.{arith}
 use Rattle.network.specs.Record.{gate_width}
-use Rattle.blif_read_gates.proofs.CoverLaws.{first-there, first_good, rows-inputs, joins-room, join-put, joined-fit, joined-room, joined-built}
+use Rattle.blif_read_gates.proofs.CoverLaws.{first-there, first_good, joins-room, join-put, joined-room, joined-built}
 use Rattle.blif_read_gates.proofs.RowLaws.{row-two}
 use Rattle.blif_read_gates.proofs.join_lines.Goals as goal
 
@@ -16,14 +15,8 @@ is_one-one-requires c = row-two (first_good c.requires.lt_count.1 (omega (arith,
 pub put_joins-requires : goal.put_joins-requires
 put_joins-requires c = joins-room c.requires.lt_count.0 c.requires.lt_count.1 c.requires.cover_room
 
-pub put_record-requires : goal.put_record-requires
-put_record-requires c = joined-fit c.requires.lt_count.0 c.requires.lt_count.1 c.requires.cover_room c.is_one-one.result c.join_gate-gate.ensures
-
-pub overflow_add-joined : goal.overflow_add-joined
-overflow_add-joined c = omega (arith, (joins-room c.requires.lt_count.0 c.requires.lt_count.1 c.requires.cover_room).0)
-
-pub build_lines-requires : goal.build_lines-requires
-build_lines-requires c = record { good_rows = rows-inputs (sym c.sources_at-sources.ensures.1) c.requires.lt_count.1; lines_room = joined-room c.requires.lt_count.0 c.requires.lt_count.1 c.requires.cover_room c.is_one-one.result c.sources_at-sources.ensures.0 c.sources_at-sources.ensures.1 (join-put c.is_one-one.result c.args.built.pins c.args.lines.count c.args.gates.now (c.args.j * gate_width) c.join_gate-gate.ensures c.put_record.ensures) c.put_joins.ensures }
+pub build_lines-requires-clause-lines_room : goal.build_lines-requires-clause-lines_room
+build_lines-requires-clause-lines_room c = joined-room c.requires.lt_count.0 c.requires.lt_count.1 c.requires.cover_room c.is_one-one.result c.sources_at-sources.ensures.0 c.sources_at-sources.ensures.1 (join-put c.is_one-one.result c.args.built.pins c.args.lines.count c.args.gates.now (c.args.j * gate_width) c.join_gate-gate.ensures c.put_record.ensures) c.put_joins.ensures
 
 pub returns : goal.returns
 returns c = joined-built c.requires.lt_count.0 c.requires.lt_count.1 c.requires.cover_room c.is_one-one.result c.sources_at-sources.ensures.0 c.sources_at-sources.ensures.1 (join-put c.is_one-one.result c.args.built.pins c.args.lines.count c.args.gates.now (c.args.j * gate_width) c.join_gate-gate.ensures c.put_record.ensures) c.put_joins.ensures

@@ -5,11 +5,11 @@ use Rattle.blif_read_gates.proofs.CellLaws.{turn_is}
 use Rattle.blif_read_gates.proofs.LiteralLaws.{literal-zero, literal-one, literal-dash}
 use Rattle.blif_read_gates.proofs.write_literal.Goals as goal
 
-pub returns-then-column-eq48 : goal.returns-then-column-eq48
-returns-then-column-eq48 c = literal-zero c.args.column c.args.source c.args.at c.raw.result c.args.pins.now c.if-column-eq48.true (c.raw.ensures ∙ c.not.ensures ∙ turn_is c.args.source (omega arith))
+pub returns-in-48 : goal.returns-in-48
+returns-in-48 c = literal-zero c.args.column c.args.source c.args.at c.raw.result c.args.pins.now c.in-48.is (c.raw.ensures ∙ c.not.ensures ∙ turn_is c.args.source (omega arith))
 
-pub returns-then-column-eq49 : goal.returns-then-column-eq49
-returns-then-column-eq49 c = literal-one c.args.column c.args.source c.args.at c.args.pins.now c.if-column-eq48.false c.if-column-eq49.true
+pub returns-in-49 : goal.returns-in-49
+returns-in-49 c = literal-one c.args.column c.args.source c.args.at c.args.pins.now (λ e. let z : ⊥ = omega (arith, c.in-49.is) in z) c.in-49.is
 
-pub returns : goal.returns
-returns c = literal-dash c.args.column c.args.source c.args.at c.args.pins.now c.if-column-eq48.false c.if-column-eq49.false
+pub returns-in_default : goal.returns-in_default
+returns-in_default c = literal-dash c.args.column c.args.source c.args.at c.args.pins.now (λ e. let z : ⊥ = omega arith in z) (λ e. let z : ⊥ = omega arith in z)

@@ -1,7 +1,7 @@
 -- The gates of covers, built in the working cells (document 01, src/io/blif.rs: `build_network`). Assumes nothing: these are definitions.
+use Rattle.refusals.specs.Order.{fine}
 use Rattle.std.specs.Prelude.{◌≡◌, List, map, ℕ, ◌+◌, ◌≤◌, length}
 use Rattle.lists.specs.Lists.{Bytes, sum_of}
-use Rattle.refusals.specs.declared.Checked.TheVariants.{Fine}
 use Rattle.signal.specs.Signal.{Signal}
 use Rattle.network.specs.Sizes.{max_gates, max_pins}
 use Rattle.blif_text.specs.Decls.{Def}
@@ -19,7 +19,7 @@ pub record Buildable (ds : List Def) (gates pins_in : List ℕ) (used : ℕ) : T
   -- "16,384 pins"
   pub few_pins : sum_of pin_count ds ≤ max_pins
   -- no refusal 12 or 13
-  pub good : cover_faults ds ≡ Fine
+  pub good : cover_faults ds ≡ fine
   -- the pins of the gates placed first are in use
   pub start : used ≡ sum_of placed_count ds
   -- and those gates stand in the cells

@@ -1,11 +1,11 @@
 -- The steps that build the gates of covers: literals, a line, the lines of a cover, a cover, a block (document 01, src/io/blif.rs:
 -- `build_network`). Assumes nothing: these are definitions.
+use Rattle.refusals.specs.Order.{fine}
 use Rattle.std.specs.Prelude.{◌≡◌, Bool, true, cond, List, [], ◌∷◌, ◌++◌, map, ℕ, zero, suc, ◌+◌, ◌-◌, ◌*◌, ◌%◌, ◌≤◌, ◌<◌, eqb, length, take, drop}
 use Rattle.std.proofs.Math.Option.{some}
 use Rattle.std.proofs.Math.ListN.{get_elem?}
 use Rattle.lists.specs.Lists.{Bytes, all, sum_of}
 use Rattle.lists.specs.Between.Lists.{overwrite_at}
-use Rattle.refusals.specs.declared.Checked.TheVariants.{Fine}
 use Rattle.signal.specs.Signal.{Signal}
 use Rattle.signal.specs.Cell.{bit_of, sig_cell}
 use Rattle.gates.specs.Gate.{AndN, Gate, Comb}
@@ -181,7 +181,7 @@ pub record BlockRoom (d : Def) (j next at : ℕ) (gates pins_in : List ℕ) : Ty
   -- the working cells
   pub room : WorkRoom gates pins_in
   -- good lines
-  pub good : cover_fault d ≡ Fine
+  pub good : cover_fault d ≡ fine
   -- its pin count
   pub counted : count_at gates j ≡ placed_count d
   -- its pins are in use

@@ -2,9 +2,6 @@
 use Rattle.blif_read_names.proofs.Entering.{gate-known, gate-new}
 use Rattle.blif_read_names.proofs.define_gate.Goals as goal
 
-pub enter_name-requires : goal.enter_name-requires
-enter_name-requires c = record { index = c.requires.index_is; index_bound = (c.requires.free, c.requires.inside) }
-
 pub returns-then-not-enter_name : goal.returns-then-not-enter_name
 returns-then-not-enter_name c = gate-known c.requires c.enter_name.ensures (c.if-not-enter_name.true)
 

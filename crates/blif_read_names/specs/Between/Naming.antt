@@ -1,13 +1,11 @@
 -- Names entered declaration by declaration, up to a refusal of 7 to 10 (document 01, src/io/blif.rs: `build_name_to_sig`). Assumes nothing:
 -- these are definitions.
-use Rattle.std.specs.Prelude.{◌≡◌, Bool, false, List, [], ◌∷◌, ◌++◌, map, ℕ, ◌+◌, ◌-◌, ◌*◌, ◌≤◌, ◌<◌, ltb, length, get_or, take}
+use Rattle.std.specs.Prelude.{◌≡◌, Bool, false, List, [], ◌∷◌, ◌++◌, map, ℕ, ◌+◌, ◌-◌, ◌*◌, ◌≤◌, ◌<◌, ltb, length, get_or, take, ⊤, Result, Ok, Err}
 use Rattle.lists.specs.Lists.{Bytes, known}
 use Rattle.lists.specs.Between.Lists.{overwrite_at}
-use Rattle.refusals.specs.Order.{refuse_if}
+use Rattle.refusals.specs.Order.{refuse_if, fine}
 use Rattle.refusals.specs.declared.Refusal.{Refusal}
 use Rattle.refusals.specs.declared.Refusal.TheVariants as refusal
-use Rattle.refusals.specs.declared.Checked.{Checked}
-use Rattle.refusals.specs.declared.Checked.TheVariants.{Fine, Refused}
 use Rattle.signal.specs.Signal.{Var, plain}
 use Rattle.signal.specs.Cell.{sig_cell}
 use Rattle.network.specs.Sizes.{max_inputs, max_gates, max_outputs}
@@ -22,8 +20,6 @@ use Rattle.name_index.specs.Between.Index.{max_names, entry_count, entries_of, I
 use Rattle.blif_reading.specs.Read.{too_large, defined_twice, naming}
 use Rattle.blif_read_names.specs.Between.Entries.{input_entries, entries}
 use Rattle.blif_read_names.specs.declared.Walk.{Walk}
-use Rattle.blif_read_names.specs.declared.Step.{Step}
-use Rattle.blif_read_names.specs.declared.Step.TheVariants as step
 
 -- the names of the first k entries
 abbrev pub names_in : Bytes → List ℕ → ℕ → List Bytes
@@ -41,13 +37,13 @@ pub record InputsFit (text names index : List ℕ) (i : ℕ) : Type 0 where
   pub room : entry_count index + length names ≤ max_names
 
 -- the names of these cells are entered behind k others as inputs from number i on, or one "is defined twice"
-pub record InputsEntered (text names index : List ℕ) (k i : ℕ) (index' : List ℕ) (r : Checked) : Type 0 where
+pub record InputsEntered (text names index : List ℕ) (k i : ℕ) (index' : List ℕ) (r : Result ⊤ Refusal) : Type 0 where
   -- "10 when a name is defined twice"
   pub refused : r ≡ refuse_if (defined_twice (names_in text index k) (tokens_of text names)) refusal.DefinedTwice
   -- the index has them now
-  pub index_is : r ≡ Fine → Index text index' (k + length names)
+  pub index_is : r ≡ fine → Index text index' (k + length names)
   -- behind the others
-  pub added : r ≡ Fine → entries_of text index' (k + length names) ≡ entries_of text index k ++ input_entries i (tokens_of text names)
+  pub added : r ≡ fine → entries_of text index' (k + length names) ≡ entries_of text index k ++ input_entries i (tokens_of text names)
 
 -- gate g can be defined by the name at a cell
 pub record GateFits (text index : List ℕ) (g cell : ℕ) (block : Block) (blocks : List ℕ) : Type 0 where
@@ -69,15 +65,15 @@ pub record GateFits (text index : List ℕ) (g cell : ℕ) (block : Block) (bloc
   pub lines : block.lines ≤ max_tokens
 
 -- gate g is defined by its block and the name x, which is entered behind k others, or "is defined twice"
-pub record GateDefined (text index : List ℕ) (k g : ℕ) (x : Bytes) (block : Block) (blocks index' blocks' : List ℕ) (r : Checked) : Type 0 where
+pub record GateDefined (text index : List ℕ) (k g : ℕ) (x : Bytes) (block : Block) (blocks index' blocks' : List ℕ) (r : Result ⊤ Refusal) : Type 0 where
   -- "10 when a name is defined twice"
   pub refused : r ≡ refuse_if (known x (names_in text index k)) refusal.DefinedTwice
   -- the index has it now
-  pub index_is : r ≡ Fine → Index text index' (k + 1)
+  pub index_is : r ≡ fine → Index text index' (k + 1)
   -- behind the others
-  pub added : r ≡ Fine → entries_of text index' (k + 1) ≡ entries_of text index k ++ (entry x (sig_cell (plain (Var g))) ∷ [])
+  pub added : r ≡ fine → entries_of text index' (k + 1) ≡ entries_of text index k ++ (entry x (sig_cell (plain (Var g))) ∷ [])
   -- and its record is written
-  pub block-is : r ≡ Fine → blocks' ≡ overwrite_at (g * block_width) (block.first ∷ block.names ∷ block.lines ∷ []) blocks
+  pub block-is : r ≡ fine → blocks' ≡ overwrite_at (g * block_width) (block.first ∷ block.names ∷ block.lines ∷ []) blocks
 
 -- gate g can be defined by a cover of these names
 pub record CoverFits (text tokens index : List ℕ) (g first names : ℕ) (blocks : List ℕ) : Type 0 where
@@ -95,9 +91,9 @@ pub record CoverFits (text tokens index : List ℕ) (g first names : ℕ) (block
   pub few : first + names ≤ max_tokens
 
 -- gate g is defined by a cover's last name, behind k others, or "`.names` is empty"
-pub record CoverDefined (text tokens index : List ℕ) (k g : ℕ) (block : Block) (blocks index' blocks' : List ℕ) (r : Checked) : Type 0 where
+pub record CoverDefined (text tokens index : List ℕ) (k g : ℕ) (block : Block) (blocks index' blocks' : List ℕ) (r : Result ⊤ Refusal) : Type 0 where
   -- "9 when `.names` is empty"
-  pub empty : block.names ≡ 0 → r ≡ Refused refusal.NamesEmpty
+  pub empty : block.names ≡ 0 → r ≡ Err refusal.NamesEmpty
   -- its last name defines it
   pub last : (block.names ≡ 0 → ⊥)
       → GateDefined text index k g (token_of text (get_or tokens (block.first + block.names - 1) 0)) block blocks index' blocks' r
@@ -119,9 +115,9 @@ abbrev pub gate_walk : Walk → Walk
 gate_walk w = record { at = w.at; models = w.models; inputs = w.inputs; gates = w.gates + 1; outputs = w.outputs }
 
 -- the walk goes on where nothing is refused
-abbrev pub step_of : Checked → Walk → Step
-step_of Fine w = step.Next w
-step_of (Refused r) w = step.Refused r
+abbrev pub step_of : Result ⊤ Refusal → Walk → Result Walk Refusal
+step_of (Ok _) w = Ok w
+step_of (Err r) w = Err r
 
 -- gate g can be defined by a latch
 pub record LatchFits (text tokens index blocks : List ℕ) (w : Walk) (run : Run) : Type 0 where
@@ -131,18 +127,18 @@ pub record LatchFits (text tokens index blocks : List ℕ) (w : Walk) (run : Run
   pub gate : GateFits text index w.gates (get_or tokens (run.first + 1) 0) (latch_block run) blocks
 
 -- a latch is passed
-pub record LatchStep (text tokens index blocks index' blocks' : List ℕ) (w : Walk) (run : Run) (s : Step) : Type 0 where
+pub record LatchStep (text tokens index blocks index' blocks' : List ℕ) (w : Walk) (run : Run) (s : Result Walk Refusal) : Type 0 where
   -- its refusal, if it has one
-  pub checked : Checked
+  pub checked : Result ⊤ Refusal
   -- else the walk goes on behind it
   pub walk : s ≡ step_of checked (gate_walk w)
   -- its second name defines a gate
   pub gate : GateDefined text index (entry_count index) w.gates (token_of text (get_or tokens (run.first + 1) 0)) (latch_block run) blocks index' blocks' checked
 
 -- a cover and its lines are passed
-pub record CoverStep (text tokens index blocks index' blocks' : List ℕ) (w : Walk) (block : Block) (s : Step) : Type 0 where
+pub record CoverStep (text tokens index blocks index' blocks' : List ℕ) (w : Walk) (block : Block) (s : Result Walk Refusal) : Type 0 where
   -- its refusal, if it has one
-  pub checked : Checked
+  pub checked : Result ⊤ Refusal
   -- else the walk goes on behind the lines
   pub walk : s ≡ step_of checked (gate_walk w)
   -- its last name defines a gate
@@ -187,8 +183,8 @@ pub record NamingSoFar (text tokens : List ℕ) (n : ℕ) (index out_names block
   pub tabled : TablesTo (decls (stmts_from text tokens n 0)) (decls (stmts_from text tokens n w.at)) text tokens n index out_names blocks w.inputs w.gates w.outputs
 
 -- a declaration is passed
-pub data Steps (text tokens : List ℕ) (n : ℕ) (index out_names blocks : List ℕ) (v : Walk) : Step → Type 0 where
+pub data Steps (text tokens : List ℕ) (n : ℕ) (index out_names blocks : List ℕ) (v : Walk) : Result Walk Refusal → Type 0 where
   -- the first refusal counts
-  stops : {r : Refusal} → naming false [] (decls (stmts_from text tokens n 0)) ≡ Refused r → Steps text tokens n index out_names blocks v (step.Refused r)
+  stops : {r : Refusal} → naming false [] (decls (stmts_from text tokens n 0)) ≡ Err r → Steps text tokens n index out_names blocks v (Err r)
   -- or the walk goes on
-  goes : {w : Walk} → v.at < w.at → NamingSoFar text tokens n index out_names blocks w → Steps text tokens n index out_names blocks v (step.Next w)
+  goes : {w : Walk} → v.at < w.at → NamingSoFar text tokens n index out_names blocks w → Steps text tokens n index out_names blocks v (Ok w)

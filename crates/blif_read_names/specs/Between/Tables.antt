@@ -1,8 +1,8 @@
 -- What is kept of a text's declarations: the index of names, the outputs' names and the blocks, as places. Assumes nothing: these are
 -- definitions.
-use Rattle.std.specs.Prelude.{◌≡◌, false, List, [], ℕ, ◌+◌, length, take}
+use Rattle.refusals.specs.Order.{fine}
+use Rattle.std.specs.Prelude.{◌≡◌, false, List, [], ℕ, ◌+◌, length, take, Result, Ok, Err}
 use Rattle.lists.specs.Lists.{Bytes}
-use Rattle.refusals.specs.declared.Checked.TheVariants.{Fine, Refused}
 use Rattle.blif_text.specs.Decls.{Decl, ins, outs, defs}
 use Rattle.blif_text.specs.Between.Places.{tokens_of}
 use Rattle.blif_text.specs.Between.Walk.{Inside}
@@ -10,8 +10,8 @@ use Rattle.blif_text.specs.Between.Blocks.{defs_at, Blocks}
 use Rattle.name_index.specs.Between.Index.{entries_of, Index}
 use Rattle.blif_reading.specs.Read.{naming}
 use Rattle.blif_read_names.specs.Between.Entries.{entries}
-use Rattle.blif_read_names.specs.declared.Defined.{Defined}
-use Rattle.blif_read_names.specs.declared.Defined.TheVariants as defined
+use Rattle.blif_read_names.specs.declared.Declared.{Declared}
+use Rattle.refusals.specs.declared.Refusal.{Refusal}
 
 -- the index and the blocks of declarations, with i inputs, g gates and o outputs
 pub record Named (ds : List Decl) (text tokens : List ℕ) (n : ℕ) (index blocks : List ℕ) (i g o : ℕ) : Type 0 where
@@ -40,7 +40,7 @@ pub record Tables (ds : List Decl) (text tokens : List ℕ) (n : ℕ) (index out
   pub outputs-in : Inside text out_names o
 
 -- "7 at a second `.model`; 8 ..; 9 ..; 10 ..", or the tables
-abbrev pub DefinedBy : List Decl → Bytes → List ℕ → ℕ → List ℕ → List ℕ → List ℕ → Defined → Type 0
-DefinedBy ds text tokens n index out_names blocks (defined.Refused r) = naming false [] ds ≡ Refused r
-DefinedBy ds text tokens n index out_names blocks (defined.Names d) =
-    (naming false [] ds ≡ Fine) × Tables ds text tokens n index out_names blocks d.inputs d.gates d.outputs
+abbrev pub DefinedBy : List Decl → Bytes → List ℕ → ℕ → List ℕ → List ℕ → List ℕ → Result Declared Refusal → Type 0
+DefinedBy ds text tokens n index out_names blocks (Err r) = naming false [] ds ≡ Err r
+DefinedBy ds text tokens n index out_names blocks (Ok d) =
+    (naming false [] ds ≡ fine) × Tables ds text tokens n index out_names blocks d.inputs d.gates d.outputs

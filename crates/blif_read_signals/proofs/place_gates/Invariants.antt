@@ -1,4 +1,3 @@
-use Prim.Native.Nat.{◌-◌}
 use lib.ListN.{length}
 use Rattle.blif_text.specs.Between.Blocks.{def_at}
 use Rattle.name_index.specs.Between.Search.{signal_in}
@@ -8,6 +7,3 @@ use Rattle.blif_read_signals.proofs.place_gates.Given as goal
 
 abbrev pub invariant-loop-j : goal.invariant-loop-j
 invariant-loop-j l = Placing (signal_in (entries_of l.text l.index (entry_count l.index))) (def_at l.text l.tokens (length l.tokens) l.blocks) l.g l.initial.gates l.initial.pins l.gates l.pins l.j l.at
-
-abbrev pub decreases-loop-j : goal.decreases-loop-j
-decreases-loop-j l = l.g - l.j

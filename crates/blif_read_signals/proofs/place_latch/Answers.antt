@@ -9,20 +9,17 @@ use Rattle.blif_read_signals.specs.Between.Steps.{latch_of}
 use Rattle.blif_read_signals.proofs.OneGate.{latch-missing, latch-placed, start-told}
 use Rattle.blif_read_signals.proofs.place_latch.Goals as goal
 
-pub token-requires : goal.token-requires
-token-requires c = c.requires.index.1.inside.inside 0 (omega (arith, c.requires.index.1.two))
-
 pub returns-then-input-eq0 : goal.returns-then-input-eq0
 returns-then-input-eq0 c = let l = latch_of c.args.text.now c.args.tokens.now in
     latch-missing (signal_in (entries_of c.args.text.now c.args.index.now (entry_count c.args.index.now))) l.input l.output l.init ((c.find_signal-input.ensures ∙ ap (signal_in (entries_of c.args.text.now c.args.index.now (entry_count c.args.index.now))) c.token.ensures))
     c.args.j c.args.at c.args.gates.now c.args.pins.now c.if-input-eq0.true
 
-pub latch_start-start-requires : goal.latch_start-start-requires
-latch_start-start-requires c = part-inside 2 (length c.args.tokens.now) c.requires.index.1.inside (omega arith)
+pub latch_start-requires : goal.latch_start-requires
+latch_start-requires c = part-inside 2 (length c.args.tokens.now) c.requires.index.1.inside (omega arith)
 
 pub returns : goal.returns
 returns c = let l = latch_of c.args.text.now c.args.tokens.now in
     latch-placed (signal_in (entries_of c.args.text.now c.args.index.now (entry_count c.args.index.now))) l.input l.output l.init ((c.find_signal-input.ensures ∙ ap (signal_in (entries_of c.args.text.now c.args.index.now (entry_count c.args.index.now))) c.token.ensures))
-    c.one.result c.zero.result c.is_one.result c.args.j c.args.at c.args.gates.now c.args.pins.now c.requires.gate_room
+    c.one.result c.zero.result c.unwrap_or-start.result c.args.j c.args.at c.args.gates.now c.args.pins.now c.requires.gate_room
     c.if-input-eq0.false c.one.ensures c.zero.ensures
-    (start-told c.args.text.now c.args.tokens.now c.is_one.ensures c.latch_start-start.ensures) c.lay_gate.ensures
+    (start-told c.args.text.now c.args.tokens.now c.unwrap_or-start.ensures c.latch_start.ensures) c.lay_gate.ensures

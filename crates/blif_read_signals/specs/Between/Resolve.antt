@@ -1,6 +1,6 @@
 -- Names that are used, each by its signal: refusal 11, and the gates first placed (document 01, src/io/blif.rs: `build_network`).
 -- Assumes nothing: these are definitions.
-use Rattle.std.specs.Prelude.{◌≡◌, Bool, true, not, cond, ℕ, eqb}
+use Rattle.std.specs.Prelude.{◌≡◌, Bool, true, not, cond, ℕ, eqb, Result, Ok, Err}
 use mathlib.Core.List.{List, map, flat_map}
 use Rattle.lists.specs.Lists.{Bytes, all, overwrite, sum_of}
 use Rattle.refusals.specs.declared.Refusal.TheVariants as refusal
@@ -8,8 +8,7 @@ use Rattle.signal.specs.Signal.{Signal}
 use Rattle.signal.specs.Cell.{sig_cell}
 use Rattle.blif_text.specs.Decls.{Def, used_names}
 use Rattle.blif_reading.specs.Between.Working.{GatesIn, placed, placed_count}
-use Rattle.blif_read_signals.specs.declared.Placed.{Placed}
-use Rattle.blif_read_signals.specs.declared.Placed.TheVariants as answer
+use Rattle.refusals.specs.declared.Refusal.{Refusal}
 
 -- a signal was found: zero is no name's
 abbrev pub is_found : ℕ → Bool
@@ -31,11 +30,11 @@ abbrev pub all_found : (Bytes → ℕ) → List Def → Bool
 all_found sig ds = all is_found (map sig (flat_map used_names ds))
 
 -- the pins' end; or "11 when an output, latch input or cover input is undefined"
-abbrev pub placed_to : Bool → ℕ → Placed
-placed_to found end = cond found (answer.Pins end) (answer.Refused refusal.Undefined)
+abbrev pub placed_to : Bool → ℕ → Result ℕ Refusal
+placed_to found end = cond found (Ok end) (Err refusal.Undefined)
 
 -- the gates of definitions were placed in the working cells, or a name was not found
-pub record PlacedBy (sig : Bytes → ℕ) (ds : List Def) (gates pins_in : List ℕ) (r : Placed) : Type 0 where
+pub record PlacedBy (sig : Bytes → ℕ) (ds : List Def) (gates pins_in : List ℕ) (r : Result ℕ Refusal) : Type 0 where
   -- the pins are counted
   pub counted : r ≡ placed_to (all_found sig ds) (sum_of placed_count ds)
   -- the gates stand in the cells

@@ -1,5 +1,5 @@
 -- One gate placed in the working cells (document 01, src/io/blif.rs: `build_network`). Assumes nothing: these are definitions.
-use Rattle.std.specs.Prelude.{◌≡◌, true, List, [], ◌∷◌, map, ℕ, ◌+◌, ◌*◌, ◌≤◌, ◌<◌, length}
+use Rattle.std.specs.Prelude.{◌≡◌, true, List, [], ◌∷◌, map, ℕ, ◌+◌, ◌*◌, ◌≤◌, ◌<◌, length, Result}
 use Rattle.lists.specs.Lists.{Bytes, all, optional}
 use Rattle.lists.specs.Between.Lists.{overwrite_at}
 use Rattle.network.specs.Sizes.{max_gates, max_pins}
@@ -14,7 +14,7 @@ use Rattle.blif_text.specs.Between.Walk.{Inside}
 use Rattle.blif_text.specs.Between.PlacedStatements.{latch_in}
 use Rattle.blif_reading.specs.Between.Working.{WorkRoom}
 use Rattle.blif_read_signals.specs.Between.Resolve.{is_found, placed_to}
-use Rattle.blif_read_signals.specs.declared.Placed.{Placed}
+use Rattle.refusals.specs.declared.Refusal.{Refusal}
 
 -- there is room for gate j's record, and for its pins from cell at on
 pub record GateRoom (gates pins_in : List ℕ) (j at count : ℕ) : Type 0 where
@@ -26,7 +26,7 @@ pub record GateRoom (gates pins_in : List ℕ) (j at count : ℕ) : Type 0 where
   pub few : at + count ≤ max_pins
 
 -- the gate x in hand was placed as gate j, with this run of pins from cell at on; or a name that it uses was not found
-pub record GatePlaced (sig : Bytes → ℕ) (x : code.Gate) (names : List Bytes) (run : List ℕ) (j at : ℕ) (gates pins_in gates' pins_in' : List ℕ) (r : Placed) : Type 0 where
+pub record GatePlaced (sig : Bytes → ℕ) (x : code.Gate) (names : List Bytes) (run : List ℕ) (j at : ℕ) (gates pins_in gates' pins_in' : List ℕ) (r : Result ℕ Refusal) : Type 0 where
   -- the cell behind the run, where all were found
   pub end : r ≡ placed_to (all is_found (map sig names)) (at + length run)
   -- the record
@@ -62,5 +62,5 @@ placed_run sig (latch l) = sig l.input ∷ optional sig 1 l.enable ∷ optional 
 placed_run sig (cover ns ls) = map sig (cover_ins ns)
 
 -- the gate of a definition was placed
-abbrev pub DefPlaced : (Bytes → ℕ) → Def → ℕ → ℕ → List ℕ → List ℕ → List ℕ → List ℕ → Placed → Type 0
+abbrev pub DefPlaced : (Bytes → ℕ) → Def → ℕ → ℕ → List ℕ → List ℕ → List ℕ → List ℕ → Result ℕ Refusal → Type 0
 DefPlaced sig d j at gates pins_in gates' pins_in' r = GatePlaced sig (placed_in_hand sig at d) (used_names d) (placed_run sig d) j at gates pins_in gates' pins_in' r

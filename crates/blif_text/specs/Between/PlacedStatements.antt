@@ -1,24 +1,24 @@
 -- Statements as places in the caller's text (document 01: "`Statement` with lists: an enum of places"). Assumes nothing: these are
 -- definitions.
-use Rattle.std.specs.Prelude.{◌≡◌, Bool, true, false, cond, List, [], ℕ, ◌+◌, ◌-◌, ◌≤◌, ◌<◌, ltb, get_or, take, drop}
+use Rattle.std.specs.Prelude.{◌≡◌, Bool, true, false, cond, List, [], ℕ, ◌+◌, ◌-◌, ◌≤◌, ◌<◌, ltb, get_or, take, drop, ⊤, Result, Ok, Err, Some, None}
+use Rattle.std.specs.declared.option.Option as std-option
 use Rattle.std.proofs.Math.Option
 use Rattle.std.proofs.Math.Option.{Option, none, some}
 use Rattle.std.proofs.Math.Seq.{slice}
 use Rattle.lists.specs.Lists.{Bytes}
 use Rattle.refusals.specs.declared.Refusal.TheVariants as refusal
-use Rattle.refusals.specs.declared.Checked.{Checked}
 use Rattle.blif_meaning.specs.Model.{Init, Unknown, init_bit, LatchDef, plain_latch}
 use Rattle.blif_text.specs.Keywords.{keyword_of}
-use Rattle.blif_text.specs.Statements.{Parsed, ok, bad, init_among, refusal_of}
+use Rattle.blif_text.specs.Statements.{Parsed, ok, bad, init_among}
 use Rattle.blif_text.specs.Statements as stmt
 use Rattle.blif_text.specs.Between.Places.{is_first, token_of, tokens_of}
 use Rattle.blif_text.specs.declared.Run.{Run}
 use Rattle.blif_text.specs.declared.Keyword.{Keyword}
 use Rattle.blif_text.specs.declared.Keyword.TheVariants as key
-use Rattle.blif_text.specs.declared.Start.{Start}
-use Rattle.blif_text.specs.declared.Start.TheVariants as start
 use Rattle.blif_text.specs.declared.Statement.{Statement}
 use Rattle.blif_text.specs.declared.Statement.TheVariants as place
+use Rattle.refusals.specs.Order.{fine}
+use Rattle.refusals.specs.declared.Refusal.{Refusal}
 
 -- the tokens of a run of token cells
 abbrev pub run_tokens : Bytes → List ℕ → Run → List Bytes
@@ -34,28 +34,22 @@ latch_in text cells run =
     plain_latch (token_of text (get_or cells run.first 0)) (token_of text (get_or cells (run.first + 1) 0))
     (Option.get_or (init_in text cells (run.first + 2) (run.first + run.count)) Unknown)
 
--- what the code tells of an initial state
-abbrev pub start_of : Option Init → Start
-start_of none = start.Wrong
-start_of (some i) = cond (init_bit i) start.One start.Zero
-
--- whether that is one
-abbrev pub at_one : Start → Bool
-at_one start.Zero = false
-at_one start.One = true
-at_one start.Wrong = false
+-- the start value of an initial state, if there is one
+abbrev pub start_of : Option Init → std-option.Option Bool
+start_of none = None
+start_of (some i) = Some (init_bit i)
 
 -- what a statement of places says
-abbrev pub parsed_from : Bytes → List ℕ → Statement → Parsed
-parsed_from text cells place.Model = ok stmt.Stmt.model
-parsed_from text cells place.End = ok stmt.Stmt.end
-parsed_from text cells place.Exdc = ok stmt.Stmt.exdc
-parsed_from text cells (place.Inputs run) = ok (stmt.Stmt.inputs (run_tokens text cells run))
-parsed_from text cells (place.Outputs run) = ok (stmt.Stmt.outputs (run_tokens text cells run))
-parsed_from text cells (place.Names run) = ok (stmt.Stmt.names (run_tokens text cells run))
-parsed_from text cells (place.Latch run) = ok (stmt.Stmt.latch (latch_in text cells run))
-parsed_from text cells (place.Cube run) = ok (stmt.Stmt.cube (run_tokens text cells run))
-parsed_from text cells (place.Refused r) = bad r
+abbrev pub parsed_from : Bytes → List ℕ → Result Statement Refusal → Parsed
+parsed_from text cells (Ok place.Model) = ok stmt.Stmt.model
+parsed_from text cells (Ok place.End) = ok stmt.Stmt.end
+parsed_from text cells (Ok place.Exdc) = ok stmt.Stmt.exdc
+parsed_from text cells (Ok (place.Inputs run)) = ok (stmt.Stmt.inputs (run_tokens text cells run))
+parsed_from text cells (Ok (place.Outputs run)) = ok (stmt.Stmt.outputs (run_tokens text cells run))
+parsed_from text cells (Ok (place.Names run)) = ok (stmt.Stmt.names (run_tokens text cells run))
+parsed_from text cells (Ok (place.Latch run)) = ok (stmt.Stmt.latch (latch_in text cells run))
+parsed_from text cells (Ok (place.Cube run)) = ok (stmt.Stmt.cube (run_tokens text cells run))
+parsed_from text cells (Err r) = bad r
 
 -- a row goes from at to r: of the cells up to n, the one at r is the next that starts a row
 pub record RowTo (cells : List ℕ) (at n r : ℕ) : Type 0 where
@@ -73,33 +67,33 @@ abbrev pub names_run : ℕ → ℕ → Run
 names_run at end = record { first = at + 1; count = end - at - 1 }
 
 -- the statement of a latch by what is told of its initial state: "34 when a start value is not 0, 1, 2 or 3"
-abbrev pub started_latch : Start → Run → Statement
-started_latch start.Zero run = place.Latch run
-started_latch start.One run = place.Latch run
-started_latch start.Wrong run = place.Refused refusal.WrongStart
+abbrev pub started_latch : std-option.Option Bool → Run → Result Statement Refusal
+started_latch (Some v) run = Ok (place.Latch run)
+started_latch None run = Err refusal.WrongStart
 
 -- the statement of the row from at to end, which is a latch's: "4 when .. `.latch` has fewer than two"
-abbrev pub latch_statement : Bytes → List ℕ → ℕ → ℕ → Statement
+abbrev pub latch_statement : Bytes → List ℕ → ℕ → ℕ → Result Statement Refusal
 latch_statement text cells at end =
-    cond (ltb (end - at - 1) 2) (place.Refused refusal.MissingName) (started_latch (start_of (init_in text cells (at + 3) end)) (names_run at end))
+    cond (ltb (end - at - 1) 2) (Err refusal.MissingName) (started_latch (start_of (init_in text cells (at + 3) end)) (names_run at end))
 
 -- the statement of the row from at to end whose first token has this keyword: "4 when `.model` lacks a name"; "5 when the construct is
 -- unsupported"
-abbrev pub statement_of : Bytes → List ℕ → Keyword → ℕ → ℕ → Statement
-statement_of text cells key.Model at end = cond (ltb (end - at - 1) 1) (place.Refused refusal.MissingName) place.Model
-statement_of text cells key.Inputs at end = place.Inputs (names_run at end)
-statement_of text cells key.Outputs at end = place.Outputs (names_run at end)
+abbrev pub statement_of : Bytes → List ℕ → Keyword → ℕ → ℕ → Result Statement Refusal
+statement_of text cells key.Model at end = cond (ltb (end - at - 1) 1) (Err refusal.MissingName) (Ok place.Model)
+statement_of text cells key.Inputs at end = Ok (place.Inputs (names_run at end))
+statement_of text cells key.Outputs at end = Ok (place.Outputs (names_run at end))
 statement_of text cells key.Latch at end = latch_statement text cells at end
-statement_of text cells key.Names at end = place.Names (names_run at end)
-statement_of text cells key.End at end = place.End
-statement_of text cells key.Exdc at end = place.Exdc
-statement_of text cells key.Unsupported at end = place.Refused refusal.Unsupported
-statement_of text cells key.Cube at end = place.Cube (record { first = at; count = end - at })
+statement_of text cells key.Names at end = Ok (place.Names (names_run at end))
+statement_of text cells key.End at end = Ok place.End
+statement_of text cells key.Exdc at end = Ok place.Exdc
+statement_of text cells key.Unsupported at end = Err refusal.Unsupported
+statement_of text cells key.Cube at end = Ok (place.Cube (record { first = at; count = end - at }))
 
 -- the statement of the row of token cells from at to end
-abbrev pub statement_at : Bytes → List ℕ → ℕ → ℕ → Statement
+abbrev pub statement_at : Bytes → List ℕ → ℕ → ℕ → Result Statement Refusal
 statement_at text cells at end = statement_of text cells (keyword_of (token_of text (get_or cells at 0))) at end
 
--- the refusal that a statement of places is, if it is one
-abbrev pub refusal_in : Statement → Checked
-refusal_in s = refusal_of (parsed_from [] [] s)
+-- its refusal, if it has one
+abbrev pub refusal_in : Result Statement Refusal → Result ⊤ Refusal
+refusal_in (Ok s) = fine
+refusal_in (Err r) = Err r

@@ -1,5 +1,5 @@
 -- What the functions that scan a text promise to each other: records over places in the text. Assumes nothing: these are definitions.
-use Rattle.std.specs.Prelude.{◌≡◌, Bool, true, false, not, ◌||◌, List, [], ◌∷◌, ◌⊎◌, ℕ, ◌+◌, ◌-◌, ◌*◌, ◌≤◌, ◌<◌, eqb, length, get_or, set}
+use Rattle.std.specs.Prelude.{◌≡◌, Bool, true, false, not, ◌||◌, List, [], ◌∷◌, ◌⊎◌, ℕ, ◌+◌, ◌-◌, ◌*◌, ◌≤◌, ◌<◌, eqb, length, get_or, set, Option, Some, None}
 use Rattle.lists.specs.Lists.{Bytes}
 use Rattle.lists.specs.Between.Lists.{overwrite_at}
 use Rattle.blif_text.specs.Lines.{is_blank, max_text}
@@ -48,12 +48,10 @@ pub data StopTo (t : Bytes) (stop next : ℕ) : Type 0 where
   -- "one CR directly before it goes too"
   at-cr : stop + 1 < length t → get_or t stop 0 ≡ 13 → get_or t (stop + 1) 0 ≡ 10 → next ≡ stop + 2 → StopTo t stop next
 
--- where the next line starts if a line stops at stop, else 0
-pub record StopOf (t : Bytes) (stop r : ℕ) : Type 0 where
-  -- no line stops there
-  pub none : r ≡ 0 → (next : ℕ) → StopTo t stop next → ⊥
-  -- one does
-  pub some : 0 < r → StopTo t stop r
+-- where the next line starts if a line stops at stop
+abbrev pub StopOf : Bytes → ℕ → Option ℕ → Type 0
+StopOf t stop None = (next : ℕ) → StopTo t stop next → ⊥
+StopOf t stop (Some next) = StopTo t stop next
 
 -- none of these tokens is a statement's first
 abbrev pub NoneFirst : List ℕ → Type 0

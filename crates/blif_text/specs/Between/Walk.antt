@@ -1,8 +1,8 @@
 -- The walk over marked tokens, row by row and statement by statement. Assumes nothing: these are definitions.
+use Rattle.refusals.specs.Order.{fine}
 use Rattle.std.specs.Prelude.{◌≡◌, List, [], map, ℕ, ◌≤◌, ◌<◌, length, get_or}
 use Rattle.std.proofs.Math.Seq.{slice}
 use Rattle.lists.specs.Lists.{Bytes}
-use Rattle.refusals.specs.declared.Checked.TheVariants.{Fine}
 use Rattle.blif_text.specs.Statements.{Stmt, first_bad, stmts}
 use Rattle.blif_text.specs.Between.Rows.{row_stmt}
 use Rattle.blif_text.specs.Between.Places.{InText, grouped}
@@ -36,4 +36,4 @@ pub record StmtsAt (text cells : List ℕ) (n at : ℕ) : Type 0 where
   -- rows
   pub rows : RowsAt text cells n at
   -- each is a statement
-  pub good : first_bad (map row_stmt (rows_from text cells n at)) ≡ Fine
+  pub good : first_bad (map row_stmt (rows_from text cells n at)) ≡ fine

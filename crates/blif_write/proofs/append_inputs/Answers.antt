@@ -5,7 +5,7 @@ use mathlib.Core.List.{◌∷◌}
 use Rattle.signal.specs.Signal.{Signal}
 use Rattle.blif_writing.specs.Names.{name_bytes}
 use Rattle.blif_write_names.proofs.Laws.{append-past, as-text}
-use Rattle.blif_write_names.proofs.Parts.{going-kept, going-full, before-start, before-next, before-done}
+use Rattle.blif_write_names.proofs.Parts.{going-full, before-start, before-next, before-done}
 use Rattle.blif_write_gates.proofs.Texts.{input-signal}
 use Rattle.blif_write.proofs.Heads.{input-parts}
 use Rattle.blif_write.proofs.append_inputs.Goals as goal
@@ -16,26 +16,11 @@ returns-then-at-out c = append-past c.if-at-out.true
 pub loop-i-init : goal.loop-i-init
 loop-i-init c = before-start c.if-at-out.false
 
-pub shape_of-out-then-end-out : goal.shape_of-out-then-end-out
-shape_of-out-then-end-out c = going-kept c.loop-i.invariant.going
-
 pub returns-then-end-out : goal.returns-then-end-out
 returns-then-end-out c = going-full c.loop-i.invariant.going c.if-end-out.true
 
-pub overflow_cast-i : goal.overflow_cast-i
-overflow_cast-i c = omega (arith, c.loop-i-test.true, c.requires)
-
-pub overflow_add-i : goal.overflow_add-i
-overflow_add-i c = omega (arith, c.loop-i-test.true)
-
-pub loop-i-smaller : goal.loop-i-smaller
-loop-i-smaller c = omega (arith, c.loop-i-test.true)
-
 pub loop-i-preserved : goal.loop-i-preserved
 loop-i-preserved c = before-next (input-parts _) c.loop-i.invariant c.loop-i-test.true (as-text (ap (λ (x : Signal). 32 ∷ name_bytes x) (input-signal _ _ (omega (arith, c.loop-i-test.true, c.requires)) c.from_input.ensures)) c.append_name-end.ensures)
-
-pub shape_of-out : goal.shape_of-out
-shape_of-out c = going-kept c.loop-i.invariant.going
 
 pub returns : goal.returns
 returns c = before-done (input-parts _) c.loop-i.invariant c.loop-i-test.false

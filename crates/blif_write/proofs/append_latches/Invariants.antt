@@ -1,4 +1,4 @@
-use Prim.Native.Nat.{ℕ, ◌-◌}
+use Prim.Native.Nat.{ℕ}
 use Rattle.network.specs.Cells.{cell_gates}
 use Rattle.blif_write_names.proofs.Parts.{Before}
 use Rattle.blif_write.specs.Between.Parts.{latches_text}
@@ -6,6 +6,3 @@ use Rattle.blif_write.proofs.append_latches.Given as goal
 
 abbrev pub invariant-loop-g : goal.invariant-loop-g
 invariant-loop-g l = Before (λ (h k : ℕ). latches_text h (cell_gates l.gates l.pins h k)) l.n l.initial.out l.at l.out l.end l.g
-
-abbrev pub decreases-loop-g : goal.decreases-loop-g
-decreases-loop-g l = l.n - l.g

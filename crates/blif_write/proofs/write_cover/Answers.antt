@@ -1,20 +1,7 @@
 -- `write_cover` writes the cover by the gate's kind. Assumes nothing.
-use native.Mathlib.Omega.{arith}
 use Rattle.blif_write_names.proofs.Laws.{as-wrote, wrote_nothing}
-use Rattle.blif_write.proofs.Covers.{run_ends, narrow-run, cover-binary, cover-ternary, cover-nary, cover-buf, cover-dff}
+use Rattle.blif_write.proofs.Covers.{cover-binary, cover-ternary, cover-nary, cover-buf, cover-dff}
 use Rattle.blif_write.proofs.write_cover.Goals as goal
-
-pub overflow_add-end : goal.overflow_add-end
-overflow_add-end c = omega (arith, (run_ends c.args.pins.now c.in-Nary.is c.requires.1))
-
-pub offset_bounds-pins-start : goal.offset_bounds-pins-start
-offset_bounds-pins-start c = omega (arith, (run_ends c.args.pins.now c.in-Nary.is c.requires.1))
-
-pub slice_bounds-write_nary-end : goal.slice_bounds-write_nary-end
-slice_bounds-write_nary-end c = omega (arith, (run_ends c.args.pins.now c.in-Nary.is c.requires.1))
-
-pub write_nary-requires : goal.write_nary-requires
-write_nary-requires c = (c.requires.0, narrow-run c.args.pins.now c.in-Nary.is c.requires.2)
 
 pub returns-in-Binary : goal.returns-in-Binary
 returns-in-Binary c = as-wrote (cover-binary c.args.g c.args.pins.now c.in-Binary.is) c.write_binary.ensures

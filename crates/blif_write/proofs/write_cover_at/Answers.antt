@@ -20,9 +20,9 @@ returns-in_default c = absurd (read-bad c.requires.0 c.gate_at.ensures c.in_defa
 pub write_cover-requires : goal.write_cover-requires
 write_cover-requires c = (
   c.requires.0.low,
-  decoded-within c.args.gates.now c.args.pins.now c.args.g c.gate_at.ensures c.in-Good.is,
-  ap wide (read-good c.args.gates.now c.args.pins.now c.args.g c.gate_at.ensures c.in-Good.is) ∙ c.requires.1,
+  decoded-within c.args.gates.now c.args.pins.now c.args.g c.gate_at.ensures c.in-Some.is,
+  ap wide (read-good c.args.gates.now c.args.pins.now c.args.g c.gate_at.ensures c.in-Some.is) ∙ c.requires.1,
 )
 
 pub returns : goal.returns
-returns c = as-wrote (ap (cover_text c.args.g) (read-good c.args.gates.now c.args.pins.now c.args.g c.gate_at.ensures c.in-Good.is)) c.write_cover.ensures
+returns c = as-wrote (ap (cover_text c.args.g) (read-good c.args.gates.now c.args.pins.now c.args.g c.gate_at.ensures c.in-Some.is)) c.write_cover.ensures

@@ -15,8 +15,5 @@ returns-then-form_at-ne-DFF c = as-wrote (latch-none c.requires c.form_at.ensure
 pub returns-in_default : goal.returns-in_default
 returns-in_default c = absurd (read-bad (c.requires) c.gate_at.ensures c.in_default.is)
 
-pub write_latch-requires : goal.write_latch-requires
-write_latch-requires c = c.requires.low
-
 pub returns : goal.returns
-returns c = as-wrote (latch-any c.args.g c.in-Good.gate c.args.pins.now ∙ ap (latch_text c.args.g) (read-good c.args.gates.now c.args.pins.now c.args.g c.gate_at.ensures c.in-Good.is)) c.write_latch.ensures
+returns c = as-wrote (latch-any c.args.g c.in-Some.gate c.args.pins.now ∙ ap (latch_text c.args.g) (read-good c.args.gates.now c.args.pins.now c.args.g c.gate_at.ensures c.in-Some.is)) c.write_latch.ensures

@@ -1,14 +1,10 @@
 -- `write_network` lends the room and looks at the length. Assumes nothing.
-use native.Mathlib.Omega.{arith}
 use mathlib.Core.Path.{sym, ◌∙◌}
 use lib.Seq.{length-take-le}
 use Rattle.network.specs.Cells.{net_of}
 use Rattle.network.proofs.Lent.{network-sizes}
 use Rattle.blif_write.proofs.Whole.{ends-long, ends-written}
 use Rattle.blif_write.proofs.write_network.Goals as goal
-
-pub slice_bounds-write_text-end-2 : goal.slice_bounds-write_text-end-2
-slice_bounds-write_text-end-2 c = sym (length-take-le _ c.args.out.now (omega (arith, c.room_in-room.ensures)))
 
 pub slice_bounds-write_text-end-3 : goal.slice_bounds-write_text-end-3
 slice_bounds-write_text-end-3 c = sym (length-take-le _ c.args.outputs.now (network-sizes _ c.requires.network).outs-lent)
@@ -21,6 +17,6 @@ pub returns-then-end-room : goal.returns-then-end-room
 unfolding net_of
 returns-then-end-room c = c.refuse.ensures ∙ ends-long _ c.args.out.now (c.requires) c.room_in-room.ensures c.write_text-end.ensures c.if-end-room.true
 
-pub returns : goal.returns
+pub returns-else-end-room : goal.returns-else-end-room
 unfolding net_of
-returns c = ends-written _ c.args.out.now (c.requires) c.room_in-room.ensures c.write_text-end.ensures c.if-end-room.false c.fill_zero_bytes.ensures
+returns-else-end-room c = ends-written _ c.args.out.now (c.requires) c.room_in-room.ensures c.write_text-end.ensures c.if-end-room.false c.fill_zero_bytes.ensures

@@ -1,5 +1,3 @@
-use Prim.Native.Nat.{◌-◌}
-use lib.ListN.{length}
 use Rattle.gates.specs.Between.Forms.{binary_form}
 use Rattle.blif_writing.specs.WrittenModel.{lines_of}
 use Rattle.blif_write_cubes.proofs.FormLines.{Rows}
@@ -7,6 +5,3 @@ use Rattle.blif_write_cubes.proofs.append_binary_lines.Given as goal
 
 abbrev pub invariant-loop-i : goal.invariant-loop-i
 invariant-loop-i l = Rows (lines_of (binary_form l.t) 2) l.initial.out l.at l.out l.end l.i
-
-abbrev pub decreases-loop-i : goal.decreases-loop-i
-decreases-loop-i l = length (lines_of (binary_form l.t) 2) - l.i

@@ -5,5 +5,5 @@ use Rattle.blif_write_cubes.proofs.append_nary_lines.Goals as goal
 pub returns-then-at-out : goal.returns-then-at-out
 returns-then-at-out c = append-past c.if-at-out.true
 
-pub returns : goal.returns
-returns c = append-room c.if-at-out.false c.write_nary_lines.ensures
+pub returns-else-at-out : goal.returns-else-at-out
+returns-else-at-out c = append-room c.if-at-out.false c.write_nary_lines.ensures

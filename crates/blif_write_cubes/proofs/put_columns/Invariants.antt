@@ -5,6 +5,3 @@ use Rattle.blif_write_cubes.proofs.put_columns.Given as goal
 
 abbrev pub invariant-loop-i : goal.invariant-loop-i
 invariant-loop-i l = Putting (mask_columns l.num_vars l.mask) l.initial.out (mask_columns (l.num_vars - l.i) l.left) l.out l.i
-
-abbrev pub decreases-loop-i : goal.decreases-loop-i
-decreases-loop-i l = l.num_vars - l.i

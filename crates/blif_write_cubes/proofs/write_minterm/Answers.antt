@@ -4,7 +4,7 @@ use Rattle.blif_write_cubes.proofs.Lines.{minterm-other, minterm-is}
 use Rattle.blif_write_cubes.proofs.write_minterm.Goals as goal
 
 pub returns-then-mask-parity : goal.returns-then-mask-parity
-returns-then-mask-parity c = as-wrote (minterm-other c.args.parity c.args.num_vars c.args.mask c.if-mask-parity.true) wrote_nothing
+returns-then-mask-parity c = as-wrote (minterm-is c.args.parity c.args.num_vars c.args.mask c.if-mask-parity.true) c.write_blif_cube.ensures
 
-pub returns : goal.returns
-returns c = as-wrote (minterm-is c.args.parity c.args.num_vars c.args.mask c.if-mask-parity.false) c.write_blif_cube.ensures
+pub returns-else-mask-parity : goal.returns-else-mask-parity
+returns-else-mask-parity c = as-wrote (minterm-other c.args.parity c.args.num_vars c.args.mask c.if-mask-parity.false) wrote_nothing

@@ -1,16 +1,9 @@
 -- `write_nary_lines` writes the lines by the type. Assumes nothing.
-use mathlib.Core.Path.{refl}
 use mathlib.Core.Bool.{true, false}
 use Rattle.blif_meaning.specs.Model.{C0, C1}
 use Rattle.blif_write_names.proofs.Laws.{as-wrote}
-use Rattle.blif_write_cubes.proofs.FormLines.{within-narrow, lines_at, same_line, xor-lines, xnor-lines}
+use Rattle.blif_write_cubes.proofs.FormLines.{lines_at, same_line, xor-lines, xnor-lines}
 use Rattle.blif_write_cubes.proofs.write_nary_lines.Goals as goal
-
-pub write_masks-requires : goal.write_masks-requires
-write_masks-requires c = within-narrow c.args.num_vars c.in-Xor.is refl c.requires
-
-pub write_masks-requires-in-Xnor : goal.write_masks-requires-in-Xnor
-write_masks-requires-in-Xnor c = within-narrow c.args.num_vars c.in-Xnor.is refl c.requires
 
 pub returns-in-And : goal.returns-in-And
 returns-in-And c = as-wrote (lines_at c.args.num_vars c.in-And.is (same_line c.args.num_vars C1 true)) c.write_same_cube.ensures

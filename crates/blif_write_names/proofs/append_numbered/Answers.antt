@@ -6,5 +6,5 @@ use Rattle.blif_write_names.proofs.append_numbered.Goals as goal
 pub returns-then-inverted : goal.returns-then-inverted
 returns-then-inverted c = as-text (invert-name c.args.letter c.args.n c.args.inverted c.if-inverted.true) (and-append (and-append c.append_byte-first.ensures c.append_number-end.ensures) c.append.ensures)
 
-pub returns : goal.returns
-returns c = as-text (plain-name c.args.letter c.args.n c.args.inverted c.if-inverted.false) (and-append c.append_byte-first.ensures c.append_number-end.ensures)
+pub returns-else-inverted : goal.returns-else-inverted
+returns-else-inverted c = as-text (plain-name c.args.letter c.args.n c.args.inverted c.if-inverted.false) (and-append c.append_byte-first.ensures c.append_number-end.ensures)

@@ -8,6 +8,3 @@ use Rattle.gate_bits.proofs.lay_slots.Given as goal
 
 abbrev pub invariant-loop-i : goal.invariant-loop-i
 invariant-loop-i l = Laying (run_slots l.run l.pad (length l.initial.slots)) l.initial.slots 0 (map (slot_or l.run l.pad) (range l.i (length l.initial.slots - l.i))) l.slots l.i
-
-abbrev pub decreases-loop-i : goal.decreases-loop-i
-decreases-loop-i l = length l.initial.slots - l.i

@@ -7,18 +7,6 @@ pub returns-in-And : goal.returns-in-And
 returns-in-And c = let a = c.args in
     rw (c.in-And.is, c.any_one.ensures) (no_zero (pin_bits a.bits.now a.run.now))
 
-pub returns-in-Or : goal.returns-in-Or
-returns-in-Or c = rw c.in-Or.is c.any_one-in-Or.ensures
-
 pub returns-in-Nand : goal.returns-in-Nand
 returns-in-Nand c = let a = c.args in
     rw (c.in-Nand.is, c.any_one-in-Nand.ensures) (some-zero (pin_bits a.bits.now a.run.now))
-
-pub returns-in-Nor : goal.returns-in-Nor
-returns-in-Nor c = rw (c.in-Nor.is, c.any_one-in-Nor.ensures)
-
-pub returns-in-Xor : goal.returns-in-Xor
-returns-in-Xor c = rw c.in-Xor.is c.odd_ones.ensures
-
-pub returns-in-Xnor : goal.returns-in-Xnor
-returns-in-Xnor c = rw (c.in-Xnor.is, c.odd_ones-in-Xnor.ensures)

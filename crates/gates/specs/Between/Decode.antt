@@ -1,6 +1,6 @@
 -- The code's `Gate` with its pins, as the data `Gate` (document 01: "a Gate enum whose Binary, Ternary and Nary cases each hold a
 -- type enum beside signals or a pin run"). Assumes nothing: these are definitions.
-use Rattle.std.specs.Prelude.{Bool, true, false, ◌&&◌, cond, List, [], ◌∷◌, map, ℕ, ◌+◌, eqb, leb, length, get_or, take, drop}
+use Rattle.std.specs.Prelude.{Bool, true, false, ◌&&◌, cond, List, [], ◌∷◌, map, ℕ, ◌+◌, eqb, leb, length, get_or, take, drop, Some, None}
 use Rattle.std.proofs.Math.Option.{Option, none, some}
 use Rattle.signal.specs.declared.Signal as code
 use Rattle.signal.specs.Cell.{sig_of}
@@ -12,8 +12,7 @@ use Rattle.gates.specs.declared.Gate.{Gate}
 use Rattle.gates.specs.declared.Gate.TheVariants as G
 use Rattle.gates.specs.declared.Kind.{Kind}
 use Rattle.gates.specs.declared.Kind.TheVariants as K
-use Rattle.gates.specs.declared.Decoded.{Decoded}
-use Rattle.gates.specs.declared.Decoded.TheVariants.{Good, Bad}
+use Rattle.std.specs.declared.option.Option as std-option
 
 -- the pins of a run
 abbrev pub run_of : PinRun → List ℕ → List ℕ
@@ -60,9 +59,9 @@ start_in (G.Buf a) = false
 start_in (G.Dff d e r v) = v
 
 -- the gate that was decoded, if one was
-abbrev pub decoded_in : Decoded → List ℕ → Option data-gate.Gate
-decoded_in (Good g) pins = some (gate_in g pins)
-decoded_in Bad pins = none
+abbrev pub decoded_in : std-option.Option Gate → List ℕ → Option data-gate.Gate
+decoded_in (Some g) pins = some (gate_in g pins)
+decoded_in None pins = none
 
 -- a gate's kind
 abbrev pub kind_of_gate : Gate → Kind
@@ -86,14 +85,14 @@ abbrev pub cell_signal : List ℕ → ℕ → code.Signal
 cell_signal ps i = record { a = get_or ps i 0 }
 
 -- a kind with its start value and the pins of its run, which starts at cell i, as a `Gate` that has as many
-abbrev pub kind_gate : Kind → ℕ → ℕ → List ℕ → Decoded
-kind_gate (K.Binary t) i v ps = Good (G.Binary t (cell_signal ps 0) (cell_signal ps 1))
-kind_gate (K.Ternary t) i v ps = Good (G.Ternary t (cell_signal ps 0) (cell_signal ps 1) (cell_signal ps 2))
-kind_gate (K.Nary t) i v ps = Good (G.Nary t (record { first = i; count = length ps }))
-kind_gate K.Buf i v ps = Good (G.Buf (cell_signal ps 0))
-kind_gate K.Dff i v ps = Good (G.Dff (cell_signal ps 0) (cell_signal ps 1) (cell_signal ps 2) (eqb v 1))
-kind_gate K.Unknown i v ps = Bad
+abbrev pub kind_gate : Kind → ℕ → ℕ → List ℕ → std-option.Option Gate
+kind_gate (K.Binary t) i v ps = Some (G.Binary t (cell_signal ps 0) (cell_signal ps 1))
+kind_gate (K.Ternary t) i v ps = Some (G.Ternary t (cell_signal ps 0) (cell_signal ps 1) (cell_signal ps 2))
+kind_gate (K.Nary t) i v ps = Some (G.Nary t (record { first = i; count = length ps }))
+kind_gate K.Buf i v ps = Some (G.Buf (cell_signal ps 0))
+kind_gate K.Dff i v ps = Some (G.Dff (cell_signal ps 0) (cell_signal ps 1) (cell_signal ps 2) (eqb v 1))
+kind_gate K.Unknown i v ps = None
 
 -- the same where the kind can have so many pins and this start value, else nothing
-unfoldable pub with_pins : Kind → ℕ → ℕ → List ℕ → Decoded
-with_pins k i v ps = cond (kind_takes k (length ps) && kind_starts k v) (kind_gate k i v ps) Bad
+unfoldable pub with_pins : Kind → ℕ → ℕ → List ℕ → std-option.Option Gate
+with_pins k i v ps = cond (kind_takes k (length ps) && kind_starts k v) (kind_gate k i v ps) None

@@ -6,5 +6,5 @@ use Rattle.name_index.proofs.find_signal.Goals as goal
 pub returns-then-held-eq0 : goal.returns-then-held-eq0
 returns-then-held-eq0 c = search (sought-none, rules)
 
-pub returns : goal.returns
-returns c = search (sought-signal, rules)
+pub returns-else-held-eq0 : goal.returns-else-held-eq0
+returns-else-held-eq0 c = search (sought-signal, rules)

@@ -1,22 +1,11 @@
 -- `put_record` stores the cells of a record. Assumes nothing.
 use mathlib.Core.Path.{refl, ap, ◌∙◌}
 use Prim.Native.Nat.{◌*◌}
-use native.Mathlib.Omega.{arith}
-use lib.ListN.{length-set}
 use Rattle.network.proofs.LaidGates.{stored-four}
 use Rattle.signal.specs.Cell.{bit_of}
 use Rattle.gates.specs.Between.Forms.{kind_number}
 use Rattle.network.specs.Record.{gate_width}
 use Rattle.network.proofs.put_record.Goals as goal
-
-pub bounds-gates-at-2 : goal.bounds-gates-at-2
-bounds-gates-at-2 c = simp length-set (omega (arith, c.requires.0.within))
-
-pub bounds-gates-at-3 : goal.bounds-gates-at-3
-bounds-gates-at-3 c = simp length-set (omega (arith, c.requires.0.within))
-
-pub bounds-gates-at-4 : goal.bounds-gates-at-4
-bounds-gates-at-4 c = simp length-set (omega (arith, c.requires.0.within))
 
 pub returns : goal.returns
 returns c = stored-four (c.args.g * gate_width) c.args.gates.now

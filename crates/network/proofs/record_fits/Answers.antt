@@ -1,18 +1,16 @@
 -- `record_fits` asks for the form, the start value and then for the run. Assumes nothing.
 use mathlib.Core.Path.{sym, ◌∙◌}
-use Rattle.network.proofs.Records.{takes-is, starts_is, form-refused, start-refused, form-taken}
+use mathlib.Core.Bool.{false≢true}
+use Rattle.network.proofs.Records.{takes-is, starts_is, form-taken}
 use Rattle.network.proofs.record_fits.Goals as goal
+use Rattle.network.proofs.record_fits.Goals.{then-takes, else-takes}
 
-pub returns-then-not-takes : goal.returns-then-not-takes
-returns-then-not-takes c = form-refused c.args.gates.now c.args.g (sym ((takes-is c.args.gates.now c.args.g
-    c.form_at.ensures c.kind_of-kind.ensures c.count_at.ensures c.takes.ensures)) ∙ c.if-not-takes.true)
-
-pub returns-then-not-starts : goal.returns-then-not-starts
-returns-then-not-starts c = start-refused c.args.gates.now c.args.g (sym ((starts_is c.args.gates.now c.args.g
-    c.form_at.ensures c.kind_of-kind.ensures c.start_at.ensures c.starts.ensures)) ∙ c.if-not-starts.true)
-
-pub returns : goal.returns
-returns c = form-taken c.args.gates.now c.args.g (sym ((takes-is c.args.gates.now c.args.g
-    c.form_at.ensures c.kind_of-kind.ensures c.count_at.ensures c.takes.ensures)) ∙ c.if-not-takes.false) (sym ((starts_is c.args.gates.now c.args.g
-    c.form_at.ensures c.kind_of-kind.ensures c.start_at.ensures c.starts.ensures)) ∙ c.if-not-starts.false)
-    c.first_at.ensures c.requires.1
+pub returns-then-starts : goal.returns-then-starts
+returns-then-starts c =
+    elim c.if-takes.branch [
+      | then-takes w ↦ form-taken _ _
+          (sym (takes-is c.args.gates.now c.args.g c.form_at.ensures c.kind_of-kind.ensures c.count_at.ensures c.takes.ensures) ∙ w.if-takes.true)
+          (sym (starts_is c.args.gates.now c.args.g c.form_at.ensures c.kind_of-kind.ensures w.start_at.ensures w.starts.ensures) ∙ sym w.value-is ∙ c.if-starts.true)
+          c.first_at.ensures c.requires.1
+      | else-takes w ↦ absurd (false≢true (sym w.if-takes.false ∙ sym w.value-is ∙ c.if-starts.true))
+    ]

@@ -1,14 +1,7 @@
 -- `records_fit` keeps the pin at which the runs so far end. Assumes nothing.
 use mathlib.Core.Path.{sym, ◌∙◌}
-use native.Mathlib.Omega.{arith}
-use Rattle.network.proofs.Records.{following-start, following-next, following-fails, following-ends}
+use Rattle.network.proofs.Records.{following-next, following-fails, following-ends}
 use Rattle.network.proofs.records_fit.Goals as goal
-
-pub loop-g-init : goal.loop-g-init
-loop-g-init c = following-start _ c.requires.0 c.requires.1
-
-pub record_fits-requires : goal.record_fits-requires
-record_fits-requires c = (omega arith, c.loop-g.invariant.start)
 
 pub returns-then-not-record_fits : goal.returns-then-not-record_fits
 returns-then-not-record_fits c = following-fails c.loop-g.invariant _ c.loop-g-test.true (sym c.record_fits.ensures ∙ c.if-not-record_fits.true)

@@ -1,16 +1,16 @@
 -- Beside specs/Record: what contracts between the crates and proofs use, and no promise reaches.
 -- Assumes nothing: these are definitions.
-use Rattle.std.specs.Prelude.{◌≡◌, cond, List, [], ◌∷◌, ℕ, suc, ◌+◌, ◌*◌, ◌^◌, ◌<◌, ◌≤◌, length, take, drop}
+use Rattle.std.specs.Prelude.{◌≡◌, cond, List, [], ◌∷◌, ℕ, suc, ◌+◌, ◌*◌, ◌^◌, ◌<◌, ◌≤◌, length, take, drop, None}
 use Rattle.lists.specs.Between.Lists.{overwrite_at}
 use Rattle.signal.specs.Cell.{bit_of}
 use Rattle.gates.specs.Between.Forms.{kind_of, kind_number}
 use Rattle.gates.specs.Between.Decode.{pins_in, pin_count, kind_of_gate, start_in, with_pins}
 use Rattle.gates.specs.declared.Gate as code
 use Rattle.gates.specs.declared.Gate.TheVariants as G
-use Rattle.gates.specs.declared.Decoded.{Decoded}
-use Rattle.gates.specs.declared.Decoded.TheVariants.{Bad}
 use Rattle.network.specs.Sizes.{max_pins}
 use Rattle.network.specs.Record.{gate_width, record_cells, form_at, first_at, count_at, start_at, run_at, has_run, pin_cells}
+use Rattle.std.specs.declared.option.Option as std-option
+use Rattle.gates.specs.declared.Gate.{Gate}
 
 -- gate g's record
 abbrev pub record_at : List ℕ → ℕ → List ℕ
@@ -21,8 +21,8 @@ abbrev pub with_first : ℕ → List ℕ → List ℕ
 with_first at r = overwrite_at 1 (at ∷ []) r
 
 -- the same as the code's `Gate`, a Nary gate with the run that its record has: the first pin of a run without pins is the record's too
-unfoldable pub decoded_at : List ℕ → List ℕ → ℕ → Decoded
-decoded_at cells pin_cells g = cond (has_run cells pin_cells g) (with_pins (kind_of (form_at cells g)) (first_at cells g) (start_at cells g) (run_at cells pin_cells g)) Bad
+unfoldable pub decoded_at : List ℕ → List ℕ → ℕ → std-option.Option Gate
+decoded_at cells pin_cells g = cond (has_run cells pin_cells g) (with_pins (kind_of (form_at cells g)) (first_at cells g) (start_at cells g) (run_at cells pin_cells g)) None
 
 -- ---- what functions tell each other of records
 

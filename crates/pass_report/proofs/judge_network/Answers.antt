@@ -6,5 +6,5 @@ use Rattle.pass_report.proofs.judge_network.Goals as goal
 pub returns-then-counts-eq0 : goal.returns-then-counts-eq0
 returns-then-counts-eq0 c = no_output _ _ c.requires.network c.if-counts-eq0.true
 
-pub returns : goal.returns
-returns c = c.run_commands.ensures ∙ some-output _ _ c.requires.network c.if-counts-eq0.false
+pub returns-else-counts-eq0 : goal.returns-else-counts-eq0
+returns-else-counts-eq0 c = c.run_commands.ensures ∙ some-output _ _ c.requires.network c.if-counts-eq0.false

@@ -1,5 +1,5 @@
 -- What the functions of a report ask of rows and networks. Assumes nothing: these are definitions.
-use Rattle.std.specs.Prelude.{◌≡◌, Bool, true, List, ℕ, suc, ◌≤◌, ◌<◌, eqb, length}
+use Rattle.std.specs.Prelude.{◌≡◌, Bool, true, List, ℕ, suc, ◌≤◌, ◌<◌, eqb, length, Result, Ok}
 use Rattle.lists.specs.Lists.{Bytes, all}
 use Rattle.gates.specs.Gate.{is_plain}
 use Rattle.network.specs.Net.{topo_sorted}
@@ -7,8 +7,7 @@ use Rattle.network.specs.Cells.{Lent, net_of, is_network}
 use Rattle.blif_text.specs.Lines.{split}
 use Rattle.run_rows.specs.Rows.{rows_text, Wide}
 use Rattle.pass_report.specs.declared.Verdicts.{Verdicts}
-use Rattle.pass_report.specs.declared.Judged.{Judged}
-use Rattle.pass_report.specs.declared.Judged.TheVariants.{Counted}
+use Rattle.refusals.specs.declared.Refusal.{Refusal}
 
 -- the bytes are these rows of one output or more, each of this width with its LF
 pub record OutputRows (outs : List (List Bool)) (width : ℕ) (t : Bytes) : Type 0 where
@@ -49,6 +48,6 @@ pub record FewCounts (commands : ℕ) (v : Verdicts) : Type 0 where
   pub rejected : v.rejected ≤ 128
 
 -- the same of what is found
-pub record FewJudged (commands : ℕ) (j : Judged) : Type 0 where
+pub record FewJudged (commands : ℕ) (j : Result Verdicts Refusal) : Type 0 where
   -- whatever is counted is few
-  pub counted : (v : Verdicts) → j ≡ Counted v → FewCounts commands v
+  pub counted : (v : Verdicts) → j ≡ Ok v → FewCounts commands v

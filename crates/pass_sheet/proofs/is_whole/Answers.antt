@@ -1,12 +1,16 @@
--- `is_whole` looks at the length, then at the last byte. Assumes nothing.
-use Rattle.pass_sheet.proofs.Found.{whole_long, whole-empty, whole-last}
+-- `is_whole` looks at the last byte, then at the length. Assumes nothing.
+use borrow.Author.Rules.{rules}
+use borrow.Author.Tests.{tests}
+use Rattle.std.proofs.Common.{arith}
+use Rattle.std.proofs.lemmas.Grind.{common_steps}
+use Rattle.blif_text.specs.Lines.{ends_in_lf}
+use Rattle.pass_sheet.specs.Sheet.{is_whole}
 use Rattle.pass_sheet.proofs.is_whole.Goals as goal
 
-pub returns-then-text-gt40960 : goal.returns-then-text-gt40960
-returns-then-text-gt40960 c = whole_long c.args.text.now c.if-text-gt40960.true
+pub returns-then-eq : goal.returns-then-eq
+unfolding ends_in_lf is_whole
+returns-then-eq c = search (rules, tests)
 
-pub returns-then-text-eq0 : goal.returns-then-text-eq0
-returns-then-text-eq0 c = whole-empty c.args.text.now c.if-text-eq0.true
-
-pub returns : goal.returns
-returns c = whole-last c.args.text.now c.if-text-gt40960.false
+pub returns-else-eq : goal.returns-else-eq
+unfolding ends_in_lf is_whole
+returns-else-eq c = grind (arith, common_steps)

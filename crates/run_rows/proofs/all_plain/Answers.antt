@@ -1,13 +1,10 @@
 -- `all_plain` tests one gate after the other. Assumes nothing.
 use mathlib.Core.Path.{sym, ◌∙◌}
 use Rattle.lists.specs.Lists.{range}
-use Rattle.lists.proofs.Range.{all_map, to_start, to-next, to-fails, to-done}
+use Rattle.lists.proofs.Range.{all_map, to-next, to-fails, to-done}
 use Rattle.gates.specs.Gate.{is_plain}
 use Rattle.network.proofs.FittingRecords.{held_at}
 use Rattle.run_rows.proofs.all_plain.Goals as goal
-
-pub loop-g-init : goal.loop-g-init
-loop-g-init c = to_start
 
 pub is_plain-requires : goal.is_plain-requires
 is_plain-requires c = (_, _, c.requires.1.each _ c.loop-g-test.true)

@@ -1,9 +1,5 @@
-use Prim.Native.Nat.{◌-◌}
 use Rattle.run_rows.proofs.LayingOut.{Listing}
 use Rattle.run_rows.proofs.list_flops.Given as goal
 
 abbrev pub invariant-loop-g : goal.invariant-loop-g
 invariant-loop-g l = Listing l.gates l.n l.initial.flops l.flops l.k l.g
-
-abbrev pub decreases-loop-g : goal.decreases-loop-g
-decreases-loop-g l = l.n - l.g

@@ -10,12 +10,10 @@ use lib.ListN.{length, take, drop, length-map, length-append, length-drop}
 use lib.Seq.{length-take-le}
 use Rattle.lists.specs.Lists.{Bytes}
 use Rattle.signal.specs.Cell.{sig_of}
-use Rattle.refusals.specs.declared.Refusal.TheVariants as refusal
 use Rattle.network.specs.Net.{Net}
 use Rattle.network.specs.Cells.{cell_net}
 use Rattle.run_rows.specs.Between.Asks.{WholeRows}
-use Rattle.run_rows.specs.Into.{refused_run}
-use Rattle.run_rows.proofs.Outcomes.{refused-is, not-fitting, rows_whole, lines_fit, ran-not, ran-all}
+use Rattle.run_rows.proofs.Outcomes.{refused-is, not-fitting, rows_whole, lines_fit, ran-all}
 use Rattle.run_rows.proofs.run_fitting.Goals as goal
 
 -- the network of the outputs in use
@@ -69,25 +67,6 @@ returns-then-not-rows_fit c =
     (line-is a.counts.inputs a.counts.gates a.counts.outputs a.gates.now a.pins.now a.outputs.now c.requires.outputs_in_bounds)
     (sym c.rows_fit.ensures ∙ c.if-not-rows_fit.true)
 
-pub overflow_mul-end : goal.overflow_mul-end
-overflow_mul-end c =
-    let a = c.args in
-    omega (arith, fit a.counts.inputs a.counts.outputs a.outputs.now a.rows.now a.out.now (sym c.rows_fit.ensures ∙ c.if-not-rows_fit.false) c.requires.outputs_in_bounds)
-
-pub slice_bounds-run_sorted-end : goal.slice_bounds-run_sorted-end
-slice_bounds-run_sorted-end c = sym (length-take-le _ _ c.requires.outputs_in_bounds)
-
-pub slice_bounds-run_sorted-end-2 : goal.slice_bounds-run_sorted-end-2
-slice_bounds-run_sorted-end-2 c =
-    let a = c.args in
-    fit a.counts.inputs a.counts.outputs a.outputs.now a.rows.now a.out.now (sym c.rows_fit.ensures ∙ c.if-not-rows_fit.false) c.requires.outputs_in_bounds
-
-pub slice_bounds-run_sorted-end-3 : goal.slice_bounds-run_sorted-end-3
-slice_bounds-run_sorted-end-3 c =
-    let a = c.args in
-    sym (length-take-le _ _ (fit a.counts.inputs a.counts.outputs a.outputs.now a.rows.now a.out.now (sym c.rows_fit.ensures ∙ c.if-not-rows_fit.false)
-    c.requires.outputs_in_bounds))
-
 pub run_sorted-requires : goal.run_sorted-requires
 run_sorted-requires c =
     let a = c.args in
@@ -95,30 +74,6 @@ run_sorted-requires c =
       runnable = c.requires.runnable;
       whole_rows = asks a.counts.inputs a.counts.outputs a.outputs.now a.rows.now a.out.now (sym c.rows_fit.ensures ∙ c.if-not-rows_fit.false) c.requires.outputs_in_bounds;
     }
-
-pub returns-then-not-run_sorted : goal.returns-then-not-run_sorted
-returns-then-not-run_sorted c =
-    let a = c.args in
-    refused-is c.refuse-then-not-run_sorted.ensures
-    ∙ ap (refused_run refusal.WrongRows)
-    (as_long a.counts.inputs a.counts.outputs a.outputs.now a.rows.now a.out.now (sym c.rows_fit.ensures ∙ c.if-not-rows_fit.false) c.requires.outputs_in_bounds
-    c.run_sorted.new.out c.run_sorted.auto.out)
-    ∙ ran-not (net a.counts.inputs a.counts.gates a.counts.outputs a.gates.now a.pins.now a.outputs.now) a.rows.now (length a.out.now) _ _
-    (row_is a.counts.inputs a.counts.gates a.counts.outputs a.gates.now a.pins.now a.outputs.now)
-    (line-is a.counts.inputs a.counts.gates a.counts.outputs a.gates.now a.pins.now a.outputs.now c.requires.outputs_in_bounds)
-    c.run_sorted.new.out c.if-not-run_sorted.true c.run_sorted.ensures
-
-pub slice_bounds-fill_zero_bytes-count : goal.slice_bounds-fill_zero_bytes-count
-slice_bounds-fill_zero_bytes-count c =
-    let a = c.args in
-    behind a.counts.inputs a.counts.outputs a.outputs.now a.rows.now a.out.now (sym c.rows_fit.ensures ∙ c.if-not-rows_fit.false) c.requires.outputs_in_bounds
-    c.run_sorted.new.out c.run_sorted.auto.out
-
-pub slice_bounds-fill_zero_bytes-start : goal.slice_bounds-fill_zero_bytes-start
-slice_bounds-fill_zero_bytes-start c =
-    let a = c.args in
-    behind a.counts.inputs a.counts.outputs a.outputs.now a.rows.now a.out.now (sym c.rows_fit.ensures ∙ c.if-not-rows_fit.false) c.requires.outputs_in_bounds
-    c.run_sorted.new.out c.run_sorted.auto.out
 
 pub returns : goal.returns
 returns c =

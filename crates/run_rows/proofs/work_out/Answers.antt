@@ -8,9 +8,6 @@ use Rattle.run_rows.proofs.work_out.Goals.{then-form_at-ne-DFF, else-form_at-ne-
 pub loop-g-init : goal.loop-g-init
 loop-g-init c = working-start c.requires
 
-pub form_at-requires : goal.form_at-requires
-form_at-requires c = (c.requires.gates.each c.loop-g.g c.loop-g-test.true).has.cells
-
 pub gate_bit-b-requires : goal.gate_bit-b-requires
 gate_bit-b-requires c = working-ready c.requires c.loop-g.invariant c.loop-g-test.true
     (λ q. c.if-form_at-ne-DFF.true (c.form_at.ensures ∙ q))
@@ -22,9 +19,6 @@ loop-g-preserved c =
       | then-form_at-ne-DFF w ↦ rw (w.bits-is, w.put_bit.ensures) (working-comb c.requires inv c.loop-g-test.true (λ q. w.if-form_at-ne-DFF.true (c.form_at.ensures ∙ q)) w.gate_bit-b.ensures (omega arith))
       | else-form_at-ne-DFF w ↦ rw w.bits-is (working-flop c.requires inv c.loop-g-test.true (sym c.form_at.ensures ∙ w.if-form_at-ne-DFF.false))
     ]
-
-pub shape_of-bits : goal.shape_of-bits
-shape_of-bits c = c.loop-g.invariant.size ∙ sym c.requires.size
 
 pub returns : goal.returns
 returns c = working-done c.requires c.loop-g-test.false c.loop-g.invariant

@@ -7,7 +7,7 @@
 --   Stepped          what a step of the flip-flops leaves
 --   Clocked          what a clock for each row leaves
 --   RunRefused       what a refusal leaves
-use Rattle.std.specs.Prelude.{◌≡◌, Bool, true, false, List, [], ℕ, ◌+◌, ◌-◌, ◌*◌, ◌≤◌, ◌<◌, eqb, length, get_or}
+use Rattle.std.specs.Prelude.{◌≡◌, Bool, true, false, List, [], ℕ, ◌+◌, ◌-◌, ◌*◌, ◌≤◌, ◌<◌, eqb, length, get_or, Result, Err}
 use Rattle.std.proofs.Math.Option.{Option, none, some}
 use Rattle.lists.specs.Lists.{Bytes, zeros}
 use Rattle.refusals.specs.declared.Refusal.{Refusal}
@@ -23,8 +23,6 @@ use Rattle.network.specs.Between.Cells.{NetCells}
 use Rattle.gate_bits.specs.Between.Slots.{slot_count, slot_or, Shows}
 use Rattle.gate_bits.specs.Between.Tables.{kind_table, kind_pad}
 use Rattle.run_rows.specs.Rows.{row_of, rows_text}
-use Rattle.run_rows.specs.declared.RunAnswer.{RunAnswer}
-use Rattle.run_rows.specs.declared.RunAnswer.TheVariants.{Refused}
 
 -- ---- what is laid out before the clocks
 
@@ -166,8 +164,8 @@ Clocked net none held out r = r ≡ false
 Clocked net (some rows) held out r = (r ≡ true) × (out ≡ rows_text (run_from net held rows))
 
 -- a refusal, and zeros in the n bytes of the output rows
-pub record RunRefused (k : Refusal) (n : ℕ) (a : RunAnswer) (out : Bytes) : Type 0 where
+pub record RunRefused (k : Refusal) (n : ℕ) (a : Result ℕ Refusal) (out : Bytes) : Type 0 where
   -- the refusal is answered
-  pub answer : a ≡ Refused k
+  pub answer : a ≡ Err k
   -- "A refusal zeroes the output rows"
   pub bytes : out ≡ zeros n

@@ -12,14 +12,6 @@ bounds-counts-g c = ((let h : (c.var-g.result < length c.args.counts.now)
     × (get_or c.args.counts.now c.var-g.result 0 + 1 ≤ max_pins) = let o = occ-own c.args.s ((sym c.is_var.ensures ∙ c.if-is_var.true)) c.var-g.ensures in
     (c.requires.index c.var-g.result (omega (arith, o)), c.requires.room c.var-g.result) in h)).0
 
-pub overflow_add-counts : goal.overflow_add-counts
-overflow_add-counts c = omega (
-  arith,
-  (let h : (c.var-g.result < length c.args.counts.now)
-      × (get_or c.args.counts.now c.var-g.result 0 + 1 ≤ max_pins) = let o = occ-own c.args.s ((sym c.is_var.ensures ∙ c.if-is_var.true)) c.var-g.ensures in
-      (c.requires.index c.var-g.result (omega (arith, o)), c.requires.room c.var-g.result) in h),
-)
-
 pub bounds-counts-g-then-is_var : goal.bounds-counts-g-then-is_var
 bounds-counts-g-then-is_var c = ((let h : (c.var-g.result < length c.args.counts.now)
     × (get_or c.args.counts.now c.var-g.result 0 + 1 ≤ max_pins) = let o = occ-own c.args.s ((sym c.is_var.ensures ∙ c.if-is_var.true)) c.var-g.ensures in

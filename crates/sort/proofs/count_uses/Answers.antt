@@ -1,8 +1,4 @@
 -- `count_uses` counts one gate after the other. Assumes nothing.
-use mathlib.Core.Path.{sym, ap, ◌∙◌}
-use Prim.Native.Nat.{ℕ}
-use lib.ListN.{length, length-replicate}
-use Rattle.network.specs.Sizes.{max_gates}
 use Rattle.sort.proofs.Uses.{counted_start, counted-asks, counted_next, counted-done}
 use Rattle.sort.proofs.count_uses.Goals as goal
 
@@ -15,9 +11,6 @@ count_gate-requires c = let l = c.loop-g-test.true in
 
 pub loop-g-preserved : goal.loop-g-preserved
 loop-g-preserved c = counted_next c.requires.cells c.loop-g-test.true c.loop-g.invariant c.count_gate.auto.counts c.count_gate.ensures.raised c.count_gate.ensures.rises
-
-pub shape_of-counts : goal.shape_of-counts
-shape_of-counts c = c.loop-g.invariant.long ∙ sym (ap length c.requires.counts_value ∙ length-replicate {A = ℕ} max_gates 0)
 
 pub returns : goal.returns
 returns c = let r = counted-done c.loop-g-test.false c.loop-g.invariant in record { counted = r.0; within = r.1 }

@@ -2,7 +2,7 @@
 use mathlib.Core.Path.{sym, ◌∙◌}
 use Prim.Native.Nat.{◌<◌}
 use native.Mathlib.Omega.{arith}
-use lib.ListN.{get_or, length-set}
+use lib.ListN.{get_or}
 use Rattle.network.specs.Sizes.{max_gates}
 use Rattle.sort.proofs.Naming.{rises-none, rises-lowered}
 use Rattle.sort.proofs.Stack.{lowered_none, lowered-stay, lowered-push, from_top-push}
@@ -10,35 +10,6 @@ use Rattle.sort.proofs.lower_use.Goals as goal
 
 pub returns-then-not-is_var : goal.returns-then-not-is_var
 returns-then-not-is_var c = record { lowered = lowered_none _ (sym c.is_var.ensures ∙ c.if-not-is_var.true); rises = rises-none }
-
-pub bounds-counts-d : goal.bounds-counts-d
-bounds-counts-d c = omega (
-  arith,
-  (let fits : (c.var-d.result < max_gates)
-      × (0 < get_or c.args.counts.now c.var-d.result 0)
-      × (c.args.top < max_gates) = (rw c.var-d.ensures (c.requires.lowers.below ((sym c.is_var.ensures ∙ c.if-not-is_var.false))), rw c.var-d.ensures (c.requires.lowers.used ((sym c.is_var.ensures ∙ c.if-not-is_var.false))), c.requires.lowers.room ((sym c.is_var.ensures ∙ c.if-not-is_var.false))) in fits),
-)
-
-pub overflow_sub-counts : goal.overflow_sub-counts
-overflow_sub-counts c = ((let fits : (c.var-d.result < max_gates)
-    × (0 < get_or c.args.counts.now c.var-d.result 0)
-    × (c.args.top < max_gates) = (rw c.var-d.ensures (c.requires.lowers.below ((sym c.is_var.ensures ∙ c.if-not-is_var.false))), rw c.var-d.ensures (c.requires.lowers.used ((sym c.is_var.ensures ∙ c.if-not-is_var.false))), c.requires.lowers.room ((sym c.is_var.ensures ∙ c.if-not-is_var.false))) in fits)).1
-
-pub bounds-counts-d-2 : goal.bounds-counts-d-2
-bounds-counts-d-2 c = omega (
-  arith,
-  (let fits : (c.var-d.result < max_gates)
-      × (0 < get_or c.args.counts.now c.var-d.result 0)
-      × (c.args.top < max_gates) = (rw c.var-d.ensures (c.requires.lowers.below ((sym c.is_var.ensures ∙ c.if-not-is_var.false))), rw c.var-d.ensures (c.requires.lowers.used ((sym c.is_var.ensures ∙ c.if-not-is_var.false))), c.requires.lowers.room ((sym c.is_var.ensures ∙ c.if-not-is_var.false))) in fits),
-)
-
-pub bounds-counts-d-3 : goal.bounds-counts-d-3
-bounds-counts-d-3 c = simp length-set (omega (
-  arith,
-  (let fits : (c.var-d.result < max_gates)
-      × (0 < get_or c.args.counts.now c.var-d.result 0)
-      × (c.args.top < max_gates) = (rw c.var-d.ensures (c.requires.lowers.below ((sym c.is_var.ensures ∙ c.if-not-is_var.false))), rw c.var-d.ensures (c.requires.lowers.used ((sym c.is_var.ensures ∙ c.if-not-is_var.false))), c.requires.lowers.room ((sym c.is_var.ensures ∙ c.if-not-is_var.false))) in fits),
-))
 
 pub returns-then-counts-d-ne0 : goal.returns-then-counts-d-ne0
 returns-then-counts-d-ne0 c = record {
@@ -50,35 +21,6 @@ returns-then-counts-d-ne0 c = record {
   )) c.if-counts-d-ne0.true;
   rises = rises-lowered _ _;
 }
-
-pub narrow-requires : goal.narrow-requires
-narrow-requires c = ((let fits : (c.var-d.result < max_gates)
-    × (0 < get_or c.args.counts.now c.var-d.result 0)
-    × (c.args.top < max_gates) = (rw c.var-d.ensures (c.requires.lowers.below ((sym c.is_var.ensures ∙ c.if-not-is_var.false))), rw c.var-d.ensures (c.requires.lowers.used ((sym c.is_var.ensures ∙ c.if-not-is_var.false))), c.requires.lowers.room ((sym c.is_var.ensures ∙ c.if-not-is_var.false))) in fits)).0
-
-pub offset_bounds-stack-top : goal.offset_bounds-stack-top
-offset_bounds-stack-top c = omega (
-  arith,
-  (let fits : (c.var-d.result < max_gates)
-      × (0 < get_or c.args.counts.now c.var-d.result 0)
-      × (c.args.top < max_gates) = (rw c.var-d.ensures (c.requires.lowers.below ((sym c.is_var.ensures ∙ c.if-not-is_var.false))), rw c.var-d.ensures (c.requires.lowers.used ((sym c.is_var.ensures ∙ c.if-not-is_var.false))), c.requires.lowers.room ((sym c.is_var.ensures ∙ c.if-not-is_var.false))) in fits),
-)
-
-pub bounds-stack-top : goal.bounds-stack-top
-bounds-stack-top c = omega (
-  arith,
-  (let fits : (c.var-d.result < max_gates)
-      × (0 < get_or c.args.counts.now c.var-d.result 0)
-      × (c.args.top < max_gates) = (rw c.var-d.ensures (c.requires.lowers.below ((sym c.is_var.ensures ∙ c.if-not-is_var.false))), rw c.var-d.ensures (c.requires.lowers.used ((sym c.is_var.ensures ∙ c.if-not-is_var.false))), c.requires.lowers.room ((sym c.is_var.ensures ∙ c.if-not-is_var.false))) in fits),
-)
-
-pub overflow_add-result : goal.overflow_add-result
-overflow_add-result c = omega (
-  arith,
-  (let fits : (c.var-d.result < max_gates)
-      × (0 < get_or c.args.counts.now c.var-d.result 0)
-      × (c.args.top < max_gates) = (rw c.var-d.ensures (c.requires.lowers.below ((sym c.is_var.ensures ∙ c.if-not-is_var.false))), rw c.var-d.ensures (c.requires.lowers.used ((sym c.is_var.ensures ∙ c.if-not-is_var.false))), c.requires.lowers.room ((sym c.is_var.ensures ∙ c.if-not-is_var.false))) in fits),
-)
 
 pub returns : goal.returns
 returns c = record {

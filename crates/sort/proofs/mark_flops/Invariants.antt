@@ -1,6 +1,6 @@
 use mathlib.Core.List.{List}
 use mathlib.Core.Path.{◌≡◌}
-use Prim.Native.Nat.{ℕ, ◌-◌, ◌≤◌}
+use Prim.Native.Nat.{ℕ, ◌≤◌}
 use lib.ListN.{length}
 use Rattle.network.specs.Sizes.{max_gates}
 use Rattle.sort.specs.Between.Steps.{form_comb, FlopsPlaced}
@@ -15,6 +15,3 @@ pub record Marking (gates : List ℕ) (n : ℕ) (o₀ m o : List ℕ) (k g : ℕ
 
 abbrev pub invariant-loop-g : goal.invariant-loop-g
 invariant-loop-g l = Marking l.gates l.n l.initial.order l.marks l.order l.k l.g
-
-abbrev pub decreases-loop-g : goal.decreases-loop-g
-decreases-loop-g l = l.n - l.g

@@ -1,10 +1,5 @@
-use Prim.Native.Nat.{◌-◌}
-use lib.ListN.{length}
 use Rattle.sort.proofs.Moving.{Moving}
 use Rattle.sort.proofs.move_gates.Given as goal
 
 abbrev pub invariant-loop-i : goal.invariant-loop-i
 invariant-loop-i l = Moving l.gates l.pins l.table l.order l.initial.new_gates l.initial.new_pins l.new_gates l.new_pins l.at l.i
-
-abbrev pub decreases-loop-i : goal.decreases-loop-i
-decreases-loop-i l = length l.order - l.i

@@ -3,14 +3,11 @@ use mathlib.Core.Path.{◌∙◌}
 use Rattle.sort.proofs.Moving.{renaming-start, renaming-next, renaming-done}
 use Rattle.sort.proofs.move_outputs.Goals as goal
 
-pub loop-i-init : goal.loop-i-init
-loop-i-init c = renaming-start
+pub loop-output-init : goal.loop-output-init
+loop-output-init c = renaming-start
 
-pub loop-i-preserved : goal.loop-i-preserved
-loop-i-preserved c = renaming-next c.requires c.loop-i-test.true (c.raw.ensures ∙ c.remap_order.ensures) c.loop-i.invariant
-
-pub shape_of-outputs : goal.shape_of-outputs
-shape_of-outputs c = c.loop-i.invariant.same
+pub loop-output-preserved : goal.loop-output-preserved
+loop-output-preserved c = renaming-next c.loop-output-test.true (c.raw.ensures ∙ c.remap_order.ensures) c.loop-output.invariant
 
 pub returns : goal.returns
-returns c = renaming-done c.requires c.loop-i-test.false c.loop-i.invariant
+returns c = renaming-done c.args.outs c.args.outputs.now c.loop-output-test.false c.loop-output.invariant

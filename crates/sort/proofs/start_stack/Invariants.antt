@@ -1,6 +1,6 @@
 use mathlib.Core.List.{List}
 use mathlib.Core.Path.{◌≡◌}
-use Prim.Native.Nat.{ℕ, ◌-◌, ◌≤◌}
+use Prim.Native.Nat.{ℕ, ◌≤◌}
 use lib.ListN.{length}
 use Rattle.network.specs.Sizes.{max_gates}
 use Rattle.sort.specs.Between.Steps.{Started}
@@ -14,6 +14,3 @@ pub record Pushing (m c : List ℕ) (n : ℕ) (st : List ℕ) (top g : ℕ) : Ty
 
 abbrev pub invariant-loop-g : goal.invariant-loop-g
 invariant-loop-g l = Pushing l.marks l.counts l.n l.stack l.top l.g
-
-abbrev pub decreases-loop-g : goal.decreases-loop-g
-decreases-loop-g l = l.n - l.g

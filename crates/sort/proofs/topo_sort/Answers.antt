@@ -1,16 +1,11 @@
 -- `topo_sort` finds the order and renumbers by it. Assumes nothing.
-use mathlib.Core.Path.{sym}
 use Prim.Native.Nat.{ℕ, ◌≤◌}
 use native.Mathlib.Omega.{arith}
-use lib.Seq.{length-take-le, length_front}
 use lib.ListN.{length, replicate, length-replicate}
 use Rattle.network.specs.Sizes.{max_gates}
 use Rattle.sort.proofs.Ending.{found-asks, found_some, found_none, ends-loop, ends-sorted, order-numbers, order-movable}
 use Rattle.sort.proofs.Reading.{sortable-cells}
 use Rattle.sort.proofs.topo_sort.Goals as goal
-
-pub slice_bounds-find_order-end : goal.slice_bounds-find_order-end
-slice_bounds-find_order-end c = sym (length-take-le _ _ ((let room : c.args.counts.gates ≤ length {A = ℕ} (replicate max_gates 0) = omega (arith, c.requires.few, length-replicate {A = ℕ} max_gates 0) in room)))
 
 pub find_order-requires : goal.find_order-requires
 find_order-requires c = let r = found-asks _ _ (replicate max_gates 0) _ ((let room : c.args.counts.gates ≤ length {A = ℕ} (replicate max_gates 0) = omega (arith, c.requires.few, length-replicate {A = ℕ} max_gates 0) in room)) (sortable-cells _ _ _ _ c.requires) in record { cells = r.0; gate_width_in_bounds = r.1 }
@@ -18,12 +13,6 @@ find_order-requires c = let r = found-asks _ _ (replicate max_gates 0) _ ((let r
 pub returns-then-not-find_order : goal.returns-then-not-find_order
 returns-then-not-find_order c = let o = found_none _ _ (replicate max_gates 0) _ ((let room : c.args.counts.gates ≤ length {A = ℕ} (replicate max_gates 0) = omega (arith, c.requires.few, length-replicate {A = ℕ} max_gates 0) in room)) c.find_order.result _ (c.if-not-find_order.true) c.find_order.ensures in
     ends-loop _ _ _ _ _ _ o c.requires
-
-pub slice_bounds-order-end-2 : goal.slice_bounds-order-end-2
-slice_bounds-order-end-2 c = omega (arith, (let room : c.args.counts.gates ≤ length {A = ℕ} (replicate max_gates 0) = omega (arith, c.requires.few, length-replicate {A = ℕ} max_gates 0) in room), length_front (replicate max_gates 0) c.find_order.new.order c.args.counts.gates c.find_order.auto.order)
-
-pub slice_bounds-renumber-end : goal.slice_bounds-renumber-end
-slice_bounds-renumber-end c = sym (length-take-le _ _ ((omega (arith, (let room : c.args.counts.gates ≤ length {A = ℕ} (replicate max_gates 0) = omega (arith, c.requires.few, length-replicate {A = ℕ} max_gates 0) in room), length_front (replicate max_gates 0) c.find_order.new.order c.args.counts.gates c.find_order.auto.order))))
 
 pub renumber-used-requires : goal.renumber-used-requires
 renumber-used-requires c = let o = found_some _ _ (replicate max_gates 0) _ ((let room : c.args.counts.gates ≤ length {A = ℕ} (replicate max_gates 0) = omega (arith, c.requires.few, length-replicate {A = ℕ} max_gates 0) in room)) c.find_order.result _ c.find_order.auto.order (c.if-not-find_order.false) c.find_order.ensures in

@@ -25,13 +25,6 @@ bounds-stack-top c = omega (
   c.requires.ready.long,
 )
 
-pub overflow_cast-v : goal.overflow_cast-v
-overflow_cast-v c = omega (
-  arith,
-  (let known : (c.args.place.top ≤ length c.args.order.now) × (top_gate c.args.stack.now c.args.place.top < length c.args.order.now)
-      × (length c.args.order.now ≤ max_gates) = (top-few c.requires.cells.valid c.requires.cells.few c.requires.top_nonzero c.requires.ready, v_below c.requires.cells.valid c.requires.cells.few c.requires.top_nonzero c.requires.ready, c.requires.cells.few) in known),
-)
-
 pub bounds-marks-v : goal.bounds-marks-v
 bounds-marks-v c = omega (
   arith,
