@@ -172,7 +172,7 @@ fn line_stop(text: &[u8], stop: usize) -> Option<usize>
     match &text[stop..] {
         [] => Some(stop),
         [b'\n', ..] => Some(stop + 1),
-        [b'\r', b'\n', ..] => Some(stop + 2),
+        [b'\r', rest @ ..] if rest.starts_with(b"\n") => Some(stop + 2),
         _ => None,
     }
 }
