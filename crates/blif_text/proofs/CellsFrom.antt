@@ -17,7 +17,7 @@ use Rattle.blif_text.specs.Between.Places.{token_cell, places_cell, row_cells, r
 use Rattle.blif_text.specs.Between.Scan.{ends_word, other_than, NoneTo, LineAfter, StopTo, at-end, at-lf, cells_from}
 use Rattle.blif_text.proofs.Loops.{none-as}
 use Rattle.blif_text.proofs.Parts.{first_of, rest_of}
-use Rattle.blif_text.proofs.ScanBytes.{word_blank, not-lf, space-blank, stop_le}
+use Rattle.blif_text.proofs.ScanBytes.{word_blank, not-lf, stop_le}
 use Rattle.blif_text.proofs.PlaceLines.{line_from, lines_behind, lines_end, lines-cr, line-byte, behind-byte, stops, stop-or, behind-none, line_word}
 use Rattle.blif_text.proofs.LineCells.{line_cells, lines-cells, cells-none, cells-blank, cells-comment, WordAt, tokens-word, cells-word, cells-last, goes_last, cells-goes, still, tokens_none}
 
@@ -85,8 +85,8 @@ module _ (text : Bytes) (f : Bool) (c : ℕ) (one : (k : ℕ) → k < length tex
   from-run {i} {r} s =
       from_bytes (r - i) i r (omega (arith, s.low)) s.high (λ k a b. sym (eqb-true c (byte_at text k) (not-false (eqb c (byte_at text k)) (s.none k a b))))
 
-pub from-spaces : (text : Bytes) (f : Bool) {i r : ℕ} → NoneTo (other_than 32) text i r → cells_from text i f ≡ cells_from text r f
-from-spaces text f s = from-run text f 32 (λ k h e. from-blank text f k h (ap is_blank e ∙ space-blank) (rw e)) s
+pub from-blanks : (text : Bytes) (f : Bool) (c : ℕ) → is_blank c ≡ true → eqb 10 c ≡ false → {i r : ℕ} → NoneTo (other_than c) text i r → cells_from text i f ≡ cells_from text r f
+from-blanks text f c b n s = from-run text f c (λ k h e. from-blank text f k h (ap is_blank e ∙ b) (ap (eqb 10) e ∙ n)) s
 
 pub from-lfs : (text : Bytes) {i r : ℕ} → NoneTo (other_than 10) text i r → cells_from text i true ≡ cells_from text r true
 from-lfs text s = from-run text true 10 (λ k h e. from-stop text true k (k + 1) (at-lf h e refl)) s

@@ -33,10 +33,6 @@ cr-blank : is_blank 13 ≡ true
 unfolding is_blank
 cr-blank = refl
 
-pub space-blank : is_blank 32 ≡ true
-unfolding is_blank
-space-blank = refl
-
 pub backslash-word : is_blank 92 ≡ false
 unfolding is_blank
 backslash-word = refl

@@ -1,22 +1,25 @@
 -- One step of the scan after the other, from the first place to the text's end. Assumes nothing.
-use mathlib.Core.Path.{◌≡◌, refl, sym, ap, ap₂, ◌∙◌}
-use mathlib.Core.Bool.{Bool, true, false, true≢false}
+use mathlib.Core.Path.{◌≡◌, refl, sym, ap, ap₂, ◌∙◌, subst}
+use mathlib.Core.Bool.{Bool, true, false, true≢false, ◌||◌}
 use mathlib.Core.List.{List, [], ◌∷◌}
 use Prim.Native.Nat.{ℕ, ◌+◌, ◌-◌, ◌≤◌, ◌<◌}
 use native.Mathlib.Numerals.{add-one}
 use native.Mathlib.Omega.{arith}
+use lib.Dec.{eqb}
 use lib.ListN.{length, get_or, take, set, length-set}
-use borrow.Author.Tests.{ne_eqb}
+use borrow.Author.Tests.{ne_eqb, eqb-true, eqb-false}
 use Rattle.lists.specs.Lists.{overwrite}
 use Rattle.lists.specs.Between.Lists.{overwrite_at}
 use Rattle.lists.proofs.Over.{length-overwrite, take-overwrite}
 use Rattle.lists.proofs.OverAt.{overwrite_at-nil, overwrite-first}
-use Rattle.lists.proofs.Tests.{by_order}
+use Rattle.lists.proofs.Tests.{by_order, by-test, or-false}
+use Rattle.std.proofs.Math.Bool.{or-true}
+use Rattle.blif_text.specs.Lines.{is_blank}
 use Rattle.blif_text.specs.Between.Places.{token_cell, token_cells, TokensMarked}
 use Rattle.blif_text.specs.Between.Scan.{ends_word, other_than, NoneTo, FirstTo, LineAfter, StopTo, at-lf, cells_from, ScanAt, Scanned, WordPut}
 use Rattle.blif_text.proofs.Loops.{none-start, none-next, none-join}
 use Rattle.blif_text.proofs.ScanBytes.{blank_of, stop_le, stop-high}
-use Rattle.blif_text.proofs.CellsFrom.{line-stops, from_end, from-stop, from-blank, from-spaces, from-lfs, from-comment, comment-moves, from-word, from-alone, from_goes}
+use Rattle.blif_text.proofs.CellsFrom.{line-stops, from_end, from-stop, from-blank, from-blanks, from-lfs, from-comment, comment-moves, from-word, from-alone, from_goes}
 use Rattle.blif_text.proofs.TokenCells.{tokens-marked}
 
 -- ---- steps
@@ -51,11 +54,30 @@ module _ {text cells : List ℕ} {i count : ℕ} (c : ScanAt text cells i count)
   pub scan-comment : {next : ℕ} {fresh : Bool} → get_or text i 0 ≡ 35 → LineAfter text i next → Scanned text cells i count fresh cells next count true
   scan-comment {fresh = fresh} e a = scan-on (further (comment-moves h e a) (stop-high text a.end _ a.to.passed.high (line-stops a))) (from-comment text fresh i h e a)
 
-  -- a blank that is no LF, and spaces
-  pub scan-blank : {next : ℕ} {fresh : Bool} → ends_word (get_or text i 0) ≡ true → (get_or text i 0 ≡ 35 → ⊥) → (get_or text i 0 ≡ 10 → ⊥) → NoneTo (other_than 32) text (i + 1) next → Scanned text cells i count fresh cells next count fresh
-  scan-blank {fresh = fresh} e f g s =
-      scan-on (further (omega (arith, s.low)) s.high)
-      (from-blank text fresh i h (blank_of (get_or text i 0) e (ne_eqb 35 (get_or text i 0) (λ q. f (sym q)))) (ne_eqb 10 (get_or text i 0) (λ q. g (sym q))) ∙ from-spaces text fresh s)
+  -- what ends a word is a blank where it is no `#`
+  a_blank : ends_word (get_or text i 0) ≡ true → (get_or text i 0 ≡ 35 → ⊥) → is_blank (get_or text i 0) ≡ true
+  a_blank e f = blank_of (get_or text i 0) e (ne_eqb 35 (get_or text i 0) (λ q. f (sym q)))
+
+  no_lf : (get_or text i 0 ≡ 10 → ⊥) → eqb 10 (get_or text i 0) ≡ false
+  no_lf g = ne_eqb 10 (get_or text i 0) (λ q. g (sym q))
+
+  -- a blank that is no LF, and a run of one such blank
+  pub scan-blank : (c : ℕ) {next : ℕ} {fresh : Bool} → ends_word (get_or text i 0) ≡ true → (get_or text i 0 ≡ 35 → ⊥) → (get_or text i 0 ≡ 10 → ⊥) → is_blank c ≡ true → eqb 10 c ≡ false
+      → NoneTo (other_than c) text (i + 1) next → Scanned text cells i count fresh cells next count fresh
+  scan-blank c {fresh = fresh} e f g b n s =
+      scan-on (further (omega (arith, s.low)) s.high) (from-blank text fresh i h (a_blank e f) (no_lf g) ∙ from-blanks text fresh c b n s)
+
+  -- a run of one blank: LFs end the statement, others leave it as it is
+  pub scan-blanks : {next : ℕ} {fresh : Bool} → ends_word (get_or text i 0) ≡ true → (get_or text i 0 ≡ 35 → ⊥) → NoneTo (other_than (get_or text i 0)) text (i + 1) next
+      → Scanned text cells i count fresh cells next count (fresh || eqb (get_or text i 0) 10)
+  scan-blanks {next} {fresh} e f s =
+      by-test (eqb (get_or text i 0) 10)
+      (λ q.
+      let p : get_or text i 0 ≡ 10 = eqb-true (get_or text i 0) 10 q in
+      rw (q, or-true fresh) (scan-lf p (subst (λ (c : ℕ). NoneTo (other_than c) text (i + 1) next) p s)))
+      (λ q.
+      let g : get_or text i 0 ≡ 10 → ⊥ = eqb-false (get_or text i 0) 10 q in
+      rw (q, or-false fresh) (scan-blank (get_or text i 0) e f g (a_blank e f) (no_lf g) s))
 
   -- ---- a word
 

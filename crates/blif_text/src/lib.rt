@@ -86,7 +86,7 @@ pub fn is_blank(c: u8) -> bool
 fn ends_word(c: u8) -> bool
     ensures { result ≡ ends_word c }
 {
-    c <= b'#' && (c == b' ' || c == b'\n' || c == b'#' || is_blank(c))
+    c == b'#' || is_blank(c)
 }
 
 // The place of the first byte from at on that ends a word, or the text's length.
@@ -172,6 +172,7 @@ fn line_stop(text: &[u8], stop: usize) -> Option<usize>
     match &text[stop..] {
         [] => Some(stop),
         [b'\n', ..] => Some(stop + 1),
+        // With the pattern [b'\r', b'\n', ..] two bytes are asked for before one is looked at, which takes longer.
         [b'\r', rest @ ..] if rest.starts_with(b"\n") => Some(stop + 2),
         _ => None,
     }
@@ -243,7 +244,7 @@ fn mark_word(text: &[u8], cells: &mut [u32], w: Marks) -> Marks
     }
 }
 
-// One step of the scan: a word, a comment with its line's end, line ends, or another blank with the spaces behind it.
+// One step of the scan: a word, a comment with its line's end, or a run of one blank, which ends the statement where the blank is LF.
 fn mark_step(text: &[u8], cells: &mut [u32], w: Marks) -> Marks
     requires { ScanAt text.now cells.old w.at w.count × (w.at < length text.now) }
     ensures scanned { Scanned text.now cells.old w.at w.count w.fresh
@@ -261,16 +262,13 @@ fn mark_step(text: &[u8], cells: &mut [u32], w: Marks) -> Marks
             fresh: true,
             ..w
         }
-    } else if c == b'\n' {
-        let next = run_end(text, at + 1, b'\n');
+    } else {
+        let next = run_end(text, at + 1, c);
         Marks {
             at: next,
-            fresh: true,
+            fresh: w.fresh | (c == b'\n'),
             ..w
         }
-    } else {
-        let next = run_end(text, at + 1, b' ');
-        Marks { at: next, ..w }
     }
 }
 
